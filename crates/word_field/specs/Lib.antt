@@ -1,0 +1,5 @@
+pub mod Field
+pub mod Residues
+pub mod Primes
+pub mod ResidueLaws
+pub mod FieldLaws
