@@ -1,0 +1,14 @@
+pub mod Monomial
+pub mod MonomialOrder
+pub mod Orders
+pub mod OrderLaws
+pub mod MonomialLaws
+pub mod Cofactors
+pub mod Lists
+pub mod Comparing
+pub mod Boxes
+pub mod Rank
+pub mod Ranges
+pub mod Ties
+pub mod TieLaws
+pub mod Faults

@@ -1,0 +1,48 @@
+//! Laws of monomials and of their orders. No call does anything: each contract is the law.
+ghost use Rattle.std.specs.Prelude.{◌≡◌, ◌≢◌, ◌<◌, ◌⊎◌, List, ℕ, []};
+ghost use Rattle.std.specs.declared.cmp.Ordering.TheVariants.{Less};
+ghost use Rattle.monomial_order.specs.Monomial.{Divides, IsMonomial, IsTrimmed, least_common_multiple, product};
+ghost use Rattle.monomial_order.specs.MonomialOrder.{HasSmallDegrees, IsMonomialOrder};
+ghost use Rattle.monomial_order.specs.Boxes.{rank};
+
+use crate::Order;
+
+/// Products of monomials.
+pub fn product_laws()
+    ensures commutative { (m n : List ℕ) → product m n ≡ product n m }
+    ensures associative { (k m n : List ℕ) → product (product k m) n ≡ product k (product m n) }
+    ensures unit { (m : List ℕ) → product m [] ≡ m }
+    ensures trimmed { (m n : List ℕ) → IsTrimmed m → IsTrimmed n → IsTrimmed (product m n) }
+    ensures cancels { (k m n : List ℕ) → IsTrimmed m → IsTrimmed n → product k m ≡ product k n → m ≡ n }
+{}
+
+/// Divisors and cofactors of monomials.
+pub fn division_laws()
+    ensures reflexive { (m : List ℕ) → Divides m m }
+    ensures transitive { (k m n : List ℕ) → Divides k m → Divides m n → Divides k n }
+    ensures antisymmetric { (m n : List ℕ) → IsTrimmed m → IsTrimmed n → Divides m n → Divides n m → m ≡ n }
+    ensures decided { (m n : List ℕ) → Divides m n ⊎ (Divides m n → ⊥) }
+    ensures factor { (m k : List ℕ) → Divides m (product m k) }
+    ensures cofactor { (m n : List ℕ) → IsTrimmed m → IsTrimmed n → Divides m n → (k : List ℕ) × IsTrimmed k × (product m k ≡ n) }
+{}
+
+/// Least common multiples of monomials.
+pub fn least_common_multiple_laws()
+    ensures left { (m n : List ℕ) → Divides m (least_common_multiple m n) }
+    ensures right { (m n : List ℕ) → Divides n (least_common_multiple m n) }
+    ensures least { (m n k : List ℕ) → Divides m k → Divides n k → Divides (least_common_multiple m n) k }
+    ensures trimmed { (m n : List ℕ) → IsTrimmed m → IsTrimmed n → IsTrimmed (least_common_multiple m n) }
+{}
+
+/// An order of monomials.
+pub fn order_laws<O: Order>(order: &O)
+    ensures laws { IsMonomialOrder (O.order order.now) }
+    ensures small { HasSmallDegrees (O.order order.now) }
+    ensures one_below { (m : List ℕ) → IsMonomial (O.order order.now).places m → m ≢ [] → (O.order order.now).compare [] m ≡ Less }
+    ensures none_below_one { (m : List ℕ) → IsMonomial (O.order order.now).places m → (O.order order.now).compare m [] ≢ Less }
+{}
+
+/// The rank of a monomial falls with the monomial, so nothing falls for ever.
+pub fn rank_falls<O: Order>(order: &O)
+    ensures { (k m : List ℕ) → IsMonomial (O.order order.now).places k → (O.order order.now).compare k m ≡ Less → rank (O.order order.now) k < rank (O.order order.now) m }
+{}
