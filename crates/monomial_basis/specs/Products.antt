@@ -1,0 +1,29 @@
+-- Products of monomials, and the quotients that wait to be looked at.
+use Rattle.std.specs.Prelude.{◌≡◌, ◌≢◌, ℕ, ◌<◌, ◌≤◌, List, [], Contains, slice_get, Some, Vec}
+use Rattle.std.specs.declared.alloc.Global.{Global}
+use Rattle.monomial_order.specs.Monomial.{IsMonomial}
+use Rattle.monomial_order.specs.MonomialOrder.{MonomialOrder}
+use Rattle.poly_core.specs.Subalgebra.{IsGenerated}
+
+-- a monomial of positive degree
+pub record IsFactor (O : MonomialOrder) (g : List ℕ) : Type 0 where
+  pub monomial : IsMonomial O.places g
+  pub positive : 1 ≤ O.degree g
+
+abbrev pub AreFactors : MonomialOrder → List (List ℕ) → Type 0
+AreFactors O gs = (g : List ℕ) → Contains gs g → IsFactor O g
+
+-- k is in the list of the degree e
+abbrev pub Waits : List (Vec (List ℕ) Global) → ℕ → List ℕ → Type 0
+Waits lists e k = (list : Vec (List ℕ) Global) × (slice_get lists e ≡ Some list) × Contains list.items k
+
+-- k is a monomial of the degree e other than 1, and where it is a product of the factors, so is m
+pub record IsQuotient (O : MonomialOrder) (gs : List (List ℕ)) (m : List ℕ) (e : ℕ) (k : List ℕ) : Type 0 where
+  pub monomial : IsMonomial O.places k
+  pub degree : O.degree k ≡ e
+  pub not_one : k ≢ []
+  pub gives : IsGenerated gs k → IsGenerated gs m
+
+-- a product of the factors of degree less than d waits
+abbrev pub SomeWaits : MonomialOrder → List (List ℕ) → List (Vec (List ℕ) Global) → ℕ → Type 0
+SomeWaits O gs lists d = (e : ℕ) × (k : List ℕ) × (e < d) × Waits lists e k × IsGenerated gs k

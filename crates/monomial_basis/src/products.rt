@@ -1,0 +1,168 @@
+//! Whether a monomial is a product of others.
+ghost use Rattle.std.specs.Prelude.{◌≡◌, ◌≢◌, ℕ, ◌+◌, ◌<◌, ◌≤◌, ◌↔◌, ◌⊎◌, List, [], length, false, Contains, IsTrue, IfOk, OnOk};
+ghost use Rattle.monomial_order.specs.Monomial.{IsMonomial};
+ghost use Rattle.poly_core.specs.Subalgebra.{IsGenerated};
+ghost use Rattle.monomial_basis.specs.Products.{AreFactors, Waits, IsQuotient, SomeWaits};
+
+use monomial_order::{Memory, Monomial, Order};
+use std::alloc::Global;
+use std::mem;
+
+/// Whether the monomial is a product of the factors. Quotients wait by their degrees, each once.
+pub fn is_product<O: Order>(
+    alloc: Global,
+    o: &O,
+    factors: &[Monomial],
+    m: &Monomial,
+) -> Result<bool, Memory>
+    requires factors { AreFactors (O.order o.now) factors.now }
+    requires monomial { IsMonomial (O.order o.now).places m.now }
+    requires small { (O.order o.now).degree m.now ≤ 65535 }
+    ensures { IfOk result (λ b. IsTrue b ↔ IsGenerated factors.now m.now) }
+{
+    if m.places() == 0 {
+        return Ok(true);
+    }
+    let degree = o.degree(m) as usize;
+    let mut waiting = empty_lists(alloc, degree + 1)?;
+    add(&mut waiting, degree, m.copy(alloc)?)?;
+    for i in 0..degree {
+        if divide_waiting(alloc, o, factors, &mut waiting, degree - i)? {
+            return Ok(true);
+        }
+    }
+    Ok(false)
+}
+
+/// So many empty lists.
+fn empty_lists(alloc: Global, n: usize) -> Result<Vec<Vec<Monomial>>, Memory>
+    ensures long { IfOk result (λ lists. length lists.items ≡ n) }
+    ensures empty { IfOk result (λ lists. (e : ℕ) (k : List ℕ) → Waits lists.items e k → ⊥) }
+{
+    let mut lists = Vec::new(alloc);
+    for _ in 0..n {
+        lists.push(Vec::new(alloc))?;
+    }
+    Ok(lists)
+}
+
+/// Takes the monomials of the degree out of those that wait, and puts their quotients there; true where
+/// one of these is 1.
+fn divide_waiting<O: Order>(
+    alloc: Global,
+    o: &O,
+    factors: &[Monomial],
+    waiting: &mut Vec<Vec<Monomial>>,
+    degree: usize,
+) -> Result<bool, Memory>
+    requires factors { AreFactors (O.order o.now) factors.now }
+    requires room { degree < length waiting.old.items }
+    requires positive { 1 ≤ degree }
+    requires small { degree ≤ 65535 }
+    requires monomials { (m : List ℕ) → Waits waiting.old.items degree m → IsMonomial (O.order o.now).places m × ((O.order o.now).degree m ≡ degree) }
+    ensures yes { IfOk result (λ b. IsTrue b → (m : List ℕ) × Waits waiting.old.items degree m × IsGenerated factors.now m) }
+    ensures no { IfOk result (λ b. b ≡ false → SomeWaits (O.order o.now) factors.now waiting.old.items (degree + 1)
+        → SomeWaits (O.order o.now) factors.now waiting.new.items degree) }
+    ensures long { OnOk result (length waiting.new.items ≡ length waiting.old.items) }
+    ensures others { OnOk result ((e : ℕ) (k : List ℕ) → Waits waiting.new.items e k → Waits waiting.old.items e k
+        ⊎ ((m : List ℕ) × Waits waiting.old.items degree m × IsQuotient (O.order o.now) factors.now m e k)) }
+{
+    let monomials = take(alloc, waiting, degree);
+    for m in &monomials {
+        if divide(alloc, o, factors, m, waiting)? {
+            return Ok(true);
+        }
+    }
+    Ok(false)
+}
+
+/// Takes the monomials of the degree out of those that wait, each once.
+fn take(alloc: Global, waiting: &mut Vec<Vec<Monomial>>, degree: usize) -> Vec<Monomial>
+    requires { degree < length waiting.old.items }
+    ensures taken { (k : List ℕ) → Contains result.items k → Waits waiting.old.items degree k }
+    ensures long { length waiting.new.items ≡ length waiting.old.items }
+    ensures others { (e : ℕ) (k : List ℕ) → Waits waiting.new.items e k → Waits waiting.old.items e k }
+    ensures parted { (e : ℕ) (k : List ℕ) → Waits waiting.old.items e k
+        → ((e ≢ degree) × Waits waiting.new.items e k) ⊎ ((e ≡ degree) × Contains result.items k) }
+{
+    let mut monomials = mem::replace(&mut waiting[degree], Vec::new(alloc));
+    drop_repeats(&mut monomials);
+    monomials
+}
+
+/// Puts the quotients of the monomial by the factors among those that wait; true where one of them is 1.
+fn divide<O: Order>(
+    alloc: Global,
+    o: &O,
+    factors: &[Monomial],
+    m: &Monomial,
+    waiting: &mut Vec<Vec<Monomial>>,
+) -> Result<bool, Memory>
+    requires factors { AreFactors (O.order o.now) factors.now }
+    requires monomial { IsMonomial (O.order o.now).places m.now }
+    requires positive { 1 ≤ (O.order o.now).degree m.now }
+    requires small { (O.order o.now).degree m.now ≤ 65535 }
+    requires room { (O.order o.now).degree m.now ≤ length waiting.old.items }
+    ensures yes { IfOk result (λ b. IsTrue b → IsGenerated factors.now m.now) }
+    ensures no { IfOk result (λ b. b ≡ false → IsGenerated factors.now m.now → SomeWaits (O.order o.now) factors.now waiting.new.items ((O.order o.now).degree m.now)) }
+    ensures long { OnOk result (length waiting.new.items ≡ length waiting.old.items) }
+    ensures keeps { OnOk result ((e : ℕ) (k : List ℕ) → Waits waiting.old.items e k → Waits waiting.new.items e k) }
+    ensures others { OnOk result ((e : ℕ) (k : List ℕ) → Waits waiting.new.items e k → Waits waiting.old.items e k
+        ⊎ IsQuotient (O.order o.now) factors.now m.now e k) }
+{
+    for factor in factors {
+        if let Some(quotient) = m.quotient(alloc, factor)? {
+            if quotient.places() == 0 {
+                return Ok(true);
+            }
+            let degree = o.degree(&quotient) as usize;
+            add(waiting, degree, quotient)?;
+        }
+    }
+    Ok(false)
+}
+
+/// Puts a monomial into the list of its degree.
+fn add(waiting: &mut Vec<Vec<Monomial>>, degree: usize, m: Monomial) -> Result<(), Memory>
+    requires { degree < length waiting.old.items }
+    ensures has { OnOk result (Waits waiting.new.items degree m) }
+    ensures long { length waiting.new.items ≡ length waiting.old.items }
+    ensures keeps { (e : ℕ) (k : List ℕ) → Waits waiting.old.items e k → Waits waiting.new.items e k }
+    ensures others { (e : ℕ) (k : List ℕ) → Waits waiting.new.items e k → Waits waiting.old.items e k ⊎ ((e ≡ degree) × (k ≡ m)) }
+{
+    put(&mut waiting[degree], m)
+}
+
+/// Puts a monomial at the end of a list.
+fn put(list: &mut Vec<Monomial>, m: Monomial) -> Result<(), Memory>
+    ensures has { OnOk result (Contains list.new.items m) }
+    ensures keeps { (k : List ℕ) → Contains list.old.items k → Contains list.new.items k }
+    ensures others { (k : List ℕ) → Contains list.new.items k → Contains list.old.items k ⊎ (k ≡ m) }
+{
+    make_room(list)?;
+    list.push(m)?;
+    Ok(())
+}
+
+/// Drops the repeats of a full list, and makes room for as many again as are left.
+fn make_room(list: &mut Vec<Monomial>) -> Result<(), Memory>
+    ensures keeps { (k : List ℕ) → Contains list.old.items k → Contains list.new.items k }
+    ensures others { (k : List ℕ) → Contains list.new.items k → Contains list.old.items k }
+{
+    if list.len() < list.capacity() {
+        return Ok(());
+    }
+    drop_repeats(list);
+    let room = list.len().max(4);
+    list.reserve(room)?;
+    Ok(())
+}
+
+/// Sorts a list and drops its repeats.
+fn drop_repeats(list: &mut Vec<Monomial>)
+    ensures keeps { (k : List ℕ) → Contains list.old.items k → Contains list.new.items k }
+    ensures others { (k : List ℕ) → Contains list.new.items k → Contains list.old.items k }
+{
+    list.sort_unstable_by(|a, b| a.as_slice().cmp(&b.as_slice()));
+    list.dedup();
+}

@@ -1,0 +1,8 @@
+use Rattle.poly_core.specs.SubalgebraLaws.{sub_plus, sub_times}
+use Rattle.poly_core.proofs.laws.subalgebra_laws.Goals as goal
+
+pub returns-clause-sums : goal.returns-clause-sums
+returns-clause-sums g c P a b H h k = sub_plus P H a b h k
+
+pub returns-clause-products : goal.returns-clause-products
+returns-clause-products g c P a b H ha h k = sub_times P H a b ha h k

@@ -1,0 +1,35 @@
+-- The first term of a falling list, and its rest.
+use Rattle.std.proofs.Common.{◌≡◌, ◌≢◌, ℕ, zero, suc, refl, sym, ◌∙◌, ap, subst, List, [], ◌∷◌, ◌++◌, cond, Bool, true, false}
+use Rattle.std.specs.declared.cmp.Ordering.{Ordering}
+use Rattle.std.specs.declared.cmp.Ordering.TheVariants.{Less, Equal, Greater}
+use Rattle.word_field.specs.Field.{FieldOps, IsField, IsValue}
+use Rattle.word_field.specs.FieldLaws.{zero-plus-zero, zero-plus}
+use Rattle.monomial_order.specs.declared.Term.{Term}
+use Rattle.monomial_order.specs.Monomial.{product, IsMonomial, IsTrimmed}
+use Rattle.monomial_order.specs.MonomialOrder.{MonomialOrder, IsMonomialOrder}
+use Rattle.monomial_order.specs.MonomialLaws.{product_comm, IsMonomial-product}
+use Rattle.poly_core.specs.Poly.{same_monomial, share, coefficient, Same, term_of, term_times, scaled, times, constant, IsTerm, IsPoly, IsBelow, IsLeadTerm, Falls, IsLead}
+use Rattle.poly_core.specs.RingLaws.{coefficient_value}
+use Rattle.poly_core.specs.SameLaws.{same_true, same_refl, times_same}
+use Rattle.poly_core.specs.FallingLaws.{not_below_self, IsBelow_trans, Falls_IsPoly, IsLead_first, IsLead_unique, coefficient_first, coefficient_below}
+
+module _ {E : Type 0} (K : FieldOps E) (F : IsField K) (O : MonomialOrder) (L : IsMonomialOrder O) where
+  -- a monomial with a nonzero coefficient stands below what all terms are below
+  pub below_found : (m : List ℕ) (p : List (Term E)) → IsBelow K O m p → (n : List ℕ) → coefficient K p n ≢ K.zero → O.compare n m ≡ Less
+  unfolding coefficient
+  below_found m [] h n k = absurd (k refl)
+  below_found m (t ∷ p) h n k =
+      elim (same_monomial t.at n) as (λ b. same_monomial t.at n ≡ b → O.compare n m ≡ Less) [
+        | true ↦ λ e. subst (λ x. O.compare x m ≡ Less) (same_true t.at n e) h.0
+        | false ↦ λ e. below_found m p h.1 n (λ z. k (ap (λ b. K.plus (cond b t.by K.zero) (coefficient K p n)) e ∙ (ap (K.plus K.zero) z ∙ zero-plus-zero K F)))
+      ] refl
+
+  -- below its first term a falling list has the coefficients of its rest
+  pub tail_zero : (t : Term E) (e : List (Term E)) → IsLeadTerm K O t e → (w : List ℕ) →
+      coefficient K e w ≢ K.zero → coefficient K (t ∷ e) w ≡ K.zero → coefficient K e w ≡ K.zero
+  unfolding coefficient
+  tail_zero t e h w c z =
+      elim (same_monomial t.at w) as (λ b. same_monomial t.at w ≡ b → coefficient K e w ≡ K.zero) [
+        | true ↦ λ s. absurd (not_below_self O L w (subst (λ x. O.compare w x ≡ Less) (same_true t.at w s) (below_found t.at e h.above w c)))
+        | false ↦ λ s. sym (coefficient_value K F e w) ∙ (sym (zero-plus K F (coefficient K e w)) ∙ (ap (λ b. K.plus (cond b t.by K.zero) (coefficient K e w)) (sym s) ∙ z))
+      ] refl

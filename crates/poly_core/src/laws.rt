@@ -1,0 +1,83 @@
+//! Laws of polynomials, of ideals and of subalgebras, as contracts of calls that do nothing.
+ghost use Rattle.std.specs.Prelude.{◌≡◌, ℕ, ◌++◌, List, []};
+ghost use Rattle.monomial_order.specs.declared.Term.{Term};
+ghost use Rattle.monomial_order.specs.Monomial.{product, IsMonomial};
+ghost use Rattle.poly_core.specs.Poly.{constant, negated, minus, times, component, Same, Falls, IsPoly};
+ghost use Rattle.poly_core.specs.Value.{value};
+ghost use Rattle.poly_core.specs.Ideal.{InIdeal};
+ghost use Rattle.poly_core.specs.NormalFormLaws.{HasHomogeneousLead};
+ghost use Rattle.poly_core.specs.Subalgebra.{Presented, IsPresentation, AreGenerators, InSubalgebra, LeadsIdeal, IsNormalForm, IsReducedBasis};
+
+use monomial_order::Order;
+use word_field::Field;
+
+/// Equality of coefficients is an equivalence that sums and products keep.
+pub fn same_is_congruence<F: Field>(f: &F)
+    ensures reflexive { (p : List (Term F.Elem)) → Same (F.ops f.now) p p }
+    ensures symmetric { (p q : List (Term F.Elem)) → Same (F.ops f.now) p q → Same (F.ops f.now) q p }
+    ensures transitive { (p q r : List (Term F.Elem)) → Same (F.ops f.now) p q → Same (F.ops f.now) q r → Same (F.ops f.now) p r }
+    ensures sums { (p q r s : List (Term F.Elem)) → Same (F.ops f.now) p q → Same (F.ops f.now) r s → Same (F.ops f.now) (p ++ r) (q ++ s) }
+    ensures products { (p q r s : List (Term F.Elem)) → Same (F.ops f.now) p q → Same (F.ops f.now) r s →
+        Same (F.ops f.now) (times (F.ops f.now) p r) (times (F.ops f.now) q s) }
+{}
+
+/// Polynomials are a commutative ring.
+pub fn ring_laws<F: Field>(f: &F)
+    ensures sum_comm { (p q : List (Term F.Elem)) → Same (F.ops f.now) (p ++ q) (q ++ p) }
+    ensures sum_assoc { (p q r : List (Term F.Elem)) → Same (F.ops f.now) ((p ++ q) ++ r) (p ++ (q ++ r)) }
+    ensures sum_zero { (p : List (Term F.Elem)) → Same (F.ops f.now) (p ++ []) p }
+    ensures sum_negated { (p : List (Term F.Elem)) → Same (F.ops f.now) (minus (F.ops f.now) p p) [] }
+    ensures product_comm { (p q : List (Term F.Elem)) → Same (F.ops f.now) (times (F.ops f.now) p q) (times (F.ops f.now) q p) }
+    ensures product_assoc { (p q r : List (Term F.Elem)) →
+        Same (F.ops f.now) (times (F.ops f.now) (times (F.ops f.now) p q) r) (times (F.ops f.now) p (times (F.ops f.now) q r)) }
+    ensures product_one { (p : List (Term F.Elem)) → Same (F.ops f.now) (times (F.ops f.now) (constant (F.ops f.now) (F.ops f.now).one) p) p }
+    ensures product_sum { (p q r : List (Term F.Elem)) →
+        Same (F.ops f.now) (times (F.ops f.now) p (q ++ r)) (times (F.ops f.now) p q ++ times (F.ops f.now) p r) }
+{}
+
+/// The value at a list keeps sums, products and constants.
+pub fn value_is_homomorphism<F: Field>(f: &F)
+    ensures same { (h k : List (Term F.Elem)) (ps : List (List (Term F.Elem))) → Same (F.ops f.now) h k →
+        Same (F.ops f.now) (value (F.ops f.now) h ps) (value (F.ops f.now) k ps) }
+    ensures sums { (h k : List (Term F.Elem)) (ps : List (List (Term F.Elem))) →
+        Same (F.ops f.now) (value (F.ops f.now) (h ++ k) ps) (value (F.ops f.now) h ps ++ value (F.ops f.now) k ps) }
+    ensures products { (h k : List (Term F.Elem)) (ps : List (List (Term F.Elem))) →
+        Same (F.ops f.now) (value (F.ops f.now) (times (F.ops f.now) h k) ps) (times (F.ops f.now) (value (F.ops f.now) h ps) (value (F.ops f.now) k ps)) }
+    ensures constants { (c : F.Elem) (ps : List (List (Term F.Elem))) →
+        Same (F.ops f.now) (value (F.ops f.now) (constant (F.ops f.now) c) ps) (constant (F.ops f.now) c) }
+{}
+
+/// Two falling lists with the same coefficients are equal.
+pub fn falling_form_is_unique<F: Field, O: Order>(f: &F, o: &O)
+    ensures { (p q : List (Term F.Elem)) → Falls (F.ops f.now) (O.order o.now) p → Falls (F.ops f.now) (O.order o.now) q →
+        Same (F.ops f.now) p q → p ≡ q }
+{}
+
+/// An ideal is closed under sums and multiples, and that of homogeneous generators under degree parts.
+pub fn ideal_laws<F: Field, O: Order>(f: &F, o: &O)
+    ensures sums { (rs : List (List (Term F.Elem))) (a b : List (Term F.Elem)) → InIdeal (F.ops f.now) (O.order o.now).places rs a →
+        InIdeal (F.ops f.now) (O.order o.now).places rs b → InIdeal (F.ops f.now) (O.order o.now).places rs (a ++ b) }
+    ensures multiples { (rs : List (List (Term F.Elem))) (q a : List (Term F.Elem)) → IsPoly (F.ops f.now) (O.order o.now).places q →
+        InIdeal (F.ops f.now) (O.order o.now).places rs a → InIdeal (F.ops f.now) (O.order o.now).places rs (times (F.ops f.now) q a) }
+    ensures parts { (rs : List (List (Term F.Elem))) (d : ℕ) (a : List (Term F.Elem)) → AreGenerators (F.ops f.now) (O.order o.now) rs →
+        InIdeal (F.ops f.now) (O.order o.now).places rs a → InIdeal (F.ops f.now) (O.order o.now).places rs (component (O.order o.now) d a) }
+{}
+
+/// The leads of an ideal are closed under multiples and are leads of homogeneous members, and a normal form modulo it is unique.
+pub fn normal_form_laws<F: Field>()
+    ensures multiples { (P : Presented F.Elem) (k m : List ℕ) → IsPresentation P → IsMonomial P.order.places k → LeadsIdeal P m → LeadsIdeal P (product k m) }
+    ensures parts { (P : Presented F.Elem) (m : List ℕ) → IsPresentation P → LeadsIdeal P m → (a : List (Term F.Elem)) × HasHomogeneousLead P m a }
+    ensures unique { (P : Presented F.Elem) (a b c : List (Term F.Elem)) → IsPresentation P → IsNormalForm P a b → IsNormalForm P a c → Same P.field b c }
+{}
+
+/// A subalgebra is closed under sums and products.
+pub fn subalgebra_laws<F: Field>()
+    ensures sums { (P : Presented F.Elem) (a b : List (Term F.Elem)) → IsPresentation P → InSubalgebra P a → InSubalgebra P b → InSubalgebra P (a ++ b) }
+    ensures products { (P : Presented F.Elem) (a b : List (Term F.Elem)) → IsPresentation P → IsPoly P.field P.order.places a →
+        InSubalgebra P a → InSubalgebra P b → InSubalgebra P (times P.field a b) }
+{}
+
+/// For each presentation and degree at most one list is the reduced basis.
+pub fn reduced_basis_is_unique<F: Field>()
+    ensures { (P : Presented F.Elem) (c : ℕ) (S T : List (List (Term F.Elem))) → IsPresentation P → IsReducedBasis P c S → IsReducedBasis P c T → S ≡ T }
+{}

@@ -1,0 +1,15 @@
+use Rattle.std.proofs.lemmas.Result.{err_from_is_err_and}
+use Rattle.sagbi_cli.specs.Reading.{behind_ones}
+use Rattle.sagbi_cli.proofs.Loops.{ones_next, ones_stop, ones_done}
+use Rattle.sagbi_cli.proofs.reader.behind_ones.Goals as goal
+
+pub returns-in_err-rest : goal.returns-in_err-rest
+returns-in_err-rest c =
+    let p = err_from_is_err_and c.from_residual.result c.from_residual.ensures.1 in
+    rw (p.1, p.2) (ones_stop c.in_err-rest.field-0.0 c.args.count c.loop.counter c.loop.rest.now (behind_ones c.args.count c.args.bytes.now) c.loop-test.true c.in_err-rest.ensures c.loop.invariant)
+
+pub loop-preserved : goal.loop-preserved
+loop-preserved c = ones_next c.args.count c.loop.counter c.loop.rest.now c.in_ok-rest.rest.now (behind_ones c.args.count c.args.bytes.now) c.loop-test.true c.in_ok-rest.ensures c.loop.invariant
+
+pub returns : goal.returns
+returns c = ones_done c.args.count c.loop.counter c.loop.rest.now (behind_ones c.args.count c.args.bytes.now) c.loop-test.false c.loop.invariant

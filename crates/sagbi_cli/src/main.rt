@@ -1,0 +1,50 @@
+//! The program: a presentation is read, completed to a degree, and its report printed.
+#![tactic(auto)]
+
+mod answer;
+mod command;
+mod outcome;
+mod put;
+mod reader;
+mod report;
+mod run;
+#[cfg(test)]
+mod tests;
+mod words;
+
+use monomial_order::Memory;
+pub use run::run;
+use shelf_io::{FileShelf, StreamSink};
+use std::alloc::Global;
+use std::env;
+use std::io::ErrorKind;
+use std::process::ExitCode;
+pub use words::WordList;
+
+/// The words after the program's name, or none where they are no text.
+fn words_of(rt: &HostRuntime) -> Result<WordList, Memory> {
+    let alloc: Global = rt.alloc();
+    let mut words = WordList::new(alloc);
+    match env::args(rt) {
+        Ok(args) => {
+            for word in args.skip(1) {
+                words.push(word.as_str())?;
+            }
+            Ok(words)
+        }
+        Err(e) if e.kind() == ErrorKind::OutOfMemory => Err(Memory),
+        Err(_) => Ok(words),
+    }
+}
+
+fn main(rt: HostRuntime) -> ExitCode {
+    match words_of(&rt) {
+        Ok(words) => {
+            let mut shelf = FileShelf::new(&rt);
+            let mut out = StreamSink::new(rt.stdout());
+            let mut note = StreamSink::new(rt.stderr());
+            ExitCode::from(run(rt.alloc(), &words, &mut shelf, &mut out, &mut note))
+        }
+        Err(Memory) => ExitCode::from(7),
+    }
+}

@@ -1,0 +1,7 @@
+pub mod Calls
+pub mod Counts
+pub mod MemoryShelf
+pub mod MemorySink
+pub mod Shelf
+pub mod Sink
+pub mod Stored

@@ -1,0 +1,113 @@
+//! The real files.
+ghost use Rattle.std.specs.Prelude.{◌≡◌, ◌<◌, ◌≤◌, None, IfOk};
+ghost use Rattle.shelf_io.specs.Shelf.{KeepsLimit};
+
+use crate::counts::next_count;
+use crate::shelf::is_over;
+use crate::{LoadFault, Loaded, Shelf, WriteFault};
+use std::alloc::Global;
+use std::fs::OpenFile;
+use std::io::{ErrorKind, Read, Write};
+use std::rt::Files;
+use std::{fs, io};
+
+/// The files of the system. A name is a path. It tells nothing of what they hold.
+#[derive(Drop)]
+pub struct FileShelf<'a, R> {
+    rt: &'a R,
+    faults: u64,
+}
+
+impl<'a, R: Files> FileShelf<'a, R> {
+    pub fn new(rt: &'a R) -> FileShelf<'a, R>
+        ensures { result.faults ≡ 0 }
+    {
+        FileShelf { rt, faults: 0 }
+    }
+}
+
+const CHUNK: usize = 8192;
+
+/// How many bytes to read next: those up to the limit and one more, or a chunk.
+fn room_after(len: usize, max: Option<u64>) -> usize
+    ensures some { 0 < result }
+    ensures fits { result ≤ CHUNK }
+{
+    match max {
+        None => CHUNK,
+        Some(max) => {
+            let left = max.saturating_sub(len as u64);
+            if left < CHUNK as u64 {
+                left as usize + 1
+            } else {
+                CHUNK
+            }
+        }
+    }
+}
+
+/// The bytes to the end. At most one byte past the limit is read.
+fn read_within<F: Read>(alloc: Global, file: &mut F, max: Option<u64>) -> Result<Loaded, LoadFault>
+    ensures { IfOk result (KeepsLimit max) }
+{
+    let mut bytes = Vec::new(alloc);
+    let mut chunk = [0u8; CHUNK];
+    loop {
+        let room = room_after(bytes.len(), max);
+        match file.read(&mut chunk[..room]) {
+            Err(_) => return Err(LoadFault::Failed),
+            Ok(0) => return Ok(Loaded::Bytes(bytes)),
+            Ok(n) => bytes.extend_from_slice(&chunk[..n])?,
+        }
+        if is_over(&bytes, max) {
+            return Ok(Loaded::TooLong);
+        }
+    }
+}
+
+fn load_file<R: Files>(
+    rt: &R,
+    alloc: Global,
+    name: &str,
+    max: Option<u64>,
+) -> Result<Loaded, LoadFault>
+    ensures { IfOk result (KeepsLimit max) }
+{
+    match fs::open(rt, name) {
+        Ok(mut file) => read_within(alloc, &mut file, max),
+        Err(e) if e.kind() == ErrorKind::NotFound => Ok(Loaded::Missing),
+        Err(_) => Err(LoadFault::Failed),
+    }
+}
+
+fn write_file<R: Files>(rt: &R, name: &str, bytes: &[u8]) -> io::Result<()> {
+    let mut file = fs::create(rt, name)?;
+    file.write_all(bytes)?;
+    file.sync_all()
+}
+
+impl<R: Files> Shelf for FileShelf<'_, R> {
+    ghost holds = { λ _. None };
+
+    ghost faults = { λ s. s.faults };
+
+    fn load(&mut self, alloc: Global, name: &str, max: Option<u64>) -> Result<Loaded, LoadFault> {
+        match load_file(self.rt, alloc, name, max) {
+            Err(LoadFault::Failed) => {
+                self.faults = next_count(self.faults);
+                Err(LoadFault::Failed)
+            }
+            answer => answer,
+        }
+    }
+
+    fn write(&mut self, _alloc: Global, name: &str, bytes: &[u8]) -> Result<(), WriteFault> {
+        match write_file(self.rt, name, bytes) {
+            Ok(()) => Ok(()),
+            Err(_) => {
+                self.faults = next_count(self.faults);
+                Err(WriteFault::Failed)
+            }
+        }
+    }
+}

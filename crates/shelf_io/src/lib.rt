@@ -1,0 +1,22 @@
+//! The outside of the program: named files on a shelf and a sink for bytes, in memory and real.
+#![tactic(auto)]
+
+mod calls;
+mod counts;
+mod fault;
+mod file_shelf;
+mod memory_shelf;
+mod memory_sink;
+mod shelf;
+mod sink;
+mod stream_sink;
+#[cfg(test)]
+mod tests;
+
+pub use fault::ShelfMemory;
+pub use file_shelf::FileShelf;
+pub use memory_shelf::MemoryShelf;
+pub use memory_sink::MemorySink;
+pub use shelf::{LoadFault, Loaded, Shelf, WriteFault};
+pub use sink::{Sink, SinkFailed};
+pub use stream_sink::StreamSink;

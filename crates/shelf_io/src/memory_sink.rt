@@ -1,0 +1,93 @@
+//! A sink in memory.
+ghost use Rattle.std.specs.Prelude.{◌≡◌, ℕ, ◌≤◌, ◌<◌, ◌↔◌, [], Some, min, length, IfOk, OnOk, OnErr, IsErr, IsTrue, vec_len, vec_capacity};
+ghost use Rattle.shelf_io.specs.Calls.{no_calls, next_fails, after_call, with_failing};
+ghost use Rattle.shelf_io.specs.Counts.{HasRisen};
+ghost use Rattle.shelf_io.specs.Sink.{Continues, accepted};
+
+use crate::calls::Calls;
+use crate::{ShelfMemory, Sink, SinkFailed};
+use std::alloc::Global;
+
+/// Keeps the bytes that it takes, in a room that is made at the start. Bytes past the room are dropped.
+#[derive(Drop)]
+pub struct MemorySink {
+    most: usize,
+    room: usize,
+    bytes: Vec<u8>,
+    is_whole: bool,
+    calls: Calls,
+    ghost some: { 0 < most },
+    ghost within: { vec_len bytes ≤ room },
+    ghost reserved: { room ≤ vec_capacity bytes },
+}
+
+impl MemorySink {
+    ghost use Rattle.shelf_io.specs.MemorySink.{sink_state, with_calls};
+
+    /// Takes at most `most` bytes a call.
+    pub fn new(alloc: Global, most: usize, room: usize) -> Result<MemorySink, ShelfMemory>
+        requires { 0 < most }
+        ensures { IfOk result (λ s. sink_state s ≡ record { most = most; room = room; taken = Some []; kept = []; calls = no_calls }) }
+    {
+        Ok(MemorySink {
+            most,
+            room,
+            bytes: Vec::with_capacity(alloc, room)?,
+            is_whole: true,
+            calls: Calls::new(alloc),
+        })
+    }
+
+    /// The put of this number, counted from 1, fails.
+    pub fn fail_at(&mut self, call: u64) -> Result<(), ShelfMemory>
+        ensures ok { OnOk result (sink_state self.new ≡ with_calls (sink_state self.old) (with_failing (sink_state self.old).calls call)) }
+        ensures err { OnErr result (sink_state self.new ≡ sink_state self.old) }
+    {
+        self.calls.fail_at(call)
+    }
+
+    /// The bytes taken within the room.
+    pub fn bytes(&self) -> &[u8]
+        ensures { result.now ≡ (sink_state self.now).kept }
+    {
+        &self.bytes
+    }
+
+    /// How often a put has failed.
+    pub fn fault_count(&self) -> u64
+        ensures { result ≡ (sink_state self.now).calls.faults }
+    {
+        self.calls.faults()
+    }
+}
+
+impl Sink for MemorySink {
+    ghost use Rattle.shelf_io.specs.MemorySink.{sink_state, with_calls, with_bytes};
+
+    ghost taken = { λ s. (sink_state s).taken };
+
+    ghost faults = { λ s. (sink_state s).calls.faults };
+
+    fn put(&mut self, piece: &[u8]) -> Result<usize, SinkFailed>
+        requires { 0 < length piece.now }
+        ensures some { IfOk result (λ n. 0 < n) }
+        ensures within { IfOk result (λ n. n ≤ length piece.now) }
+        ensures told { Continues (sink_state self.old).taken (accepted result piece.now) (sink_state self.new).taken }
+        ensures counted { (sink_state self.old).calls.faults ≤ (sink_state self.new).calls.faults }
+        ensures failed { OnErr result (HasRisen (sink_state self.old).calls.faults (sink_state self.new).calls.faults) }
+        ensures fails { IsErr result ↔ IsTrue (next_fails (sink_state self.old).calls) }
+        ensures most { IfOk result (λ n. n ≡ min (sink_state self.old).most (length piece.now)) }
+        ensures after { sink_state self.new ≡ with_bytes (sink_state self.old) (accepted result piece.now) (after_call (sink_state self.old).calls) }
+    {
+        if self.calls.begin() {
+            return Err(SinkFailed);
+        }
+        let count = self.most.min(piece.len());
+        let spare = self.room - self.bytes.len();
+        if count > spare {
+            self.is_whole = false;
+        }
+        let _ = self.bytes.extend_from_slice(&piece[..count.min(spare)]);
+        Ok(count)
+    }
+}

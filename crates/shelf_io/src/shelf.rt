@@ -1,0 +1,90 @@
+//! Named files, as a trait.
+ghost use Rattle.std.specs.Prelude.{◌≡◌, ℕ, ◌≤◌, Option, Some, IfOk, IsErrOf};
+ghost use Rattle.shelf_io.specs.Counts.{HasRisen};
+ghost use Rattle.std.specs.Bool.{OnTrue, OnFalse};
+ghost use Rattle.shelf_io.specs.Shelf.{Files, IsFound, IsOver, IsWithin, KeepsLimit, KeepsTelling};
+ghost use Rattle.shelf_io.specs.declared.shelf.LoadFault.TheVariants.{Memory as no_room};
+ghost use Rattle.shelf_io.specs.declared.shelf.WriteFault.TheVariants.{Memory as no_memory};
+
+use std::alloc::{AllocError, AllocFailed, Global};
+
+/// What a load found.
+#[derive(Debug, Drop, PartialEq, Eq)]
+pub enum Loaded {
+    Missing,
+    TooLong,
+    Bytes(Vec<u8>),
+}
+
+#[derive(Clone, Copy, Debug, PartialEq, Eq)]
+pub enum LoadFault {
+    Failed,
+    Memory,
+}
+
+#[derive(Clone, Copy, Debug, PartialEq, Eq)]
+pub enum WriteFault {
+    Failed,
+    Memory,
+}
+
+impl From<AllocError> for LoadFault {
+    ghost from_gives = { λ _ e. e ≡ no_room };
+
+    fn from(_: AllocError) -> Self {
+        LoadFault::Memory
+    }
+}
+
+impl From<AllocError> for WriteFault {
+    ghost from_gives = { λ _ e. e ≡ no_memory };
+
+    fn from(_: AllocError) -> Self {
+        WriteFault::Memory
+    }
+}
+
+impl<T: Drop> From<AllocFailed<T>> for WriteFault {
+    ghost from_gives = { λ _ e. e ≡ no_memory };
+
+    fn from(_: AllocFailed<T>) -> Self {
+        WriteFault::Memory
+    }
+}
+
+/// Whether there are more bytes than the limit allows.
+pub fn is_over(bytes: &[u8], max: Option<u64>) -> bool
+    ensures over { OnTrue result (IsOver max bytes.now) }
+    ensures within { OnFalse result (IsWithin max bytes.now) }
+{
+    match max {
+        Some(max) => bytes.len() as u64 > max,
+        None => false,
+    }
+}
+
+/// Named files.
+///
+/// A name is any text. What it stands for is the shelf's own matter.
+pub trait Shelf {
+    /// The files, where they are told. A shelf that does not tell them now never does again.
+    ghost holds: { Self → Option Files };
+
+    /// How often a load or a write has failed.
+    ghost faults: { Self → ℕ };
+
+    /// The bytes of a name, where there are at most `max` of them.
+    fn load(&mut self, alloc: Global, name: &str, max: Option<u64>) -> Result<Loaded, LoadFault>
+        ensures same { holds self.new ≡ holds self.old }
+        ensures found { (files : Files) → holds self.old ≡ Some files → IfOk result (IsFound files name.now max) }
+        ensures limit { IfOk result (KeepsLimit max) }
+        ensures counted { faults self.old ≤ faults self.new }
+        ensures failed { IsErrOf result LoadFault.Failed → HasRisen (faults self.old) (faults self.new) };
+
+    /// Puts these bytes under the name, in place of what it had.
+    fn write(&mut self, alloc: Global, name: &str, bytes: &[u8]) -> Result<(), WriteFault>
+        ensures unchanged { IsErrOf result WriteFault.Memory → holds self.new ≡ holds self.old }
+        ensures held { KeepsTelling result name.now bytes.now (holds self.old) (holds self.new) }
+        ensures counted { faults self.old ≤ faults self.new }
+        ensures failed { IsErrOf result WriteFault.Failed → HasRisen (faults self.old) (faults self.new) };
+}
