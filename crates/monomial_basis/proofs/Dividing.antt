@@ -5,7 +5,7 @@ use Rattle.std.proofs.lemmas.Bool.{ltb-true, ltb-false}
 use Rattle.std.specs.declared.alloc.Global.{Global}
 use Rattle.monomial_order.specs.Monomial.{exponent, product, IsTrimmed, IsMonomial, Divides}
 use Rattle.monomial_order.specs.MonomialOrder.{MonomialOrder, IsMonomialOrder}
-use Rattle.monomial_order.specs.MonomialLaws.{exponent-product, exponent_past, IsMonomial-product}
+use Rattle.monomial_order.specs.MonomialLaws.{product_assoc, product_comm, exponent-product, exponent_past, IsMonomial-product}
 use Rattle.monomial_order.specs.Cofactors.{same_exponents, length-product_right}
 use Rattle.monomial_order.specs.Lists.{contains_cases}
 use Rattle.poly_core.specs.Subalgebra.{IsGenerated, AllIn, product_of}
@@ -27,19 +27,62 @@ any_default [] i x d l e = absurd (omega arith)
 any_default (y ∷ xs) zero x d l e = e
 any_default (y ∷ xs) (suc i) x d l e = any_default xs i x d (omega arith) e
 
--- what is found by the factors before j is found by those before j + 1, where it is by the factor at j
-pub found_more : (gs : List (List ℕ)) (j : ℕ) (g m : List ℕ) (P Q : List ℕ → Type 0) → j < length gs → g ≡ get_or gs j g →
-    ((r : List ℕ) → P r → Q r) → ((r : List ℕ) → IsTrimmed r → product g r ≡ m → Q r) →
-    ((i : ℕ) (r : List ℕ) → i < j → IsTrimmed r → product (get_or gs i []) r ≡ m → P r) →
-    (i : ℕ) (r : List ℕ) → i < j + 1 → IsTrimmed r → product (get_or gs i []) r ≡ m → Q r
-found_more gs j g m P Q l at keep here before i r lt t e =
+-- what is found by the factors before j with U is found by those before j + 1, where it is by the factor at j
+pub found_more : (gs : List (List ℕ)) (j : ℕ) (g m : List ℕ) (P Q U : List ℕ → Type 0) → j < length gs → g ≡ get_or gs j g →
+    ((r : List ℕ) → P r → Q r) → ((r : List ℕ) → IsTrimmed r → U g → product g r ≡ m → Q r) →
+    ((i : ℕ) (r : List ℕ) → i < j → IsTrimmed r → U (get_or gs i []) → product (get_or gs i []) r ≡ m → P r) →
+    (i : ℕ) (r : List ℕ) → i < j + 1 → IsTrimmed r → U (get_or gs i []) → product (get_or gs i []) r ≡ m → Q r
+found_more gs j g m P Q U l at keep here before i r lt t u e =
     ⊎_elim
-    (λ same. here r t (ap (λ x. product x r) (sym (ap (λ x. get_or gs x []) same ∙ any_default gs j g [] l (sym at))) ∙ e))
-    (λ less. keep r (before i r less t e))
+    (λ same.
+    let is : get_or gs i [] ≡ g = ap (λ x. get_or gs x []) same ∙ any_default gs j g [] l (sym at) in
+    here r t (subst U is u) (ap (λ x. product x r) (sym is) ∙ e))
+    (λ less. keep r (before i r less t u e))
     (split i j lt)
   where
     split : (i j : ℕ) → i < j + 1 → (i ≡ j) ⊎ (i < j)
     split i j h = grind arith
+
+-- the last exponent is not 0
+pub last_exponent : (m : List ℕ) (k : ℕ) → IsTrimmed m → length m ≡ suc k → exponent m k ≢ 0
+last_exponent [] k h e = absurd (omega arith)
+last_exponent (a ∷ []) zero h e = h
+last_exponent (a ∷ []) (suc k) h e = absurd (omega arith)
+last_exponent (a ∷ (b ∷ m)) zero h e = absurd (omega arith)
+last_exponent (a ∷ (b ∷ m)) (suc k) h e = last_exponent (b ∷ m) k h (omega arith)
+
+-- a factor of a product that has the place, and the product of the others
+record HasFactorAt (gs : List (List ℕ)) (p : ℕ) (m : List ℕ) : Type 0 where
+  factor : List ℕ
+  others : List (List ℕ)
+  inside : Contains gs factor
+  members : AllIn gs others
+  at : exponent factor p ≢ 0
+  product_is : product factor (product_of others) ≡ m
+
+factor_at : (gs : List (List ℕ)) (p : ℕ) (fs : List (List ℕ)) → AllIn gs fs → exponent (product_of fs) p ≢ 0 → HasFactorAt gs p (product_of fs)
+factor_at gs p [] h n = absurd (n refl)
+factor_at gs p (f ∷ fs) h n =
+    ⊎_elim
+    (λ none. behind (factor_at gs p fs h.1 (λ z. n (let e = exponent-product f (product_of fs) p in omega arith))))
+    (λ some. record { factor = f; others = fs; inside = h.0; members = h.1; at = some; product_is = refl })
+    (zero_or_not (exponent f p))
+  where
+    zero_or_not : (x : ℕ) → (x ≡ 0) ⊎ (x ≢ 0)
+    zero_or_not zero = inl refl
+    zero_or_not (suc x) = inr (λ e. cc)
+
+    behind : HasFactorAt gs p (product_of fs) → HasFactorAt gs p (product f (product_of fs))
+    behind w = record {
+      factor = w.factor;
+      others = f ∷ w.others;
+      inside = w.inside;
+      members = (h.0, w.members);
+      at = w.at;
+      product_is = sym (product_assoc w.factor f (product_of w.others)) ∙
+          (ap (λ x. product x (product_of w.others)) (product_comm w.factor f) ∙
+          (product_assoc f w.factor (product_of w.others) ∙ ap (product f) w.product_is));
+    }
 
 pub generated_one : (gs : List (List ℕ)) → IsGenerated gs []
 generated_one gs = record { factors = []; members = tt; product = refl }
@@ -69,26 +112,31 @@ module _ (O : MonomialOrder) (L : IsMonomialOrder O) (gs : List (List ℕ)) (F :
   pub degree_one : O.degree [] ≡ 0
   degree_one = let e = L.degree_product [] [] in omega arith
 
-  -- a product of degree at least 1 has a quotient among those that wait
-  pub some_waits : (m : List ℕ) (lists : List (Vec (List ℕ) Global)) → 1 ≤ O.degree m →
-      ((i : ℕ) (r : List ℕ) → i < length gs → IsTrimmed r → product (get_or gs i []) r ≡ m → Waits lists (O.degree r) r) →
+  pub some_place : (m : List ℕ) → 1 ≤ O.degree m → 1 ≤ length m
+  some_place [] h = absurd (let z = degree_one in omega arith)
+  some_place (a ∷ m) h = omega arith
+
+  -- a product that has the place p has a quotient among those that wait
+  pub some_waits : (m : List ℕ) (p : ℕ) (lists : List (Vec (List ℕ) Global)) → exponent m p ≢ 0 →
+      ((i : ℕ) (r : List ℕ) → i < length gs → IsTrimmed r → exponent (get_or gs i []) p ≢ 0 → product (get_or gs i []) r ≡ m → Waits lists (O.degree r) r) →
       IsGenerated gs m → SomeWaits O gs lists (O.degree m)
-  some_waits m lists pos found w = by_factors w.factors w.members w.product
+  some_waits m p lists some found w = by_factor (factor_at gs p w.factors w.members (λ z. some (ap (λ x. exponent x p) (sym w.product) ∙ z)))
     where
-      by_factors : (fs : List (List ℕ)) → AllIn gs fs → product_of fs ≡ m → SomeWaits O gs lists (O.degree m)
-      by_factors [] h e = absurd (let d : O.degree [] ≡ O.degree m = ap O.degree e in let z = degree_one in omega arith)
-      by_factors (f ∷ fs) h e =
-          let r = product_of fs in
-          let i = h.0.0 in
-          let at : get_or gs i [] ≡ f = any_default gs i f [] h.0.1 h.0.2 in
+      by_factor : HasFactorAt gs p (product_of w.factors) → SomeWaits O gs lists (O.degree m)
+      by_factor q =
+          let f = q.factor in
+          let r = product_of q.others in
+          let i = q.inside.0 in
+          let at : get_or gs i [] ≡ f = any_default gs i f [] q.inside.1 q.inside.2 in
+          let e : product f r ≡ m = q.product_is ∙ w.product in
           let d : O.degree (product f r) ≡ O.degree m = ap O.degree e in
           let s = L.degree_product f r in
-          let p = (F f h.0).positive in (
+          let pos = (F f q.inside).positive in (
             O.degree r,
             r,
             omega arith,
-            found i r h.0.1 (product_of_monomial fs h.1).trimmed (ap (λ x. product x r) at ∙ e),
-            record { factors = fs; members = h.1; product = refl },
+            found i r q.inside.1 (product_of_monomial q.others q.members).trimmed (subst (λ x. exponent x p ≢ 0) (sym at) q.at) (ap (λ x. product x r) at ∙ e),
+            record { factors = q.others; members = q.members; product = refl },
           )
 
 -- a member from the place i on is the one at i or one after it

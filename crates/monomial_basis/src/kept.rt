@@ -84,3 +84,6 @@ fn add_needed<O: Order>(
     list.push(m.copy(alloc)?)?;
     Ok(())
 }
+
+#[cfg(test)]
+mod tests;

@@ -1,6 +1,6 @@
 //! Whether a monomial is a product of others.
-ghost use Rattle.std.specs.Prelude.{◌≡◌, ◌≢◌, ℕ, ◌+◌, ◌<◌, ◌≤◌, ◌↔◌, ◌⊎◌, List, [], length, false, Contains, IsTrue, IfOk, OnOk};
-ghost use Rattle.monomial_order.specs.Monomial.{IsMonomial};
+ghost use Rattle.std.specs.Prelude.{◌≡◌, ◌≢◌, ℕ, ◌+◌, ◌<◌, ◌≤◌, ◌↔◌, ◌⊎◌, List, [], length, false, Contains, IsTrue, IfOk, OnOk, IfSome, IsNone};
+ghost use Rattle.monomial_order.specs.Monomial.{exponent, product, Divides, IsMonomial, IsTrimmed};
 ghost use Rattle.poly_core.specs.Subalgebra.{IsGenerated};
 ghost use Rattle.monomial_basis.specs.Products.{AreFactors, Waits, IsQuotient, SomeWaits};
 
@@ -90,7 +90,8 @@ fn take(alloc: Global, waiting: &mut Vec<Vec<Monomial>>, degree: usize) -> Vec<M
     monomials
 }
 
-/// Puts the quotients of the monomial by the factors among those that wait; true where one of them is 1.
+/// Puts the quotients of the monomial by the factors that have its last place among those that wait; true where one of
+/// them is 1. A product has such a factor, so the others can come later.
 fn divide<O: Order>(
     alloc: Global,
     o: &O,
@@ -110,8 +111,9 @@ fn divide<O: Order>(
     ensures others { OnOk result ((e : ℕ) (k : List ℕ) → Waits waiting.new.items e k → Waits waiting.old.items e k
         ⊎ IsQuotient (O.order o.now) factors.now m.now e k) }
 {
+    let place = m.places() - 1;
     for factor in factors {
-        if let Some(quotient) = m.quotient(alloc, factor)? {
+        if let Some(quotient) = quotient_with(alloc, m, factor, place)? {
             if quotient.places() == 0 {
                 return Ok(true);
             }
@@ -120,6 +122,23 @@ fn divide<O: Order>(
         }
     }
     Ok(false)
+}
+
+/// The cofactor of a factor that has the place, where the factor divides the monomial.
+fn quotient_with(
+    alloc: Global,
+    m: &Monomial,
+    factor: &Monomial,
+    place: usize,
+) -> Result<Option<Monomial>, Memory>
+    ensures some { IfOk result (λ q. IfSome q (λ k. product factor.now k ≡ m.now)) }
+    ensures trimmed { IfOk result (λ q. IfSome q IsTrimmed) }
+    ensures none { IfOk result (λ q. IsNone q → exponent factor.now place ≢ 0 → Divides factor.now m.now → ⊥) }
+{
+    if factor.exponent(place) == 0 {
+        return Ok(None);
+    }
+    m.quotient(alloc, factor)
 }
 
 /// Puts a monomial into the list of its degree.

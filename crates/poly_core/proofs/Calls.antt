@@ -1,26 +1,21 @@
 -- What the calls on polynomials rest on.
-use Rattle.std.proofs.Common.{◌≡◌, ◌≢◌, ℕ, zero, suc, ◌+◌, ◌<◌, ◌≤◌, refl, sym, ◌∙◌, ap, subst, List, [], ◌∷◌, ◌++◌, length, get_or, cond, Bool, true, false, ◌⊎◌, inl, inr, ⊎_elim, append-nil, arith}
-use Rattle.std.specs.Prelude.{map, nat_eq, All}
-use Rattle.std.proofs.lemmas.Bool.{eqb-true, eq-eqb, true≢false}
-use Rattle.std.specs.declared.cmp.Ordering.{Ordering}
+use Rattle.std.proofs.Common.{◌≡◌, ◌≢◌, ℕ, zero, suc, ◌<◌, ◌≤◌, refl, sym, ◌∙◌, ap, subst, List, [], ◌∷◌, ◌++◌, length, get_or, cond, Bool, true, false, inr, ⊎_elim, append-nil, arith}
+use Rattle.std.specs.Prelude.{All}
+use Rattle.std.proofs.lemmas.Bool.{eq-eqb, true≢false}
 use Rattle.std.specs.declared.cmp.Ordering.TheVariants.{Less, Equal, Greater}
 use Rattle.word_field.specs.Field.{FieldOps, IsField, IsValue}
-use Rattle.word_field.specs.FieldLaws.{zero-times, times-zero, zero-plus-zero, one-times, negate-times, plus_is_zero, negate-zero}
+use Rattle.word_field.specs.FieldLaws.{zero-times, times-zero, zero-plus-zero, one-times, negate-zero}
 use Rattle.monomial_order.specs.declared.Term.{Term}
 use Rattle.monomial_order.specs.MonomialOrder.{MonomialOrder, IsMonomialOrder}
 use Rattle.monomial_order.specs.Comparing.{degree_falls}
-use Rattle.poly_core.specs.Poly.{same_monomial, coefficient, Same, term_of, scaled, times, negated, minus, constant, component, first_coefficient, AllAt, IsTerm, IsKept, Falls, IsSmall, IsHomogeneous, IsZeroOrHomogeneous, IsDegree, IsComponent}
-use Rattle.poly_core.specs.RingLaws.{coefficient_value, coefficient-append}
+use Rattle.poly_core.specs.Poly.{same_monomial, coefficient, Same, term_of, scaled, negated, minus, constant, component, first_coefficient, AllAt, IsKept, Falls, IsZeroOrHomogeneous, IsDegree, IsComponent}
+use Rattle.poly_core.specs.RingLaws.{coefficient_value}
 use Rattle.poly_core.specs.SameLaws.{append_same}
-use Rattle.poly_core.specs.ValueLaws.{coefficient-scaled, coefficient-constant_times}
+use Rattle.poly_core.specs.ValueLaws.{coefficient-scaled}
 use Rattle.poly_core.specs.CongruenceLaws.{negated_is, negate_negate}
 use Rattle.poly_core.specs.FallingLaws.{coefficient_first, coefficient_above, greater_less}
-use Rattle.poly_core.specs.KeptLaws.{kept_multiple, Falls-scaled}
-use Rattle.poly_core.specs.DegreeLaws.{coefficient-component, falls_all, all_found}
+use Rattle.poly_core.specs.DegreeLaws.{differs, coefficient-component, falls_all, all_found}
 use Rattle.poly_core.specs.ReducedBasisLaws.{degree_one}
-
-differs : (a d : ℕ) → a ≢ d → nat_eq a d ≡ false
-differs a d h = elim (nat_eq a d) as (λ b. nat_eq a d ≡ b → b ≡ false) [ true ↦ λ e. absurd (h (eqb-true a d e)) | false ↦ λ e. refl ] refl
 
 -- each item, and each term's monomial
 all_monomials : {E : Type 0} (P : List ℕ → Type 0) (p : List (Term E)) → All (λ t. P t.at) p → AllAt P p

@@ -1,16 +1,14 @@
 -- The steps of evaluating a polynomial.
-use Rattle.std.proofs.Common.{◌≡◌, ◌≢◌, ℕ, zero, suc, ◌+◌, ◌-◌, ◌*◌, ◌<◌, ◌≤◌, refl, sym, ◌∙◌, ap, subst, List, [], ◌∷◌, ◌++◌, length, get_or, drop, cond, Bool, true, false, append-nil, arith}
+use Rattle.std.proofs.Common.{◌≡◌, ℕ, zero, suc, ◌+◌, ◌*◌, ◌<◌, ◌≤◌, refl, sym, ◌∙◌, ap, subst, List, [], ◌∷◌, ◌++◌, length, get_or, drop, append-nil, arith}
 use Rattle.std.specs.Prelude.{map, All}
 use Rattle.std.proofs.Math.Seq.{drop-cons}
 use Rattle.std.proofs.lemmas.List.{drop_all}
-use Rattle.std.specs.declared.cmp.Ordering.TheVariants.{Less}
-use Rattle.word_field.specs.Field.{FieldOps, IsField, IsValue}
-use Rattle.word_field.specs.FieldLaws.{zero-plus-zero}
+use Rattle.word_field.specs.Field.{FieldOps, IsField}
 use Rattle.monomial_order.specs.declared.Term.{Term}
 use Rattle.monomial_order.specs.Monomial.{exponent, weighted_degree}
 use Rattle.monomial_order.specs.MonomialOrder.{MonomialOrder, IsMonomialOrder}
 use Rattle.monomial_order.specs.Comparing.{degree_falls}
-use Rattle.poly_core.specs.Poly.{coefficient, Same, term_of, times, constant, degree_of, AllAt, IsTerm, IsKept, IsBelow, Falls, IsSmall}
+use Rattle.poly_core.specs.Poly.{coefficient, Same, times, constant, degree_of, AllAt, IsKept, IsBelow, Falls, IsSmall}
 use Rattle.poly_core.specs.Value.{power, monomial_value, term_value, value, value_degree, HasSmallValue}
 use Rattle.poly_core.specs.Powers.{ArePowers, IsPowerOf, IsTable, Reaches}
 use Rattle.poly_core.specs.RingLaws.{times_comm, times_assoc}

@@ -3,13 +3,12 @@ use Rattle.std.proofs.Common.{◌≡◌, ◌≢◌, ℕ, ◌<◌, ◌≤◌, ◌
 use Rattle.std.specs.Prelude.{not, reverse, nat_eq}
 use Rattle.std.proofs.lemmas.Bool.{true≢false, eqb-true}
 use Rattle.std.proofs.lemmas.List.{reverse-append}
-use Rattle.std.specs.declared.cmp.Ordering.{Ordering}
 use Rattle.std.specs.declared.cmp.Ordering.TheVariants.{Less, Equal, Greater}
 use Rattle.word_field.specs.Field.{FieldOps, IsField, IsValue}
 use Rattle.word_field.specs.FieldLaws.{plus_four, zero-plus-zero}
 use Rattle.monomial_order.specs.declared.Term.{Term}
 use Rattle.monomial_order.specs.MonomialOrder.{MonomialOrder, IsMonomialOrder}
-use Rattle.poly_core.specs.Poly.{same_monomial, coefficient, Same, term_of, IsTerm, IsBelow, IsLeadTerm, Falls, IsSmall, IsKept}
+use Rattle.poly_core.specs.Poly.{same_monomial, coefficient, Same, term_of, IsBelow, IsLeadTerm, Falls, IsSmall, IsKept}
 use Rattle.poly_core.specs.Merging.{MovesLast, AddsLast}
 use Rattle.poly_core.specs.RingLaws.{coefficient_value, coefficient-append}
 use Rattle.poly_core.specs.SameLaws.{append_same}

@@ -1,12 +1,12 @@
 -- One more term in a loop over the terms of a polynomial.
-use Rattle.std.proofs.Common.{◌≡◌, ◌≢◌, ℕ, ◌+◌, ◌<◌, ◌≤◌, refl, sym, ◌∙◌, ap, subst, List, [], ◌∷◌, ◌++◌, length, take, get_or, cond, Bool, true, false, arith, append-nil}
-use Rattle.std.specs.Prelude.{map, nat_eq, Result, Ok, Err, IfOk}
+use Rattle.std.proofs.Common.{◌≡◌, ◌≢◌, ℕ, ◌+◌, ◌<◌, ◌≤◌, refl, sym, ◌∙◌, ap, subst, List, [], ◌∷◌, ◌++◌, length, take, get_or, cond, true, false, arith, append-nil}
+use Rattle.std.specs.Prelude.{nat_eq, Result, Ok, Err, IfOk}
 use Rattle.std.proofs.lemmas.List.{take_more}
 use Rattle.std.proofs.lemmas.Bool.{eqb-true, eq-eqb}
 use Rattle.word_field.specs.Field.{FieldOps, IsField}
 use Rattle.monomial_order.specs.declared.Term.{Term}
 use Rattle.monomial_order.specs.MonomialOrder.{MonomialOrder, IsMonomialOrder}
-use Rattle.poly_core.specs.Poly.{component, coefficient, scaled, times, term_of, Same, Falls, IsSmall, IsKept}
+use Rattle.poly_core.specs.Poly.{component, coefficient, scaled, times, Same, Falls, IsSmall, IsKept}
 use Rattle.poly_core.specs.DegreeLaws.{component-append}
 use Rattle.poly_core.specs.SameLaws.{append_same}
 use Rattle.poly_core.specs.ValueLaws.{times-append}

@@ -1,15 +1,14 @@
 -- Each polynomial has a canonical form.
-use Rattle.std.proofs.Common.{◌≡◌, ◌≢◌, ℕ, refl, sym, ◌∙◌, ap, subst, List, [], ◌∷◌, ◌++◌, cond, Bool, true, false, ◌⊎◌, inl, inr, ⊎_elim}
-use Rattle.std.specs.declared.cmp.Ordering.{Ordering}
+use Rattle.std.proofs.Common.{◌≡◌, ◌≢◌, ℕ, refl, sym, ◌∙◌, ap, List, [], ◌∷◌, cond, Bool, true, false, ◌⊎◌, inl, inr, ⊎_elim}
 use Rattle.std.specs.declared.cmp.Ordering.TheVariants.{Less, Equal, Greater}
-use Rattle.word_field.specs.Field.{FieldOps, IsField, IsValue}
-use Rattle.word_field.specs.FieldLaws.{zero-plus, plus_swap, plus_four, zero-plus-zero}
+use Rattle.word_field.specs.Field.{FieldOps, IsField}
+use Rattle.word_field.specs.FieldLaws.{zero-plus, plus_swap, zero-plus-zero}
 use Rattle.monomial_order.specs.declared.Term.{Term}
 use Rattle.monomial_order.specs.MonomialOrder.{MonomialOrder, IsMonomialOrder}
-use Rattle.poly_core.specs.Poly.{same_monomial, share, coefficient, Same, term_of, IsTerm, IsPoly, IsBelow, IsLeadTerm, Falls, IsLead}
-use Rattle.poly_core.specs.RingLaws.{coefficient_value, coefficient-append}
+use Rattle.poly_core.specs.Poly.{same_monomial, share, coefficient, Same, term_of, IsTerm, IsPoly, IsBelow, Falls, IsLead}
+use Rattle.poly_core.specs.RingLaws.{coefficient_value}
 use Rattle.poly_core.specs.SameLaws.{append_same}
-use Rattle.poly_core.specs.FallingLaws.{IsBelow_trans, greater_less, Falls_IsPoly, IsLead_first, IsLead_unique}
+use Rattle.poly_core.specs.FallingLaws.{IsBelow_trans, greater_less, IsLead_first}
 
 module _ {E : Type 0} (K : FieldOps E) (F : IsField K) (O : MonomialOrder) (L : IsMonomialOrder O) where
   -- q is the canonical form of p

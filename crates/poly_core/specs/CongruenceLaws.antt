@@ -1,14 +1,14 @@
 -- Congruence modulo an ideal is an equivalence that sums and products keep.
 use Rattle.std.proofs.Common.{◌≡◌, ℕ, refl, sym, ◌∙◌, ap, List, [], ◌∷◌, ◌++◌}
 use Rattle.word_field.specs.Field.{FieldOps, IsField, IsValue}
-use Rattle.word_field.specs.FieldLaws.{negate-plus, plus_four, negate-plus_cancel, plus_is_zero, negate-times, one-times, zero-plus}
+use Rattle.word_field.specs.FieldLaws.{negate-plus, plus_four, negate-plus_cancel, plus_is_zero, negate-times, one-times}
 use Rattle.monomial_order.specs.declared.Term.{Term}
-use Rattle.poly_core.specs.Poly.{coefficient, Same, term_of, times, negated, minus, constant, IsTerm, IsPoly}
+use Rattle.poly_core.specs.Poly.{coefficient, Same, times, negated, minus, constant, IsPoly}
 use Rattle.poly_core.specs.Ideal.{InIdeal, Congruent}
 use Rattle.poly_core.specs.RingLaws.{coefficient_value, coefficient-append, times_assoc, times_plus, times_comm}
 use Rattle.poly_core.specs.SameLaws.{times_same, times_same_left, append_same, coefficient-negated, minus_self}
 use Rattle.poly_core.specs.ValueLaws.{coefficient-constant_times}
-use Rattle.poly_core.specs.IdealLaws.{IsPoly-append, IsPoly-negated, InIdeal_same, InIdeal_zero, InIdeal_plus, InIdeal_times}
+use Rattle.poly_core.specs.IdealLaws.{InIdeal_same, InIdeal_zero, InIdeal_plus, InIdeal_times}
 
 module _ {E : Type 0} (K : FieldOps E) (F : IsField K) where
   pub negate_negate : (a : E) → K.negate (K.negate a) ≡ K.reduce a

@@ -1,26 +1,26 @@
 -- Homogeneous components: of a sum, of a member of a homogeneous ideal, and of a value.
 use Rattle.std.proofs.Common.{◌≡◌, ◌≢◌, ℕ, zero, suc, ◌+◌, ◌*◌, ◌≤◌, refl, sym, ◌∙◌, ap, subst, List, [], ◌∷◌, ◌++◌, cond, Bool, true, false, ◌⊎◌, inl, inr, ⊎_elim, arith, append_assoc}
-use Rattle.std.specs.Prelude.{map, nat_eq, Contains}
+use Rattle.std.specs.Prelude.{nat_eq, Contains}
 use Rattle.std.proofs.lemmas.Bool.{eqb-true, eq-eqb, true≢false}
 use Rattle.word_field.specs.Field.{FieldOps, IsField, IsValue}
 use Rattle.word_field.specs.FieldLaws.{zero-plus-zero, zero-plus}
 use Rattle.monomial_order.specs.declared.Term.{Term}
-use Rattle.monomial_order.specs.Monomial.{product, weighted_degree}
+use Rattle.monomial_order.specs.Lists.{contains_cases, contains_none}
+use Rattle.monomial_order.specs.Monomial.{weighted_degree}
 use Rattle.monomial_order.specs.MonomialOrder.{MonomialOrder, IsMonomialOrder}
-use Rattle.poly_core.specs.Poly.{same_monomial, coefficient, Same, term_of, term_times, times, scaled, constant, IsTerm, IsPoly, Falls, IsHomogeneous, AllAt, component}
+use Rattle.poly_core.specs.Poly.{same_monomial, coefficient, Same, times, scaled, constant, IsPoly, Falls, IsHomogeneous, AllAt, component}
 use Rattle.poly_core.specs.Ideal.{Multiple, AreMultiples, sum_of, InIdeal}
-use Rattle.poly_core.specs.Value.{power, monomial_value, term_value, value}
+use Rattle.poly_core.specs.Value.{power, monomial_value}
 use Rattle.poly_core.specs.Subalgebra.{IsGenerator, AreGenerators}
-use Rattle.poly_core.specs.RingLaws.{coefficient_value, coefficient-append}
+use Rattle.poly_core.specs.RingLaws.{coefficient_value}
 use Rattle.poly_core.specs.SameLaws.{same_true, times_same, append_same}
 use Rattle.poly_core.specs.FallingLaws.{coefficient_first}
-use Rattle.poly_core.specs.CanonicalLaws.{canonical, IsCanonical}
-use Rattle.poly_core.specs.IdealLaws.{IsPoly-times}
+use Rattle.poly_core.specs.CanonicalLaws.{canonical}
 use Rattle.poly_core.specs.SubalgebraLaws.{IsPoly-power, IsPoly-monomial_value, ArePolys}
-use Rattle.poly_core.specs.ReducedBasisLaws.{degree_one, contains_cases, contains_none}
+use Rattle.poly_core.specs.ReducedBasisLaws.{degree_one}
 use Rattle.poly_core.specs.LeadLaws.{tail_zero}
 
-differs : (a d : ℕ) → a ≢ d → nat_eq a d ≡ false
+pub differs : (a d : ℕ) → a ≢ d → nat_eq a d ≡ false
 differs a d h = elim (nat_eq a d) as (λ b. nat_eq a d ≡ b → b ≡ false) [ true ↦ λ e. absurd (h (eqb-true a d e)) | false ↦ λ e. refl ] refl
 
 module _ {E : Type 0} where
@@ -202,7 +202,7 @@ module _ {E : Type 0} (K : FieldOps E) (F : IsField K) (O : MonomialOrder) (L : 
   AreGraded [] (f ∷ fs) = ⊥
   AreGraded (d ∷ ds) (f ∷ fs) = IsPoly K O.places f × IsGraded d f × AreGraded ds fs
 
-  polys_graded : (ds : List ℕ) (fs : List (List (Term E))) → AreGraded ds fs → ArePolys K F O.places fs
+  pub polys_graded : (ds : List ℕ) (fs : List (List (Term E))) → AreGraded ds fs → ArePolys K F O.places fs
   polys_graded ds [] h = tt
   polys_graded [] (f ∷ fs) h = absurd h
   polys_graded (d ∷ ds) (f ∷ fs) h = (h.0, polys_graded ds fs h.2)

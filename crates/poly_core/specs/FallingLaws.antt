@@ -1,16 +1,15 @@
 -- The canonical form of a polynomial is unique.
-use Rattle.std.proofs.Common.{◌≡◌, ◌≢◌, ℕ, refl, sym, ◌∙◌, ap, subst, List, [], ◌∷◌, ◌++◌, cond, Bool, true, false, ◌⊎◌, inl, inr}
-use Rattle.std.specs.Prelude.{map}
-use Rattle.std.specs.Cmp.{IsTotalOrder, tied_itself}
+use Rattle.std.proofs.Common.{◌≡◌, ℕ, refl, sym, ◌∙◌, ap, subst, List, [], ◌∷◌, cond, true, false}
+use Rattle.std.specs.Cmp.{tied_itself}
 use Rattle.std.specs.Ordering.{ordering_reverse}
 use Rattle.std.specs.declared.cmp.Ordering.{Ordering}
 use Rattle.std.specs.declared.cmp.Ordering.TheVariants.{Less, Equal, Greater}
-use Rattle.word_field.specs.Field.{FieldOps, IsField, IsValue}
+use Rattle.word_field.specs.Field.{FieldOps, IsField}
 use Rattle.word_field.specs.FieldLaws.{zero-plus, plus_cancel}
 use Rattle.monomial_order.specs.declared.Term.{Term}
 use Rattle.monomial_order.specs.MonomialOrder.{MonomialOrder, IsMonomialOrder}
-use Rattle.poly_core.specs.Poly.{same_monomial, share, coefficient, Same, term_of, IsTerm, IsPoly, IsBelow, IsLeadTerm, Falls, IsLead, lead}
-use Rattle.poly_core.specs.RingLaws.{coefficient_value, coefficient-append}
+use Rattle.poly_core.specs.Poly.{same_monomial, share, coefficient, Same, term_of, IsPoly, IsBelow, IsLeadTerm, Falls, IsLead}
+use Rattle.poly_core.specs.RingLaws.{coefficient_value}
 use Rattle.poly_core.specs.SameLaws.{same_true, same_refl}
 
 pub less_not_equal : (o : Ordering) → o ≡ Less → o ≡ Equal → ⊥

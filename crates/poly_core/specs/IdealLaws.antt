@@ -1,14 +1,13 @@
 -- The ideal is closed under sums and multiples; congruence modulo it is an equivalence that sums and products keep.
 use Rattle.std.proofs.Common.{◌≡◌, ℕ, refl, sym, ◌∙◌, ap, List, [], ◌∷◌, ◌++◌, append_assoc}
-use Rattle.std.specs.Prelude.{map, Contains}
-use Rattle.word_field.specs.Field.{FieldOps, IsField, IsValue}
-use Rattle.word_field.specs.FieldLaws.{negate-zero, plus_four}
+use Rattle.std.specs.Prelude.{map}
+use Rattle.word_field.specs.Field.{FieldOps, IsField}
 use Rattle.monomial_order.specs.declared.Term.{Term}
 use Rattle.monomial_order.specs.MonomialLaws.{IsMonomial-product}
-use Rattle.poly_core.specs.Poly.{coefficient, Same, term_of, term_times, scaled, times, negated, minus, constant, IsTerm, IsPoly}
-use Rattle.poly_core.specs.Ideal.{Multiple, AreMultiples, sum_of, InIdeal, Congruent}
-use Rattle.poly_core.specs.RingLaws.{coefficient_value, coefficient-append, times_assoc, times_plus, times_comm}
-use Rattle.poly_core.specs.SameLaws.{times_same, append_same, coefficient-negated, minus_self}
+use Rattle.poly_core.specs.Poly.{coefficient, Same, scaled, times, negated, IsTerm, IsPoly}
+use Rattle.poly_core.specs.Ideal.{Multiple, AreMultiples, sum_of, InIdeal}
+use Rattle.poly_core.specs.RingLaws.{times_assoc, times_plus}
+use Rattle.poly_core.specs.SameLaws.{times_same, append_same}
 
 module _ {E : Type 0} (K : FieldOps E) (F : IsField K) where
   pub IsPoly-append : (n : ℕ) (p q : List (Term E)) → IsPoly K n p → IsPoly K n q → IsPoly K n (p ++ q)

@@ -1,16 +1,15 @@
 -- Falling lists: their terms, their parts, and their products with a term.
-use Rattle.std.proofs.Common.{◌≡◌, ◌≢◌, ℕ, zero, suc, ◌+◌, ◌<◌, ◌≤◌, refl, sym, ◌∙◌, ap, subst, List, [], ◌∷◌, ◌++◌, length, get_or, take, drop, append-nil, append_assoc, arith, cond, Bool, true, false}
-use Rattle.std.specs.Prelude.{map, All, nat_eq}
-use Rattle.std.specs.declared.cmp.Ordering.{Ordering}
-use Rattle.std.specs.declared.cmp.Ordering.TheVariants.{Less, Equal, Greater}
+use Rattle.std.proofs.Common.{◌≡◌, ◌≢◌, ℕ, zero, suc, ◌+◌, ◌<◌, ◌≤◌, sym, ◌∙◌, subst, List, [], ◌∷◌, ◌++◌, length, get_or, arith, cond, Bool, true, false}
+use Rattle.std.specs.Prelude.{All, nat_eq}
+use Rattle.std.specs.declared.cmp.Ordering.TheVariants.{Less}
 use Rattle.word_field.specs.Field.{FieldOps, IsField, IsValue}
 use Rattle.word_field.specs.FieldLaws.{times_not_zero}
 use Rattle.monomial_order.specs.declared.Term.{Term}
-use Rattle.monomial_order.specs.Monomial.{product, IsMonomial}
+use Rattle.monomial_order.specs.Monomial.{product}
 use Rattle.monomial_order.specs.MonomialOrder.{MonomialOrder, IsMonomialOrder}
 use Rattle.monomial_order.specs.MonomialLaws.{IsMonomial-product, product_comm}
-use Rattle.poly_core.specs.Poly.{coefficient, Same, term_of, term_times, scaled, times, IsTerm, IsPoly, IsBelow, IsLeadTerm, Falls, IsSmall, IsKept, IsMeasured, AllAt, component}
-use Rattle.poly_core.specs.FallingLaws.{Falls_IsPoly, IsBelow_trans}
+use Rattle.poly_core.specs.Poly.{term_of, scaled, times, IsTerm, IsPoly, IsBelow, IsLeadTerm, Falls, IsSmall, IsKept, IsMeasured, AllAt, component}
+use Rattle.poly_core.specs.FallingLaws.{Falls_IsPoly}
 
 -- what holds of each item of a list holds of each item of its parts
 pub all_at : {A : Type 0} (P : A → Type 0) (xs : List A) (i : ℕ) (x : A) → All P xs → i < length xs → x ≡ get_or xs i x → P x

@@ -1,17 +1,14 @@
 -- The first term of a falling list, and its rest.
-use Rattle.std.proofs.Common.{◌≡◌, ◌≢◌, ℕ, zero, suc, refl, sym, ◌∙◌, ap, subst, List, [], ◌∷◌, ◌++◌, cond, Bool, true, false}
-use Rattle.std.specs.declared.cmp.Ordering.{Ordering}
-use Rattle.std.specs.declared.cmp.Ordering.TheVariants.{Less, Equal, Greater}
-use Rattle.word_field.specs.Field.{FieldOps, IsField, IsValue}
+use Rattle.std.proofs.Common.{◌≡◌, ◌≢◌, ℕ, refl, sym, ◌∙◌, ap, subst, List, [], ◌∷◌, cond, true, false}
+use Rattle.std.specs.declared.cmp.Ordering.TheVariants.{Less}
+use Rattle.word_field.specs.Field.{FieldOps, IsField}
 use Rattle.word_field.specs.FieldLaws.{zero-plus-zero, zero-plus}
 use Rattle.monomial_order.specs.declared.Term.{Term}
-use Rattle.monomial_order.specs.Monomial.{product, IsMonomial, IsTrimmed}
 use Rattle.monomial_order.specs.MonomialOrder.{MonomialOrder, IsMonomialOrder}
-use Rattle.monomial_order.specs.MonomialLaws.{product_comm, IsMonomial-product}
-use Rattle.poly_core.specs.Poly.{same_monomial, share, coefficient, Same, term_of, term_times, scaled, times, constant, IsTerm, IsPoly, IsBelow, IsLeadTerm, Falls, IsLead}
+use Rattle.poly_core.specs.Poly.{same_monomial, coefficient, IsBelow, IsLeadTerm}
 use Rattle.poly_core.specs.RingLaws.{coefficient_value}
-use Rattle.poly_core.specs.SameLaws.{same_true, same_refl, times_same}
-use Rattle.poly_core.specs.FallingLaws.{not_below_self, IsBelow_trans, Falls_IsPoly, IsLead_first, IsLead_unique, coefficient_first, coefficient_below}
+use Rattle.poly_core.specs.SameLaws.{same_true}
+use Rattle.poly_core.specs.FallingLaws.{not_below_self}
 
 module _ {E : Type 0} (K : FieldOps E) (F : IsField K) (O : MonomialOrder) (L : IsMonomialOrder O) where
   -- a monomial with a nonzero coefficient stands below what all terms are below

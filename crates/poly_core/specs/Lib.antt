@@ -18,6 +18,7 @@ pub mod CongruenceLaws
 pub mod SubalgebraLaws
 pub mod DegreeLaws
 pub mod NormalFormLaws
+pub mod SubalgebraParts
 pub mod ReducedBasisLaws
 pub mod Names
 pub mod Text

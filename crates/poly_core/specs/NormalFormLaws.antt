@@ -1,19 +1,19 @@
 -- The leads of the ideal, and normal forms modulo it.
-use Rattle.std.proofs.Common.{◌≡◌, ◌≢◌, ℕ, refl, sym, ◌∙◌, ap, subst, List, [], ◌∷◌, ◌++◌, cond, ◌⊎◌, inl, inr, ⊎_elim, append-nil, Bool, true, false}
+use Rattle.std.proofs.Common.{◌≡◌, ◌≢◌, ℕ, refl, sym, ◌∙◌, ap, subst, List, [], ◌∷◌, cond, ⊎_elim, append-nil, Bool, true, false}
 use Rattle.std.specs.Prelude.{nat_eq}
 use Rattle.std.proofs.lemmas.Bool.{eq-eqb, eqb-true}
-use Rattle.word_field.specs.Field.{FieldOps, IsField}
+use Rattle.word_field.specs.Field.{FieldOps}
 use Rattle.word_field.specs.FieldLaws.{zero-plus-zero, negate-zero}
 use Rattle.monomial_order.specs.declared.Term.{Term}
 use Rattle.monomial_order.specs.Monomial.{product, IsMonomial}
-use Rattle.monomial_order.specs.MonomialOrder.{MonomialOrder, IsMonomialOrder}
+use Rattle.monomial_order.specs.MonomialOrder.{MonomialOrder}
 use Rattle.poly_core.specs.Poly.{coefficient, Same, term_of, times, scaled, negated, minus, component, IsTerm, IsPoly, IsLead, IsHomogeneous}
-use Rattle.poly_core.specs.Ideal.{InIdeal, Congruent}
-use Rattle.poly_core.specs.Subalgebra.{Presented, IsPresentation, LeadsIdeal, IsStandard, IsNormalForm}
+use Rattle.poly_core.specs.Ideal.{InIdeal}
+use Rattle.poly_core.specs.Subalgebra.{Presented, IsPresentation, LeadsIdeal, IsNormalForm}
 use Rattle.poly_core.specs.SameLaws.{times_same}
 use Rattle.poly_core.specs.FallingLaws.{IsLead_first, IsLead_unique}
 use Rattle.poly_core.specs.CanonicalLaws.{canonical, IsCanonical, IsLead_same, zero_or_lead}
-use Rattle.poly_core.specs.IdealLaws.{IsPoly-append, IsPoly-negated, IsPoly-times, InIdeal_same, InIdeal_times}
+use Rattle.poly_core.specs.IdealLaws.{IsPoly-append, IsPoly-negated, IsPoly-times, InIdeal_times}
 use Rattle.poly_core.specs.CongruenceLaws.{coefficient-minus, minus_zero, congruent_sym, congruent_trans}
 use Rattle.poly_core.specs.KeptLaws.{Falls-scaled}
 use Rattle.poly_core.specs.DegreeLaws.{ideal_component, coefficient-component}
@@ -84,7 +84,8 @@ module _ {E : Type 0} (P : Presented E) (H : IsPresentation P) where
                   ap (λ x. coefficient P.field x n) (sym (append-nil (scaled P.field (term_of k P.field.one) (t ∷ q)))) ∙
                   times_same P.field H.field (term_of k P.field.one ∷ []) (term_of k P.field.one ∷ []) (t ∷ q) h.member (λ i. refl) c.same n
 
-IsPoly-component : {E : Type 0} (K : FieldOps E) (n : ℕ) (O : MonomialOrder) (d : ℕ) (p : List (Term E)) → IsPoly K n p → IsPoly K n (component O d p)
+-- the part of one degree is a polynomial
+pub IsPoly-component : {E : Type 0} (K : FieldOps E) (n : ℕ) (O : MonomialOrder) (d : ℕ) (p : List (Term E)) → IsPoly K n p → IsPoly K n (component O d p)
 IsPoly-component K n O d [] h = tt
 IsPoly-component K n O d (t ∷ p) h = by_test (nat_eq (O.degree t.at) d) (IsPoly-component K n O d p h.1)
   where
@@ -92,7 +93,7 @@ IsPoly-component K n O d (t ∷ p) h = by_test (nat_eq (O.degree t.at) d) (IsPol
     by_test true r = (h.0, r)
     by_test false r = r
 
--- the part of one degree, with the lead m
+-- a homogeneous member of the ideal with the lead m
 pub record HasHomogeneousLead {E : Type 0} (P : Presented E) (m : List ℕ) (a : List (Term E)) : Type 0 where
   pub poly : IsPoly P.field P.order.places a
   pub inside : InIdeal P.field P.order.places P.ideal a

@@ -1,6 +1,5 @@
 -- Polynomials as formal sums of terms: the same monomial may stand in several terms, in any order.
 use Rattle.std.specs.Prelude.{◌≡◌, ◌≢◌, ℕ, ◌≤◌, ◌⊎◌, List, [], ◌∷◌, ◌++◌, map, nat_eq, Bool, if◌then◌else◌}
-use Rattle.std.specs.declared.cmp.Ordering.{Ordering}
 use Rattle.std.specs.declared.cmp.Ordering.TheVariants.{Less}
 use lib.Pointwise.{pointwise}
 use Rattle.word_field.specs.Field.{FieldOps, IsValue}

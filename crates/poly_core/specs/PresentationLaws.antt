@@ -1,5 +1,5 @@
 -- Polynomials as the program keeps them make a presentation, and a copy presents the same.
-use Rattle.std.proofs.Common.{◌≡◌, ℕ, ◌≤◌, ◌⊎◌, sym, ap, inl, inr, ⊎_elim, List, [], ◌∷◌, map}
+use Rattle.std.proofs.Common.{◌≡◌, ℕ, sym, ap, inl, inr, ⊎_elim, List, [], ◌∷◌}
 use Rattle.word_field.specs.Field.{FieldOps, IsField}
 use Rattle.monomial_order.specs.declared.Term.{Term}
 use Rattle.monomial_order.specs.declared.weight_order.WeightOrder.{WeightOrder}
@@ -8,7 +8,7 @@ use Rattle.monomial_order.specs.Orders.{weight_order}
 use Rattle.monomial_order.specs.Ties.{tie_order}
 use Rattle.poly_core.specs.declared.presentation.Presentation.{Presentation}
 use Rattle.poly_core.specs.Poly.{coefficient, Falls, IsPoly}
-use Rattle.poly_core.specs.Subalgebra.{Presented, IsGenerator, AreGenerators, IsPresentation}
+use Rattle.poly_core.specs.Subalgebra.{IsGenerator, AreGenerators, IsPresentation}
 use Rattle.poly_core.specs.Presentation.{IsKeptGenerator, AreKeptGenerators, IsKeptList, presented, order_of, IsSame}
 
 module _ {E : Type 0} (K : FieldOps E) (O : MonomialOrder) where

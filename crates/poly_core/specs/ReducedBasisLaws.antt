@@ -1,50 +1,26 @@
 -- A reduced basis to a degree is unique.
-use Rattle.std.proofs.Common.{◌≡◌, ◌≢◌, ℕ, zero, suc, ◌+◌, ◌<◌, ◌≤◌, refl, sym, ◌∙◌, ap, subst, List, [], ◌∷◌, ◌++◌, length, arith, ◌⊎◌, inl, inr, ⊎_elim, get_or}
+use Rattle.std.proofs.Common.{◌≡◌, ◌≢◌, ℕ, ◌+◌, ◌<◌, ◌≤◌, refl, sym, ◌∙◌, ap, subst, List, [], ◌∷◌, ◌++◌, arith, ⊎_elim}
 use Rattle.std.specs.Prelude.{Contains, map}
-use Rattle.std.specs.declared.cmp.Ordering.{Ordering}
-use Rattle.std.specs.declared.cmp.Ordering.TheVariants.{Less, Equal, Greater}
-use Rattle.word_field.specs.Field.{FieldOps, IsField, IsValue}
+use Rattle.std.specs.declared.cmp.Ordering.TheVariants.{Less}
 use Rattle.word_field.specs.FieldLaws.{zero-plus-zero, negate-zero}
 use Rattle.monomial_order.specs.declared.Term.{Term}
+use Rattle.monomial_order.specs.Lists.{contains_cases, contains_here, contains_there, contains_none}
 use Rattle.monomial_order.specs.Monomial.{product}
 use Rattle.monomial_order.specs.MonomialOrder.{MonomialOrder, IsMonomialOrder}
 use Rattle.monomial_order.specs.MonomialLaws.{product_assoc, product-one}
-use Rattle.poly_core.specs.Poly.{coefficient, Same, term_of, negated, minus, IsPoly, Falls, IsLead, lead}
-use Rattle.poly_core.specs.Subalgebra.{Presented, IsPresentation, product_of, AllIn, IsGenerated, InSubalgebra, LeadsSubalgebra, IsStandard, IsElement, Rise, IsReducedBasis}
-use Rattle.poly_core.specs.SameLaws.{append_same}
+use Rattle.poly_core.specs.Poly.{coefficient, Same, negated, minus, IsLead, lead}
+use Rattle.poly_core.specs.Subalgebra.{Presented, IsPresentation, product_of, AllIn, IsGenerated, LeadsSubalgebra, IsStandard, IsElement, Rise, IsReducedBasis}
 use Rattle.poly_core.specs.FallingLaws.{Falls_IsPoly, Falls_unique, IsLead_first, not_below_self}
 use Rattle.poly_core.specs.CanonicalLaws.{zero_or_lead}
 use Rattle.poly_core.specs.CongruenceLaws.{coefficient-minus, minus_zero}
 use Rattle.poly_core.specs.IdealLaws.{IsPoly-append, IsPoly-negated}
 use Rattle.poly_core.specs.SubalgebraLaws.{sub_minus}
 
--- members of a list
-pub contains_cases : {A : Type 0} (y : A) (ys : List A) (x : A) → Contains (y ∷ ys) x → (y ≡ x) ⊎ Contains ys x
-contains_cases {A} y ys x h = by_index h.0 h.1 h.2
-  where
-    by_index : (k : ℕ) → k < length (y ∷ ys) → get_or (y ∷ ys) k x ≡ x → (y ≡ x) ⊎ Contains ys x
-    by_index zero l e = inl e
-    by_index (suc k) l e = inr (k, omega arith, e)
-
-pub contains_here : {A : Type 0} (x : A) (xs : List A) → Contains (x ∷ xs) x
-contains_here x xs = (0, omega arith, refl)
-
-pub contains_there : {A : Type 0} (y : A) (xs : List A) (x : A) → Contains xs x → Contains (y ∷ xs) x
-contains_there y xs x h = let l = h.1 in (suc h.0, omega arith, h.2)
-
-pub contains_none : {A : Type 0} (x : A) → Contains [] x → ⊥
-contains_none x h = let l = h.1 in omega arith
-
 -- a list around a member
 pub contains_split : {A : Type 0} (xs : List A) (x : A) → Contains xs x → (before : List A) × (after : List A) × (xs ≡ before ++ (x ∷ after))
 contains_split [] x h = absurd (contains_none x h)
 contains_split (y ∷ xs) x h =
     ⊎_elim (λ e. ([], xs, ap (λ z. z ∷ xs) e)) (λ k. let r = contains_split xs x k in (y ∷ r.0, r.1, ap (λ zs. y ∷ zs) r.2)) (contains_cases y xs x h)
-
-pub contains_map : {A B : Type 0} (f : A → B) (xs : List A) (x : A) → Contains xs x → Contains (map f xs) (f x)
-contains_map f [] x h = absurd (contains_none x h)
-contains_map f (y ∷ xs) x h =
-    ⊎_elim (λ e. subst (λ z. Contains (f y ∷ map f xs) (f z)) e (contains_here (f y) (map f xs))) (λ k. contains_there (f y) (map f xs) (f x) (contains_map f xs x k)) (contains_cases y xs x h)
 
 pub map_contains : {A B : Type 0} (f : A → B) (xs : List A) (b : B) → Contains (map f xs) b → (x : A) × Contains xs x × (f x ≡ b)
 map_contains f [] b h = absurd (contains_none b h)

@@ -1,13 +1,11 @@
 -- The laws of a commutative ring, up to equal coefficients.
-use Rattle.std.proofs.Common.{◌≡◌, ℕ, ◌+◌, refl, sym, ◌∙◌, ap, List, [], ◌∷◌, ◌++◌, add_comm, add_assoc}
-use Rattle.std.specs.Prelude.{map}
+use Rattle.std.proofs.Common.{◌≡◌, ℕ, refl, sym, ◌∙◌, ap, List, [], ◌∷◌, ◌++◌}
 use Rattle.word_field.specs.Field.{FieldOps, IsField, IsValue}
-use Rattle.word_field.specs.FieldLaws.{zero-plus}
 use Rattle.monomial_order.specs.declared.Term.{Term}
 use Rattle.monomial_order.specs.Monomial.{product}
 use Rattle.monomial_order.specs.MonomialLaws.{product_comm, product_assoc}
-use Rattle.poly_core.specs.Poly.{total, share, coefficient, Same, term_of, term_times, scaled, times, negated, constant}
-use Rattle.poly_core.specs.SumLaws.{total_value, total-append, total_same, total-map, total_plus, total_swap, zero-plus-total}
+use Rattle.poly_core.specs.Poly.{total, share, coefficient, Same, term_of, term_times, scaled, times}
+use Rattle.poly_core.specs.SumLaws.{total_value, total-append, total_same, total-map, total_plus, total_swap}
 
 module _ {E : Type 0} (K : FieldOps E) (F : IsField K) where
   pub coefficient_value : (p : List (Term E)) (m : List ℕ) → IsValue K (coefficient K p m)

@@ -1,13 +1,12 @@
 -- A sum over the terms that is linear in their coefficients depends on the polynomial's coefficients alone.
-use Rattle.std.proofs.Common.{◌≡◌, ◌≢◌, ℕ, zero, suc, ◌+◌, ◌≤◌, refl, sym, ◌∙◌, ap, subst, List, [], ◌∷◌, ◌++◌, length, Bool, true, false, cond, arith, eqb}
-use Rattle.std.specs.Prelude.{map}
+use Rattle.std.proofs.Common.{◌≡◌, ℕ, zero, suc, ◌≤◌, refl, sym, ◌∙◌, ap, List, [], ◌∷◌, ◌++◌, length, Bool, true, false, cond, arith}
 use lib.Pointwise.{bytes_decides}
 use Rattle.word_field.specs.Field.{FieldOps, IsField, IsValue}
 use Rattle.word_field.specs.FieldLaws.{zero-plus, plus-reduce, reduce-plus, zero-times, times-zero, plus_four, plus_swap, plus-times, plus_is_zero, negate-times, plus_cancel, zero-plus-zero, times-reduce}
 use Rattle.monomial_order.specs.declared.Term.{Term}
 use Rattle.monomial_order.specs.Monomial.{product}
-use Rattle.poly_core.specs.Poly.{same_monomial, total, share, coefficient, Same, term_of, term_times, scaled, times, negated, minus, constant}
-use Rattle.poly_core.specs.SumLaws.{total_value, total-append, total_same, total-map, total_plus, total_swap, zero-plus-total, total_times, total_zero}
+use Rattle.poly_core.specs.Poly.{same_monomial, total, share, coefficient, Same, term_times, times, negated, minus}
+use Rattle.poly_core.specs.SumLaws.{total_value, total-append, total_same, total_times}
 use Rattle.poly_core.specs.RingLaws.{coefficient_value, coefficient-append, coefficient-times, times_comm}
 
 pub same_true : (m n : List ℕ) → same_monomial m n ≡ true → m ≡ n

@@ -1,18 +1,17 @@
 -- The subalgebra is closed under sums, products and congruence.
-use Rattle.std.proofs.Common.{◌≡◌, ℕ, zero, suc, ◌+◌, ◌<◌, ◌≤◌, refl, sym, ◌∙◌, ap, List, [], ◌∷◌, ◌++◌, length, arith}
-use Rattle.word_field.specs.Field.{FieldOps, IsField, IsValue}
+use Rattle.std.proofs.Common.{ℕ, zero, suc, refl, sym, ◌∙◌, ap, List, [], ◌∷◌, ◌++◌, length, arith}
+use Rattle.word_field.specs.Field.{FieldOps, IsField}
 use Rattle.word_field.specs.FieldLaws.{negate-times}
 use Rattle.monomial_order.specs.declared.Term.{Term}
-use Rattle.monomial_order.specs.MonomialOrder.{MonomialOrder, IsMonomialOrder}
-use Rattle.poly_core.specs.Poly.{coefficient, Same, term_of, times, negated, minus, constant, IsTerm, IsPoly}
-use Rattle.poly_core.specs.Ideal.{InIdeal, Congruent}
+use Rattle.poly_core.specs.Poly.{coefficient, Same, times, negated, minus, constant, IsPoly}
+use Rattle.poly_core.specs.Ideal.{Congruent}
 use Rattle.poly_core.specs.Value.{power, monomial_value, value}
-use Rattle.poly_core.specs.Subalgebra.{Presented, IsPresentation, IsGenerator, AreGenerators, InSubalgebra}
-use Rattle.poly_core.specs.RingLaws.{coefficient_value, coefficient-append}
-use Rattle.poly_core.specs.SameLaws.{times_same, times_same_left, append_same, coefficient-negated, negated_same}
-use Rattle.poly_core.specs.ValueLaws.{value-append, value-times, value_same, coefficient-constant_times}
+use Rattle.poly_core.specs.Subalgebra.{Presented, IsPresentation, AreGenerators, InSubalgebra}
+use Rattle.poly_core.specs.RingLaws.{coefficient-append}
+use Rattle.poly_core.specs.SameLaws.{coefficient-negated}
+use Rattle.poly_core.specs.ValueLaws.{value-append, value-times, coefficient-constant_times}
 use Rattle.poly_core.specs.IdealLaws.{IsPoly-append, IsPoly-negated, IsPoly-times}
-use Rattle.poly_core.specs.CongruenceLaws.{congruent_same, congruent_refl, congruent_sym, congruent_trans, congruent_plus, congruent_times, congruent_negated, negated_is, times-negated}
+use Rattle.poly_core.specs.CongruenceLaws.{congruent_same, congruent_trans, congruent_plus, congruent_times, congruent_negated}
 
 module _ {E : Type 0} (K : FieldOps E) (F : IsField K) where
   pub IsPoly-one : (n : ℕ) → IsPoly K n (constant K K.one)

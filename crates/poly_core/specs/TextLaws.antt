@@ -1,5 +1,5 @@
 -- Which polynomials have a text.
-use Rattle.std.proofs.Common.{◌≡◌, ◌≢◌, ℕ, zero, suc, ◌<◌, ◌≤◌, List, [], ◌∷◌, length, refl, arith, IsSome, rules}
+use Rattle.std.proofs.Common.{◌≢◌, ℕ, zero, suc, ◌<◌, List, [], ◌∷◌, length, refl, arith, IsSome, rules}
 use Rattle.std.specs.Prelude.{slice_get}
 use Rattle.word_field.specs.Field.{FieldOps}
 use Rattle.monomial_order.specs.declared.Term.{Term}
@@ -7,7 +7,7 @@ use Rattle.monomial_order.specs.Monomial.{IsMonomial, exponent}
 use Rattle.monomial_order.specs.MonomialOrder.{MonomialOrder}
 use Rattle.poly_core.specs.declared.names.Names.{Names}
 use Rattle.poly_core.specs.declared.names.Names.TheVariants.{Listed, Numbered, Paired}
-use Rattle.poly_core.specs.Names.{name_at, IsNamed, AreNames}
+use Rattle.poly_core.specs.Names.{IsNamed, AreNames}
 use Rattle.poly_core.specs.Poly.{Falls}
 use Rattle.poly_core.specs.Text.{AreValues, AreNamed}
 

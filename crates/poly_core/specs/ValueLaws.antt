@@ -1,14 +1,13 @@
 -- A value is a homomorphism in the polynomial.
-use Rattle.std.proofs.Common.{◌≡◌, ℕ, zero, suc, ◌+◌, ◌*◌, refl, sym, ◌∙◌, ap, List, [], ◌∷◌, ◌++◌, cond, Bool, true, false, append_assoc, arith}
-use Rattle.std.specs.Prelude.{map}
-use Rattle.word_field.specs.Field.{FieldOps, IsField, IsValue}
+use Rattle.std.proofs.Common.{◌≡◌, ℕ, zero, suc, ◌+◌, refl, sym, ◌∙◌, ap, List, [], ◌∷◌, ◌++◌, cond, Bool, true, false, append_assoc, arith}
+use Rattle.word_field.specs.Field.{FieldOps, IsField}
 use Rattle.word_field.specs.FieldLaws.{times-zero, one-times}
 use Rattle.monomial_order.specs.declared.Term.{Term}
 use Rattle.monomial_order.specs.Monomial.{product}
-use Rattle.poly_core.specs.Poly.{same_monomial, total, share, coefficient, Same, term_of, term_times, scaled, times, negated, minus, constant}
+use Rattle.poly_core.specs.Poly.{same_monomial, total, share, coefficient, Same, term_of, term_times, scaled, times, constant}
 use Rattle.poly_core.specs.Value.{power, monomial_value, term_value, value}
-use Rattle.poly_core.specs.SumLaws.{total_value, total-append, total_same, total-map, total_times, zero-plus-total}
-use Rattle.poly_core.specs.RingLaws.{coefficient_value, coefficient-append, coefficient-times, times_comm, times_assoc, times_plus}
+use Rattle.poly_core.specs.SumLaws.{total_same, total-map, total_times}
+use Rattle.poly_core.specs.RingLaws.{coefficient_value, coefficient-append, times_comm, times_assoc, times_plus}
 use Rattle.poly_core.specs.SameLaws.{weighed, weighed_same, times_same, times_same_left, append_same}
 
 append-nil : {A : Type 0} (xs : List A) → xs ++ [] ≡ xs

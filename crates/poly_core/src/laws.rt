@@ -70,11 +70,12 @@ pub fn normal_form_laws<F: Field>()
     ensures unique { (P : Presented F.Elem) (a b c : List (Term F.Elem)) → IsPresentation P → IsNormalForm P a b → IsNormalForm P a c → Same P.field b c }
 {}
 
-/// A subalgebra is closed under sums and products.
+/// A subalgebra is closed under sums, products and degree parts.
 pub fn subalgebra_laws<F: Field>()
     ensures sums { (P : Presented F.Elem) (a b : List (Term F.Elem)) → IsPresentation P → InSubalgebra P a → InSubalgebra P b → InSubalgebra P (a ++ b) }
     ensures products { (P : Presented F.Elem) (a b : List (Term F.Elem)) → IsPresentation P → IsPoly P.field P.order.places a →
         InSubalgebra P a → InSubalgebra P b → InSubalgebra P (times P.field a b) }
+    ensures parts { (P : Presented F.Elem) (d : ℕ) (a : List (Term F.Elem)) → IsPresentation P → InSubalgebra P a → InSubalgebra P (component P.order d a) }
 {}
 
 /// For each presentation and degree at most one list is the reduced basis.

@@ -7,5 +7,7 @@ pub mod poly;
 pub mod presentation;
 mod products;
 mod sums;
+#[cfg(test)]
+mod tests;
 pub mod text;
 mod values;

@@ -1,8 +1,8 @@
-use Rattle.std.proofs.Common.{◌≡◌, ℕ, List, [], ◌∷◌, length, arith, refl, sym, ap, ◌∙◌, subst, inr, ⊎_elim}
-use Rattle.monomial_order.specs.Monomial.{IsTrimmed, product}
+use Rattle.std.proofs.Common.{◌≡◌, ◌≢◌, ℕ, ◌-◌, List, [], ◌∷◌, length, arith, refl, sym, ap, ◌∙◌, subst, inr, ⊎_elim}
+use Rattle.monomial_order.specs.Monomial.{exponent, IsTrimmed, product}
 use Rattle.poly_core.specs.Subalgebra.{IsGenerated}
 use Rattle.monomial_basis.specs.Products.{Waits, IsQuotient}
-use Rattle.monomial_basis.proofs.Dividing.{found_more, product_cancel, divides_product, generated_more, generated_one, quotient_monomial, quotient_is, some_waits}
+use Rattle.monomial_basis.proofs.Dividing.{found_more, product_cancel, divides_product, generated_more, generated_one, quotient_monomial, quotient_is, some_place, last_exponent, some_waits}
 use Rattle.monomial_basis.proofs.products.divide.Goals as goal
 use Rattle.monomial_basis.proofs.products.divide.Goals.{in-Some+else-places-eq0+in_ok-add, in_default}
 
@@ -42,8 +42,8 @@ loop-factor-preserved g c = elim c.match-branch-2.branch [
             (w.add.ensures.others e k (subst (λ v. Waits v.items e k) w.waiting-is h));
         found = found_more c.args.factors.now c.loop-factor.factor-index c.factor-item.result c.args.m.now
             (λ r. Waits c.loop-factor.waiting.items (O.degree r) r) (λ r. Waits c.match-branch-2.waiting.items (O.degree r) r)
-            (omega arith) c.factor-item.is (λ r h. kept (O.degree r) r h)
-            (λ r t e. subst (λ x. Waits c.match-branch-2.waiting.items (O.degree x) x) (product_cancel c.factor-item.result w.in-Some.quotient r trimmed t (is ∙ sym e))
+            (λ f. exponent f (c.places-place.result - 1) ≢ 0) (omega arith) c.factor-item.is (λ r h. kept (O.degree r) r h)
+            (λ r t _ e. subst (λ x. Waits c.match-branch-2.waiting.items (O.degree x) x) (product_cancel c.factor-item.result w.in-Some.quotient r trimmed t (is ∙ sym e))
             (subst (λ x. Waits c.match-branch-2.waiting.items x w.in-Some.quotient) w.degree-degree.ensures (subst (λ v. Waits v.items w.degree-degree.result w.in-Some.quotient) (sym w.waiting-is) w.in_ok-add.ensures.has)))
             c.loop-factor.invariant.found;
       }
@@ -56,12 +56,20 @@ loop-factor-preserved g c = elim c.match-branch-2.branch [
         others = λ e k h. c.loop-factor.invariant.others e k (subst (λ v. Waits v.items e k) w.waiting-is h);
         found = found_more c.args.factors.now c.loop-factor.factor-index c.factor-item.result c.args.m.now
             (λ r. Waits c.loop-factor.waiting.items (O.degree r) r) (λ r. Waits c.match-branch-2.waiting.items (O.degree r) r)
-            (omega arith) c.factor-item.is (λ r h. kept (O.degree r) r h)
-            (λ r t e. absurd ((rw w.in_default.is at c.in_ok-quotient.ensures.none) refl (divides_product c.factor-item.result r c.args.m.now e)))
+            (λ f. exponent f (c.places-place.result - 1) ≢ 0) (omega arith) c.factor-item.is (λ r h. kept (O.degree r) r h)
+            (λ r t u e. absurd ((rw w.in_default.is at c.in_ok-quotient.ensures.none) refl u (divides_product c.factor-item.result r c.args.m.now e)))
             c.loop-factor.invariant.found;
       }
 ]
 
+pub overflow_sub-place : goal.overflow_sub-place
+overflow_sub-place g c =
+    let l = some_place (g.O.Order.order c.args.o.now) (g.met.O.Order.laws c.args.o.now) c.args.factors.now c.requires.factors c.args.m.now c.requires.positive in
+    omega (arith, c.places-place.ensures.length)
+
 pub returns-clause-no : goal.returns-clause-no
-returns-clause-no g c = λ _. some_waits (g.O.Order.order c.args.o.now) (g.met.O.Order.laws c.args.o.now) c.args.factors.now c.requires.factors c.args.m.now c.loop-factor.waiting.items c.requires.positive
-    (λ i r l t e. c.loop-factor.invariant.found i r (omega (arith, c.loop-factor-test.false, c.loop-factor.auto.factor-index-end)) t e)
+returns-clause-no g c =
+    let l = some_place (g.O.Order.order c.args.o.now) (g.met.O.Order.laws c.args.o.now) c.args.factors.now c.requires.factors c.args.m.now c.requires.positive in
+    λ _. some_waits (g.O.Order.order c.args.o.now) (g.met.O.Order.laws c.args.o.now) c.args.factors.now c.requires.factors c.args.m.now (c.places-place.result - 1) c.loop-factor.waiting.items
+    (last_exponent c.args.m.now (c.places-place.result - 1) c.requires.monomial.trimmed (omega (arith, c.places-place.ensures.length)))
+    (λ i r l t u e. c.loop-factor.invariant.found i r (omega (arith, c.loop-factor-test.false, c.loop-factor.auto.factor-index-end)) t u e)

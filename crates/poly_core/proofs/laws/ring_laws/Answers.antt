@@ -1,4 +1,4 @@
-use Rattle.std.proofs.Common.{refl, ap, append_assoc, append-nil}
+use Rattle.std.proofs.Common.{ap, append_assoc, append-nil}
 use Rattle.poly_core.specs.Poly.{coefficient}
 use Rattle.poly_core.specs.RingLaws.{times_comm, times_assoc, times_plus}
 use Rattle.poly_core.specs.SameLaws.{append_comm, minus_self}

@@ -1,4 +1,4 @@
-use Rattle.std.proofs.Common.{refl, ap, sym, ◌∙◌, append-nil}
+use Rattle.std.proofs.Common.{ap}
 use Rattle.poly_core.specs.Poly.{coefficient}
 use Rattle.poly_core.specs.ValueLaws.{value_same, value-append, value-times, value-constant}
 use Rattle.poly_core.proofs.laws.value_is_homomorphism.Goals as goal

@@ -1,4 +1,4 @@
-use Rattle.std.proofs.Common.{◌≡◌, ◌<◌, ◌≤◌, ◌+◌, ◌/◌, arith, subst, sym, ◌++◌}
+use Rattle.std.proofs.Common.{◌≡◌, arith, subst, sym, ◌++◌}
 use Rattle.poly_core.specs.Poly.{term_of, scaled, times, IsKept, Same}
 use Rattle.poly_core.proofs.Steps.{if_ok, single, kept_one, kept_front, kept_back, small_front, small_back, halves}
 use Rattle.poly_core.proofs.products.+multiply_by_halves.Goals as goal

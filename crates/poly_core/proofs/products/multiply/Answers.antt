@@ -1,4 +1,4 @@
-use Rattle.std.proofs.Common.{◌≡◌, ◌∙◌}
+use Rattle.std.proofs.Common.{◌∙◌}
 use Rattle.poly_core.specs.Poly.{times, Same}
 use Rattle.poly_core.specs.RingLaws.{times_comm}
 use Rattle.poly_core.specs.KeptLaws.{small_swap}

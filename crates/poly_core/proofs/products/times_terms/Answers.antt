@@ -1,4 +1,4 @@
-use Rattle.std.proofs.Common.{◌≡◌, ◌<◌, ◌≤◌, arith}
+use Rattle.std.proofs.Common.{arith}
 use Rattle.monomial_order.specs.MonomialLaws.{product_fits}
 use Rattle.word_field.specs.Field.{IsValue}
 use Rattle.poly_core.specs.Poly.{term_of, IsMeasured}

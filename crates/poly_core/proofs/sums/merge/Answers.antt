@@ -1,4 +1,4 @@
-use Rattle.std.proofs.Common.{◌≡◌, ◌<◌, ◌≤◌, ◌+◌, ◌-◌, ◌++◌, [], length, arith, sym, subst, ap, ◌∙◌, vec_len}
+use Rattle.std.proofs.Common.{◌-◌, ◌++◌, arith, sym, subst, ◌∙◌, vec_len}
 use Rattle.std.proofs.lemmas.Bool.{true≢false}
 use Rattle.std.specs.Prelude.{reverse}
 use Rattle.poly_core.specs.Poly.{IsMeasured}

@@ -1,4 +1,4 @@
-use Rattle.std.proofs.Common.{◌≡◌, ◌<◌, ◌≤◌, ◌+◌, arith, ap, sym, subst, ◌∙◌, take}
+use Rattle.std.proofs.Common.{◌≡◌, ◌+◌, arith, ap, sym, subst, ◌∙◌, take}
 use Rattle.poly_core.specs.Poly.{IsMeasured, term_of, component}
 use Rattle.poly_core.specs.KeptLaws.{all_at}
 use Rattle.poly_core.proofs.Steps.{component_more, component_skip}

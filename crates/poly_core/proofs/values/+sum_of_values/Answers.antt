@@ -1,4 +1,4 @@
-use Rattle.std.proofs.Common.{◌≡◌, ◌≤◌, ◌<◌, ◌++◌, length, arith}
+use Rattle.std.proofs.Common.{◌++◌, arith}
 use Rattle.poly_core.specs.Poly.{Same}
 use Rattle.poly_core.specs.Value.{value, term_value}
 use Rattle.poly_core.proofs.Steps.{if_ok, single}

@@ -1,5 +1,5 @@
-use Rattle.std.proofs.Common.{◌≡◌, ◌≤◌, ◌∷◌, ◌++◌, [], arith, sym, ap, subst, ◌∙◌, refl, List}
-use Rattle.poly_core.specs.Poly.{term_of, constant, coefficient, AllAt, IsKept, Same}
+use Rattle.std.proofs.Common.{◌≤◌, ◌∷◌, ◌++◌, [], arith, sym, ap, subst, ◌∙◌, refl}
+use Rattle.poly_core.specs.Poly.{term_of, constant, AllAt, IsKept, Same}
 use Rattle.poly_core.specs.ReducedBasisLaws.{degree_one}
 use Rattle.poly_core.proofs.Merging.{told_differ, told_same}
 use Rattle.poly_core.proofs.Calls.{kept_constant, zero_constant}

@@ -1,4 +1,4 @@
-use Rattle.std.proofs.Common.{◌≡◌, ◌≤◌, ◌<◌, ◌+◌, length, arith}
+use Rattle.std.proofs.Common.{arith}
 use Rattle.poly_core.proofs.Evaluating.{place_degrees}
 use Rattle.poly_core.proofs.values.power_table.Goals as goal
 

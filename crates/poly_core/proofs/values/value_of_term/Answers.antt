@@ -1,6 +1,6 @@
-use Rattle.std.proofs.Common.{◌≡◌, ◌≤◌, ◌<◌, ◌-◌, ◌+◌, length, arith, sym, ap, subst, ◌∙◌}
+use Rattle.std.proofs.Common.{◌≡◌, ◌-◌, arith, sym, ap, subst, ◌∙◌}
 use Rattle.poly_core.specs.Poly.{coefficient, IsKept, IsSmall, times}
-use Rattle.poly_core.proofs.Evaluating.{IsPartial, partial_at_end, place_skipped, place_kept, place_power, place_small, place_multiplied}
+use Rattle.poly_core.proofs.Evaluating.{partial_at_end, place_skipped, place_power, place_small, place_multiplied}
 use Rattle.poly_core.proofs.values.value_of_term.Goals as goal
 
 pub places-init : goal.places-init

@@ -1,4 +1,4 @@
-use Rattle.std.proofs.Common.{◌≡◌, ap, sym, ◌∙◌, subst}
+use Rattle.std.proofs.Common.{ap, sym, ◌∙◌, subst}
 use Rattle.std.specs.Prelude.{All}
 use Rattle.poly_core.specs.Poly.{component, IsKept, IsComponent, IsMeasured}
 use Rattle.poly_core.specs.KeptLaws.{kept_measured, kept_component}

@@ -1,4 +1,4 @@
-use Rattle.std.proofs.Common.{◌≡◌, sym, subst}
+use Rattle.std.proofs.Common.{sym, subst}
 use Rattle.poly_core.specs.Poly.{IsDegree}
 use Rattle.poly_core.proofs.Calls.{first_degree}
 use Rattle.poly_core.proofs.poly.Poly.degree.Goals as goal

@@ -3,7 +3,7 @@ use Rattle.std.specs.Prelude.{All}
 use Rattle.std.proofs.lemmas.Bool.{true≢false}
 use Rattle.std.proofs.lemmas.List.{take_all}
 use Rattle.std.proofs.lemmas.List.Elements.{All-more}
-use Rattle.poly_core.specs.Poly.{IsMeasured, IsZeroOrHomogeneous}
+use Rattle.poly_core.specs.Poly.{IsMeasured}
 use Rattle.poly_core.specs.KeptLaws.{all_at, kept_measured}
 use Rattle.poly_core.proofs.Calls.{one_degree, two_degrees}
 use Rattle.poly_core.proofs.poly.Poly.is_homogeneous.Goals as goal

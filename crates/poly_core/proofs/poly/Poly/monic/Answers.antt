@@ -1,4 +1,4 @@
-use Rattle.std.proofs.Common.{refl, ◌≡◌, ◌≢◌, [], ◌∷◌, ap, sym, ◌∙◌, subst}
+use Rattle.std.proofs.Common.{refl, [], ap, sym, ◌∙◌, subst}
 use Rattle.std.specs.Prelude.{All}
 use Rattle.word_field.specs.Field.{IsValue}
 use Rattle.poly_core.specs.Poly.{coefficient, first_coefficient, term_of, scaled, IsKept}

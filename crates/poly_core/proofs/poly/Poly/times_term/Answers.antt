@@ -1,4 +1,4 @@
-use Rattle.std.proofs.Common.{◌≡◌, [], ap, sym, ◌∙◌, subst}
+use Rattle.std.proofs.Common.{ap, sym, ◌∙◌, subst}
 use Rattle.poly_core.specs.Poly.{coefficient, term_of, scaled, IsKept}
 use Rattle.poly_core.specs.KeptLaws.{Falls-scaled}
 use Rattle.poly_core.proofs.Calls.{zero_scaled, told_unequal}

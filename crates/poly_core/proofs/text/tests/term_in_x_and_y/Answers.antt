@@ -1,4 +1,4 @@
-use Rattle.std.proofs.Common.{◌≡◌, ◌∙◌, sym, subst, [], ◌∷◌, arith}
+use Rattle.std.proofs.Common.{◌∙◌, sym, subst, [], ◌∷◌, arith}
 use Rattle.word_field.specs.Field.{IsValue}
 use Rattle.word_field.specs.Residues.{residues}
 use Rattle.word_field.specs.ResidueLaws.{residues_field}

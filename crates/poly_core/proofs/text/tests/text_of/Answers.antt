@@ -1,4 +1,4 @@
-use Rattle.std.proofs.Common.{◌≡◌, sym, subst}
+use Rattle.std.proofs.Common.{sym, subst}
 use Rattle.word_field.specs.Residues.{residues}
 use Rattle.poly_core.specs.Text.{AreValues, AreNamed}
 use Rattle.poly_core.proofs.Texts.{values_last, named_last}

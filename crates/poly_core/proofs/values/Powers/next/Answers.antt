@@ -1,5 +1,5 @@
-use Rattle.std.proofs.Common.{◌≡◌, ◌≤◌, ◌+◌, ◌*◌, length, arith, sym, ap, subst, ◌∙◌, ℕ}
-use Rattle.poly_core.specs.Poly.{coefficient, degree_of, IsKept, IsSmall, Same, times}
+use Rattle.std.proofs.Common.{◌≡◌, ◌≤◌, ◌+◌, ◌*◌, length, arith, sym, ap, subst, ◌∙◌}
+use Rattle.poly_core.specs.Poly.{coefficient, degree_of, IsKept, IsSmall, times}
 use Rattle.poly_core.specs.Powers.{IsPowerOf}
 use Rattle.poly_core.proofs.Evaluating.{power_found, next_small, next_power}
 use Rattle.poly_core.proofs.values.Powers.next.Goals as goal
