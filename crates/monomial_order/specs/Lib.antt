@@ -12,3 +12,4 @@ pub mod Ranges
 pub mod Ties
 pub mod TieLaws
 pub mod Faults
+pub mod Words
