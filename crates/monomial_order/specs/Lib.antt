@@ -13,3 +13,7 @@ pub mod Ties
 pub mod TieLaws
 pub mod Faults
 pub mod Words
+pub mod Deciding
+pub mod ImageLaws
+pub mod WordLaws
+pub mod ReducibleLaws

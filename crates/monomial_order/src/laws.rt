@@ -1,9 +1,11 @@
 //! Laws of monomials and of their orders. No call does anything: each contract is the law.
-ghost use Rattle.std.specs.Prelude.{◌≡◌, ◌≢◌, ◌<◌, ◌⊎◌, List, ℕ, []};
+ghost use Rattle.std.specs.Prelude.{◌≡◌, ◌≢◌, ◌<◌, ◌⊎◌, ◌↔◌, List, ℕ, [], length};
 ghost use Rattle.std.specs.declared.cmp.Ordering.TheVariants.{Less};
 ghost use Rattle.monomial_order.specs.Monomial.{Divides, IsMonomial, IsTrimmed, least_common_multiple, product};
 ghost use Rattle.monomial_order.specs.MonomialOrder.{HasSmallDegrees, IsMonomialOrder};
 ghost use Rattle.monomial_order.specs.Boxes.{rank};
+ghost use Rattle.monomial_order.specs.Words.{image_of, order_of, AreLetters, IsLeast, IsMinimalReducible, IsReducible, IsSWord, IsSmaller, IsWord, Letters};
+ghost use Rattle.monomial_order.specs.ReducibleLaws.{IsMultiple};
 
 use crate::Order;
 
@@ -45,4 +47,28 @@ pub fn order_laws<O: Order>(order: &O)
 /// The rank of a monomial falls with the monomial, so nothing falls for ever.
 pub fn rank_falls<O: Order>(order: &O)
     ensures { (k m : List ℕ) → IsMonomial (O.order order.now).places k → (O.order order.now).compare k m ≡ Less → rank (O.order order.now) k < rank (O.order order.now) m }
+{}
+
+/// Words: their order, their images and their divisors.
+pub fn word_laws()
+    ensures order { (L : Letters) → AreLetters L → IsMonomialOrder (order_of L) }
+    ensures image { (L : Letters) → AreLetters L → (w : List ℕ) → IsMonomial (length L.degrees) (image_of L w) }
+    ensures image_product { (L : Letters) → AreLetters L → (v w : List ℕ) → image_of L (product v w) ≡ product (image_of L v) (image_of L w) }
+    ensures degree { (L : Letters) → AreLetters L → (w : List ℕ) → (order_of L).degree (image_of L w) ≡ (order_of L).degree w }
+    ensures divisor { (L : Letters) → AreLetters L → (v w : List ℕ) → IsWord L v → IsSWord L w → Divides v w → IsSWord L v }
+    ensures smaller { (L : Letters) → AreLetters L → (v w : List ℕ) → IsSWord L w → IsSmaller L w v → IsSWord L v }
+{}
+
+/// Each word has a least word with its image, and one only.
+pub fn least_word_laws()
+    ensures exists { (L : Letters) → AreLetters L → (w : List ℕ) → IsWord L w → (v : List ℕ) × IsLeast L (image_of L w) v }
+    ensures unique { (L : Letters) → AreLetters L → (m u v : List ℕ) → IsLeast L m u → IsLeast L m v → u ≡ v }
+    ensures of_s_words { (L : Letters) → AreLetters L → (m u v : List ℕ) → IsLeast L m v → IsSWord L u → image_of L u ≡ m → IsSWord L v }
+{}
+
+/// Reducible words are the multiples of the minimal ones; here the multiples of a list count as zero.
+pub fn reducible_word_laws()
+    ensures decided { (zeros : List (List ℕ)) (L : Letters) → AreLetters L → (w : List ℕ) → IsWord L w → IsReducible (IsMultiple zeros) L w ⊎ (IsReducible (IsMultiple zeros) L w → ⊥) }
+    ensures multiples { (zeros : List (List ℕ)) (L : Letters) → AreLetters L → (k w : List ℕ) → IsWord L k → IsWord L w → IsReducible (IsMultiple zeros) L w → IsReducible (IsMultiple zeros) L (product k w) }
+    ensures minimal { (zeros : List (List ℕ)) (L : Letters) → AreLetters L → (w : List ℕ) → IsWord L w → IsReducible (IsMultiple zeros) L w ↔ ((u : List ℕ) × IsMinimalReducible (IsMultiple zeros) L u × Divides u w) }
 {}
