@@ -129,6 +129,23 @@ impl<F: Field> Poly<F> {
         Ok(Poly { terms })
     }
 
+    /// The sum of two polynomials that are given up for it, so that nothing is copied.
+    pub fn add_taking<O: Order>(
+        alloc: Global,
+        f: &F,
+        o: &O,
+        a: Poly<F>,
+        b: Poly<F>,
+    ) -> Result<Poly<F>, Memory>
+        requires a { IsKept (F.ops f.now) (O.order o.now) a }
+        requires b { IsKept (F.ops f.now) (O.order o.now) b }
+        ensures kept { IfOk result (IsKept (F.ops f.now) (O.order o.now)) }
+        ensures sum { IfOk result (λ r. Same (F.ops f.now) r (a ++ b)) }
+    {
+        let terms = merge(alloc, f, o, a.terms, b.terms)?;
+        Ok(Poly { terms })
+    }
+
     /// The difference.
     pub fn sub<O: Order>(
         alloc: Global,

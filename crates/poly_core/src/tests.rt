@@ -169,6 +169,17 @@ fn sums_and_multiples(rt: HostRuntime) -> Result<(), Fail> {
 }
 
 #[test]
+fn sums_that_take_their_summands(rt: HostRuntime) -> Result<(), Fail> {
+    let alloc = rt.alloc();
+    let f = WordField::new(101).ok_or("a listed size")?;
+    let o = lex_in_degree(alloc)?;
+    let a = sum_of(&rt, alloc, &f, &o, &[(1, 0, 1), (1, 1, 0)])?;
+    let b = sum_of(&rt, alloc, &f, &o, &[(100, 1, 0)])?;
+    assert_terms(&rt, &Poly::add_taking(alloc, &f, &o, a, b)?, &[(1, 0, 1)]);
+    Ok(())
+}
+
+#[test]
 fn products_and_values(rt: HostRuntime) -> Result<(), Fail> {
     let alloc = rt.alloc();
     let f = WordField::new(101).ok_or("a listed size")?;
