@@ -1,0 +1,12 @@
+pub mod Tests
+pub mod Members
+pub mod Skipping
+pub mod LetterLemmas
+pub mod LeastWords
+pub mod RisingLists
+pub mod Images
+pub mod FindingWords
+pub mod Degrees
+pub mod TableSteps
+pub mod Pairs
+pub mod OtherLeads

@@ -1,0 +1,15 @@
+use Rattle.std.proofs.Common.{◌≡◌, [], ap, arith}
+use Rattle.monomial_order.specs.Comparing.{degree_one}
+use Rattle.monomial_order.specs.Words.{order_of}
+use Rattle.monomial_order.specs.WordLaws.{word_laws}
+use Rattle.toric_ideal.specs.Alphabet.{letters_of}
+use Rattle.toric_ideal.proofs.LetterLemmas.{alphabet_letters}
+use Rattle.toric_ideal.proofs.table.Table.next_words.Goals as goal
+
+pub find-requires-clause-degree : goal.find-requires-clause-degree
+find-requires-clause-degree c =
+    let a = c.args.self.now.alphabet in
+    let L = letters_of a in
+    let o = degree_one (order_of L) (word_laws L (alphabet_letters a c.requires.listed.alphabet)) in
+    let e : (order_of L).degree c.one.result.word ≡ (order_of L).degree [] = ap (order_of L).degree c.one.ensures.word in
+    omega arith

@@ -1,0 +1,15 @@
+use Rattle.std.proofs.Common.{subst, arith}
+use Rattle.monomial_order.specs.WordLaws.{degree_x, image_same}
+use Rattle.monomial_order.specs.ReducibleLaws.{IsMultiple}
+use Rattle.toric_ideal.proofs.words.tests.least.Goals as goal
+
+pub least-requires-clause-degree : goal.least-requires-clause-degree
+least-requires-clause-degree g c =
+    let e = degree_x c.args.words.now.letters c.leads-leads.ensures.kept.letters c.args.m.now c.in_ok-_degree.ensures.monomial in
+    let l = c.in_ok-_degree.ensures.listed in
+    let d = c.in_ok-_degree.ensures.degree in
+    omega arith
+
+pub returns-clause-standard : goal.returns-clause-standard
+returns-clause-standard g c s =
+    subst (λ m. ¬ IsMultiple c.args.words.now.zeros m) (image_same c.args.words.now.letters c.leads-leads.ensures.kept.letters c.args.m.now c.in_ok-_degree.ensures.monomial) (c.in_ok-least.ensures.standard s)

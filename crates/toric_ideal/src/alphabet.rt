@@ -1,0 +1,47 @@
+//! The letters of words.
+ghost use Rattle.std.specs.Prelude.{◌≡◌, true, IfOk};
+ghost use Rattle.monomial_order.specs.Ranges.{all_between};
+ghost use Rattle.toric_ideal.specs.Alphabet.{IsAlphabet};
+ghost use Rattle.toric_ideal.specs.Leads.{AreLeads};
+
+use crate::growing::copy_monomials;
+use monomial_order::{Memory, Monomial, Order, WordOrder};
+use std::alloc::Global;
+
+/// The letters x_1, .., x_n, and s_1, .., s_r for the leads. Each s has the degree of its lead.
+#[derive(Drop)]
+pub(crate) struct Alphabet {
+    pub(crate) order: WordOrder,
+    pub(crate) leads: Vec<Monomial>,
+}
+
+impl Alphabet {
+    pub(crate) fn new(
+        alloc: Global,
+        x_degrees: &[u32],
+        leads: Vec<Monomial>,
+    ) -> Result<Alphabet, Memory>
+        requires degrees { all_between 1 30000 x_degrees.now ≡ true }
+        requires leads { AreLeads x_degrees.now leads.items }
+        ensures degrees { IfOk result (λ a. a.order.x_degrees.items ≡ x_degrees.now) }
+        ensures leads { IfOk result (λ a. a.leads.items ≡ leads.items) }
+        ensures alphabet { IfOk result IsAlphabet }
+    {
+        let mut order = WordOrder::new(alloc, x_degrees)?;
+        'leads: for lead in &leads {
+            let degree = order.degree(lead);
+            order.push_place(degree)?;
+        }
+        Ok(Alphabet { order, leads })
+    }
+
+    pub(crate) fn copy(&self, alloc: Global) -> Result<Alphabet, Memory>
+        requires { IsAlphabet self.now }
+        ensures degrees { IfOk result (λ a. a.order.x_degrees.items ≡ self.now.order.x_degrees.items) }
+        ensures leads { IfOk result (λ a. a.leads.items ≡ self.now.leads.items) }
+        ensures alphabet { IfOk result IsAlphabet }
+    {
+        let leads = copy_monomials(alloc, self.leads.as_slice())?;
+        Alphabet::new(alloc, self.order.x_degrees.as_slice(), leads)
+    }
+}
