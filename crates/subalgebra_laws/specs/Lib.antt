@@ -1,0 +1,4 @@
+pub mod Words
+pub mod Bases
+pub mod Statements
+pub mod Samples
