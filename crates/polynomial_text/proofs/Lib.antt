@@ -1,0 +1,10 @@
+pub mod CanonicalReading
+pub mod LineAlong
+pub mod LineDigits
+pub mod LineFronts
+pub mod LineParts
+pub mod LinePlaces
+pub mod LinePowers
+pub mod LineReading
+pub mod LineSums
+pub mod LineTerms

@@ -1,0 +1,10 @@
+pub mod Blanks
+pub mod Canonical
+pub mod CanonicalFactors
+pub mod CanonicalParts
+pub mod CanonicalPoly
+pub mod CanonicalTerms
+pub mod Digits
+pub mod LineReading
+pub mod PolyLine
+pub mod Results

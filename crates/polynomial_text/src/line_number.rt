@@ -1,0 +1,51 @@
+//! Numbers and exponents in a polynomial line.
+ghost use Rattle.std.specs.Prelude.{◌≡◌, ◌≤◌, length, true};
+ghost use Rattle.std.specs.List.{list_all};
+ghost use Rattle.std.specs.Str.Parse.{digits_value};
+ghost use Rattle.polynomial_text.specs.Digits.{is_digit};
+ghost use Rattle.polynomial_text.specs.PolyLine.{number_at, exponent_at};
+ghost use Rattle.polynomial_text.specs.LineReading.{Gives};
+
+use crate::line_bytes::{behind_blanks, digits};
+use crate::line_fault::LineFault;
+use crate::text_kind::TextKind;
+
+/// The number that at most 18 digits are.
+pub fn value(digits: &[u8]) -> u64
+    requires digits { list_all is_digit digits.now ≡ true }
+    requires short { length digits.now ≤ 18 }
+    ensures { result ≡ digits_value 10 digits.now }
+{
+    let mut value = 0;
+    for d in digits {
+        value = value * 10 + u64::from(*d - b'0');
+    }
+    value
+}
+
+/// The number at the front, and what stands behind it.
+#[tactic(auto, unfolding(crate::specs::PolyLine::number_at))]
+pub(crate) fn number_at(bytes: &[u8]) -> Result<(u64, &[u8]), LineFault>
+    ensures { Gives (λ x. (x.0, x.1.now)) result (number_at bytes.now) }
+{
+    let (digits, rest) = digits(bytes);
+    if digits.is_empty() {
+        return Err(LineFault::Kind(TextKind::PolySyntax));
+    }
+    if digits.len() > 18 {
+        return Err(LineFault::Kind(TextKind::NumberTooLong));
+    }
+    Ok((value(digits), rest))
+}
+
+/// The exponent behind a name, and what stands behind it.
+#[tactic(auto, unfolding(crate::specs::PolyLine::exponent_at))]
+pub(crate) fn exponent_at(bytes: &[u8]) -> Result<(u64, &[u8]), LineFault>
+    ensures { Gives (λ x. (x.0, x.1.now)) result (exponent_at bytes.now) }
+{
+    let rest = behind_blanks(bytes);
+    match rest {
+        [b'^', raised @ ..] => number_at(behind_blanks(raised)),
+        _ => Ok((1, rest)),
+    }
+}

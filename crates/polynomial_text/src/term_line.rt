@@ -1,0 +1,149 @@
+//! Terms in a polynomial line.
+ghost use Rattle.std.specs.Prelude.{◌≡◌, ◌≤◌, ◌<◌, ◌+◌, ◌*◌, ◌&&◌, ℕ, [], nat_le, if◌then◌else◌, IfOk};
+ghost use Rattle.word_field.specs.Field.{IsValue};
+ghost use Rattle.monomial_order.specs.Monomial.{IsMonomial, product};
+ghost use Rattle.poly_core.specs.Poly.{term_times};
+ghost use Rattle.polynomial_text.specs.Canonical.{AreDifferent};
+ghost use Rattle.polynomial_text.specs.PolyLine.{power, with_factor, term_at};
+ghost use Rattle.polynomial_text.specs.LineReading.{Gives, factor_term, bounded, low, IsFactor, IsSmallMonomial, IsSmallTerm};
+
+use crate::factor::{Factor, factor_at};
+use crate::line_bytes::{are_blanks, behind_blanks};
+use crate::line_fault::LineFault;
+use crate::line_parts::{SignedText, factor_part};
+use crate::text_kind::TextKind;
+use monomial_order::{Memory, Monomial, Order, Term};
+use poly_core::names::Names;
+use std::alloc::Global;
+use word_field::Field;
+
+/// The power of the variable at a place.
+fn power(alloc: Global, place: usize, exponent: u16) -> Result<Monomial, Memory>
+    ensures { IfOk result (λ m. m ≡ power place exponent) }
+{
+    let mut exponents = Vec::new(alloc);
+    exponents.resize(place, 0)?;
+    exponents.push(exponent)?;
+    Monomial::from_places(alloc, &exponents)
+}
+
+/// Whether the product of a monomial with a power of the variable at a place has a degree of at most 30000.
+fn is_low<O: Order>(
+    alloc: Global,
+    o: &O,
+    m: &Monomial,
+    place: usize,
+    exponent: u64,
+) -> Result<bool, Memory>
+    requires monomial { IsSmallMonomial (O.order o.now) m.now }
+    requires place { place < (O.order o.now).places }
+    ensures { IfOk result (λ b. b ≡ nat_le ((O.order o.now).degree (product m.now (power place exponent))) 30000) }
+{
+    if exponent > 30000 {
+        return Ok(false);
+    }
+    let variable = power(alloc, place, 1)?;
+    let raised = exponent * u64::from(o.degree(&variable));
+    Ok(u64::from(o.degree(m)) + raised <= 30000)
+}
+
+/// The product with a power of the variable at a place.
+#[tactic(auto, unfolding(crate::specs::LineReading::low))]
+fn times_power<O: Order>(
+    alloc: Global,
+    o: &O,
+    m: Monomial,
+    place: usize,
+    exponent: u64,
+) -> Result<Monomial, LineFault>
+    requires monomial { IsSmallMonomial (O.order o.now) m }
+    requires place { 1 ≤ exponent → place < (O.order o.now).places }
+    ensures read { Gives (λ x. x) result (low (O.order o.now) (product m (power place exponent))) }
+    ensures small { IfOk result (IsSmallMonomial (O.order o.now)) }
+{
+    if exponent == 0 {
+        return Ok(m);
+    }
+    if !is_low(alloc, o, &m, place, exponent)? {
+        return Err(LineFault::Kind(TextKind::DegreeTooLarge));
+    }
+    let raised = power(alloc, place, exponent as u16)?;
+    Ok(m.times(alloc, &raised)?)
+}
+
+/// The product with a factor.
+#[tactic(auto, unfolding(crate::specs::LineReading::low, crate::specs::LineReading::bounded))]
+fn times_factor<F: Field, O: Order>(
+    alloc: Global,
+    f: &F,
+    o: &O,
+    t: Term<F::Elem>,
+    x: Factor<F::Elem>,
+) -> Result<Term<F::Elem>, LineFault>
+    requires term { IsSmallTerm (F.ops f.now) (O.order o.now) t }
+    requires factor { IsFactor (F.ops f.now) (O.order o.now) x }
+    ensures read { Gives (λ u. u) result (bounded (O.order o.now) (term_times (F.ops f.now) t (factor_term x))) }
+    ensures small { IfOk result (IsSmallTerm (F.ops f.now) (O.order o.now)) }
+{
+    let by = f.mul(t.by, x.by);
+    let at = times_power(alloc, o, t.at, x.place, x.exponent)?;
+    Ok(Term { at, by })
+}
+
+/// The product of a term and the factor that a part is.
+#[tactic(auto, unfolding(crate::specs::LineReading::bounded, crate::specs::PolyLine::with_factor))]
+fn with_factor<F: Field, O: Order>(
+    alloc: Global,
+    f: &F,
+    o: &O,
+    names: &Names,
+    t: Term<F::Elem>,
+    part: &[u8],
+) -> Result<Term<F::Elem>, LineFault>
+    requires names { AreDifferent (O.order o.now).places names.now }
+    requires term { IsSmallTerm (F.ops f.now) (O.order o.now) t }
+    ensures read { Gives (λ u. u) result (with_factor (F.ops f.now) (O.order o.now) names.now t part.now) }
+    ensures small { IfOk result (IsSmallTerm (F.ops f.now) (O.order o.now)) }
+{
+    let (factor, rest) = factor_at(f, o, names, behind_blanks(part))?;
+    let t = times_factor(alloc, f, o, t, factor)?;
+    if !are_blanks(rest) {
+        return Err(LineFault::Kind(TextKind::PolySyntax));
+    }
+    Ok(t)
+}
+
+/// One, or minus one.
+fn sign<F: Field>(alloc: Global, f: &F, minus: bool) -> Term<F::Elem>
+    ensures at { result.at ≡ [] }
+    ensures by { result.by ≡ (if minus then (F.ops f.now).negate (F.ops f.now).one else (F.ops f.now).one) }
+{
+    let by = if minus { f.neg(f.one()) } else { f.one() };
+    Term {
+        at: Monomial::one(alloc),
+        by,
+    }
+}
+
+/// The product of the factors of a part, with its sign.
+pub(crate) fn term_at<F: Field, O: Order>(
+    alloc: Global,
+    f: &F,
+    o: &O,
+    names: &Names,
+    minus: bool,
+    text: &[u8],
+) -> Result<Term<F::Elem>, LineFault>
+    requires { AreDifferent (O.order o.now).places names.now }
+    ensures read { Gives (λ u. u) result (term_at (F.ops f.now) (O.order o.now) names.now (minus, text.now)) }
+    ensures small { IfOk result (IsSmallTerm (F.ops f.now) (O.order o.now)) }
+{
+    let mut t = sign(alloc, f, minus);
+    let mut rest = Some(text);
+    while let Some(text) = rest {
+        let (part, behind) = factor_part(text);
+        t = with_factor(alloc, f, o, names, t, part)?;
+        rest = behind;
+    }
+    Ok(t)
+}

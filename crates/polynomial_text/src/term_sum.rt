@@ -1,0 +1,77 @@
+//! Sums of many terms.
+ghost use Rattle.std.specs.Prelude.{◌≡◌, ◌++◌, ◌∷◌, ◌≤◌, [], length, IfOk, OnOk, IsNone, IfSome};
+ghost use Rattle.poly_core.specs.Poly.{IsKept, Same};
+ghost use Rattle.polynomial_text.specs.LineReading.{AreKept, IsSmallTerm, terms_together};
+
+use monomial_order::{Memory, Order, Term};
+use poly_core::poly::Poly;
+use std::alloc::Global;
+use word_field::Field;
+
+/// The last polynomial of a list, where it has at most so many terms.
+fn take_short<F: Field>(stack: &mut Vec<Poly<F>>, most: usize) -> Option<Poly<F>>
+    ensures none { IsNone result → stack.new.items ≡ stack.old.items }
+    ensures some { IfSome result (λ p. stack.old.items ≡ stack.new.items ++ (p ∷ [])) }
+{
+    match stack.last() {
+        Some(p) if p.terms().len() <= most => stack.pop(),
+        _ => None,
+    }
+}
+
+/// Puts a polynomial at the end, and sums it up before with those that stand there and are not more than twice as long
+/// as what is put. So each is more than twice as long as the next, and each term takes part in few sums.
+fn push_poly<F: Field, O: Order>(
+    alloc: Global,
+    f: &F,
+    o: &O,
+    stack: &mut Vec<Poly<F>>,
+    p: Poly<F>,
+) -> Result<(), Memory>
+    requires stack { AreKept (F.ops f.now) (O.order o.now) stack.old.items }
+    requires p { IsKept (F.ops f.now) (O.order o.now) p }
+    ensures kept { OnOk result (AreKept (F.ops f.now) (O.order o.now) stack.new.items) }
+    ensures sum { OnOk result (Same (F.ops f.now) (terms_together stack.new.items) (terms_together stack.old.items ++ p)) }
+{
+    let mut sum = p;
+    while let Some(below) = take_short(stack, sum.terms().len().saturating_mul(2)) {
+        sum = Poly::add_taking(alloc, f, o, below, sum)?;
+    }
+    stack.push(sum)?;
+    Ok(())
+}
+
+/// Puts a term at the end.
+pub(crate) fn push_term<F: Field, O: Order>(
+    alloc: Global,
+    f: &F,
+    o: &O,
+    stack: &mut Vec<Poly<F>>,
+    t: Term<F::Elem>,
+) -> Result<(), Memory>
+    requires stack { AreKept (F.ops f.now) (O.order o.now) stack.old.items }
+    requires term { IsSmallTerm (F.ops f.now) (O.order o.now) t }
+    ensures kept { OnOk result (AreKept (F.ops f.now) (O.order o.now) stack.new.items) }
+    ensures sum { OnOk result (Same (F.ops f.now) (terms_together stack.new.items) (terms_together stack.old.items ++ (t ∷ []))) }
+{
+    let p = Poly::term(alloc, f, t.at, t.by)?;
+    push_poly(alloc, f, o, stack, p)
+}
+
+/// The sum of polynomials, the last ones first.
+pub(crate) fn total<F: Field, O: Order>(
+    alloc: Global,
+    f: &F,
+    o: &O,
+    mut stack: Vec<Poly<F>>,
+) -> Result<Poly<F>, Memory>
+    requires { AreKept (F.ops f.now) (O.order o.now) stack.items }
+    ensures kept { IfOk result (IsKept (F.ops f.now) (O.order o.now)) }
+    ensures sum { IfOk result (λ p. Same (F.ops f.now) p (terms_together stack.items)) }
+{
+    let mut sum = Poly::zero(alloc);
+    while let Some(p) = stack.pop() {
+        sum = Poly::add_taking(alloc, f, o, p, sum)?;
+    }
+    Ok(sum)
+}
