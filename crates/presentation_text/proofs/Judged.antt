@@ -1,0 +1,161 @@
+-- What is judged on a sum of terms is so for the polynomial that is the sum.
+use Rattle.std.proofs.Common.{◌≡◌, ◌≢◌, inl, inr, ℕ, ◌≤◌, Bool, true, false, not, cond, eqb, ◌&&◌, ◌||◌, List, [], ◌∷◌, map, filter, Ok, Err, refl, sym, ap, subst, ◌∙◌, arith, eq-eqb}
+use Rattle.std.specs.List.{list_all, list_any, AllByRecursion}
+use Rattle.std.proofs.lemmas.Bool.{eqb-true}
+use Rattle.word_field.specs.Residues.{residues, is_listed}
+use Rattle.word_field.specs.ResidueLaws.{residues_field}
+use Rattle.monomial_order.specs.declared.Term.{Term}
+use Rattle.monomial_order.specs.MonomialOrder.{MonomialOrder, IsMonomialOrder}
+use Rattle.poly_core.specs.Poly.{coefficient, AllAt, IsKept, IsDegree, IsZeroOrHomogeneous}
+use Rattle.poly_core.specs.FallingLaws.{coefficient_first}
+use Rattle.poly_core.specs.DegreeLaws.{all_found}
+use Rattle.poly_core.specs.Presentation.{IsKeptGenerator}
+use Rattle.polynomial_text.specs.declared.text_kind.TextKind.{TextKind}
+use Rattle.polynomial_text.specs.declared.text_kind.TextKind.TheVariants.{NotHomogeneous}
+use Rattle.presentation_text.specs.Judging.{degrees, is_one_degree, judged}
+use Rattle.presentation_text.specs.KeptSums.{IsSumOf}
+
+-- ---- lists of degrees
+
+all_one : (d : ℕ) (ds : List ℕ) → AllByRecursion (λ e. e ≡ d) ds → is_one_degree ds ≡ true
+all_one d [] all = refl
+all_one d (e ∷ ds) all = rest ds all.1
+  where
+    rest : (fs : List ℕ) → AllByRecursion (λ f. f ≡ d) fs → list_all (eqb e) fs ≡ true
+    rest [] h = refl
+    rest (f ∷ fs) h = let same : eqb e f ≡ true = eq-eqb e f (all.0 ∙ sym h.0) in rw (same, rest fs h.1) refl
+
+and_parts : (a b : Bool) → (a && b) ≡ true → (a ≡ true) × (b ≡ true)
+and_parts true b e = (refl, e)
+and_parts false b e = absurd cc
+
+one_of : (ds : List ℕ) → is_one_degree ds ≡ true → (d : ℕ) × AllByRecursion (λ e. e ≡ d) ds
+one_of [] e = (0, tt)
+one_of (d ∷ ds) e = (d, (refl, rest ds e))
+  where
+    rest : (fs : List ℕ) → list_all (eqb d) fs ≡ true → AllByRecursion (λ f. f ≡ d) fs
+    rest [] h = tt
+    rest (f ∷ fs) h = let k = and_parts (eqb d f) (list_all (eqb d) fs) h in (sym (eqb-true d f k.0), rest fs k.1)
+
+none_zero : (ds : List ℕ) → AllByRecursion (λ e. e ≢ 0) ds → list_any (λ d. eqb d 0) ds ≡ false
+none_zero [] all = refl
+none_zero (d ∷ ds) all = let other : eqb d 0 ≡ false = differs d all.0 in rw (other, none_zero ds all.1) refl
+  where
+    differs : (d : ℕ) → d ≢ 0 → eqb d 0 ≡ false
+    differs d h = elim (eqb d 0) as (λ t. eqb d 0 ≡ t → t ≡ false) [ true ↦ λ e. absurd (h (eqb-true d 0 e)) | false ↦ λ e. refl ] refl
+
+zero_none : (ds : List ℕ) → list_any (λ d. eqb d 0) ds ≡ false → AllByRecursion (λ e. e ≢ 0) ds
+zero_none [] h = tt
+zero_none (d ∷ ds) h = let k = or_parts (eqb d 0) (list_any (λ e. eqb e 0) ds) h in (λ z. let yes : eqb d 0 ≡ true = eq-eqb d 0 z in absurd (clash (sym yes ∙ k.0)), zero_none ds k.1)
+  where
+    or_parts : (a b : Bool) → (a || b) ≡ false → (a ≡ false) × (b ≡ false)
+    or_parts true b e = absurd cc
+    or_parts false b e = (refl, e)
+
+    clash : true ≡ false → ⊥
+    clash e = absurd cc
+
+module _ (n : ℕ) (listed : is_listed n ≡ true) (O : MonomialOrder) (L : IsMonomialOrder O) (sum : List (Term ℕ)) where
+  -- the monomial has a coefficient in the sum
+  abbrev stands : Term ℕ → Bool
+  stands t = not (eqb (coefficient (residues n) sum t.at) 0)
+
+  stays : (t : Term ℕ) → coefficient (residues n) sum t.at ≢ 0 → stands t ≡ true
+  stays t h = elim (eqb (coefficient (residues n) sum t.at) 0) as (λ b. eqb (coefficient (residues n) sum t.at) 0 ≡ b → not b ≡ true) [ true ↦ λ e. absurd (h (eqb-true _ 0 e)) | false ↦ λ e. refl ] refl
+
+  stood : (t : Term ℕ) → stands t ≡ true → coefficient (residues n) sum t.at ≢ 0
+  stood t h z = let yes : eqb (coefficient (residues n) sum t.at) 0 ≡ true = eq-eqb _ 0 z in let no : not true ≡ true = subst (λ (b : Bool). not b ≡ true) yes h in absurd cc
+
+  -- what holds of each degree holds of the degree of each monomial with a coefficient
+  every : (Q : ℕ → Type 0) → AllByRecursion Q (degrees n O sum) → (m : List ℕ) → coefficient (residues n) sum m ≢ 0 → Q (O.degree m)
+  every Q all m c = all_found (residues n) (residues_field n listed) O L (λ k. coefficient (residues n) sum k ≢ 0 → Q (O.degree k)) sum (each sum all) m c c
+    where
+      each : (q : List (Term ℕ)) → AllByRecursion Q (map (λ t. O.degree t.at) (filter stands q)) → AllAt (λ k. coefficient (residues n) sum k ≢ 0 → Q (O.degree k)) q
+      each [] h = tt
+      each (t ∷ q) h = by (stands t) refl (each q) h
+        where
+          by : (b : Bool) → stands t ≡ b → (AllByRecursion Q (map (λ t. O.degree t.at) (filter stands q)) → AllAt (λ k. coefficient (residues n) sum k ≢ 0 → Q (O.degree k)) q)
+              → AllByRecursion Q (map (λ t. O.degree t.at) (cond b (t ∷ filter stands q) (filter stands q))) → (coefficient (residues n) sum t.at ≢ 0 → Q (O.degree t.at)) × AllAt (λ k. coefficient (residues n) sum k ≢ 0 → Q (O.degree k)) q
+          by true is rest k = (λ c. k.0, rest k.1)
+          by false is rest k = (λ c. let yes : true ≡ false = sym (stays t c) ∙ is in absurd cc, rest k)
+
+  -- and the other way round
+  of_each : (Q : ℕ → Type 0) → ((m : List ℕ) → coefficient (residues n) sum m ≢ 0 → Q (O.degree m)) → AllByRecursion Q (degrees n O sum)
+  of_each Q each = along sum
+    where
+      along : (q : List (Term ℕ)) → AllByRecursion Q (map (λ t. O.degree t.at) (filter stands q))
+      along [] = tt
+      along (t ∷ q) = by (stands t) refl (along q)
+        where
+          by : (b : Bool) → stands t ≡ b → AllByRecursion Q (map (λ t. O.degree t.at) (filter stands q)) → AllByRecursion Q (map (λ t. O.degree t.at) (cond b (t ∷ filter stands q) (filter stands q)))
+          by true is rest = (each t.at (stood t is), rest)
+          by false is rest = rest
+
+  module _ (p : List (Term ℕ)) (s : IsSumOf (residues n) O p sum) where
+    in_poly : (m : List ℕ) → coefficient (residues n) sum m ≢ 0 → coefficient (residues n) p m ≢ 0
+    in_poly m c z = c (sym (s.same m) ∙ z)
+
+    in_sum : (m : List ℕ) → coefficient (residues n) p m ≢ 0 → coefficient (residues n) sum m ≢ 0
+    in_sum m c z = c (s.same m ∙ z)
+
+    one_degree : IsZeroOrHomogeneous (residues n) O p → is_one_degree (degrees n O sum) ≡ true
+    unfolding coefficient
+    one_degree (inl none) = all_one 0 (degrees n O sum) (of_each (λ e. e ≡ 0) (λ m c. absurd (in_poly m c (none m))))
+    one_degree (inr (d, same)) = all_one d (degrees n O sum) (of_each (λ e. e ≡ d) (λ m c. same.each m (in_poly m c)))
+
+    is_homogeneous : IsKept (residues n) O p → is_one_degree (degrees n O sum) ≡ true → IsZeroOrHomogeneous (residues n) O p
+    is_homogeneous kept e = let one = one_of (degrees n O sum) e in by p kept refl one.0 (λ m c. every (λ k. k ≡ one.0) one.1 m (in_sum m c))
+      where
+        by : (q : List (Term ℕ)) → IsKept (residues n) O q → q ≡ p → (d : ℕ) → ((m : List ℕ) → coefficient (residues n) p m ≢ 0 → O.degree m ≡ d) → IsZeroOrHomogeneous (residues n) O p
+        by [] k same d each = inl (λ m. ap (λ (r : List (Term ℕ)). coefficient (residues n) r m) (sym same))
+        by (t ∷ q) k same d each =
+            let first : coefficient (residues n) (t ∷ q) t.at ≢ 0 = λ z. k.falls.0.nonzero (sym (coefficient_first (residues n) (residues_field n listed) O L t q k.falls.0) ∙ z) in
+            inr (d, record { some = (t.at, subst (λ (r : List (Term ℕ)). coefficient (residues n) r t.at ≢ 0) same first); each = each })
+
+    pub judged_mixed : (constant : TextKind) → IsKept (residues n) O p → (IsZeroOrHomogeneous (residues n) O p → ⊥) → judged n O constant sum ≡ Err NotHomogeneous
+    unfolding judged
+    judged_mixed constant kept mixed =
+        let other : is_one_degree (degrees n O sum) ≡ false =
+        elim (is_one_degree (degrees n O sum)) as (λ b. is_one_degree (degrees n O sum) ≡ b → b ≡ false) [ true ↦ λ e. absurd (mixed (is_homogeneous kept e)) | false ↦ λ e. refl ] refl in
+        rw other refl
+
+    judged_ok : (constant : TextKind) → is_one_degree (degrees n O sum) ≡ true → AllByRecursion (λ e. e ≢ 0) (degrees n O sum) → judged n O constant sum ≡ Ok sum
+    unfolding judged
+    judged_ok constant one positive = rw (one, none_zero (degrees n O sum) positive) refl
+
+    pub judged_zero : (constant : TextKind) → p ≡ [] → judged n O constant sum ≡ Ok sum
+    unfolding coefficient
+    judged_zero constant zero =
+        let none : (m : List ℕ) → coefficient (residues n) p m ≡ 0 = λ m. ap (λ (r : List (Term ℕ)). coefficient (residues n) r m) zero in
+        judged_ok constant (one_degree (inl none)) (of_each (λ e. e ≢ 0) (λ m c. absurd (in_poly m c (none m))))
+
+    -- each monomial of a homogeneous polynomial has its greatest degree
+    has_degree : (d : ℕ) → IsZeroOrHomogeneous (residues n) O p → IsDegree (residues n) O d p → (m : List ℕ) → coefficient (residues n) p m ≢ 0 → O.degree m ≡ d
+    unfolding coefficient
+    has_degree d (inl none) greatest m c = absurd (c (none m))
+    has_degree d (inr (e, same)) greatest m c = same.each m c ∙ sym (same.each greatest.some.0 greatest.some.1) ∙ greatest.some.2
+
+    pub judged_positive : (constant : TextKind) (d : ℕ) → IsZeroOrHomogeneous (residues n) O p → IsDegree (residues n) O d p → d ≢ 0 → judged n O constant sum ≡ Ok sum
+    judged_positive constant d same greatest positive =
+        judged_ok constant (one_degree same) (of_each (λ e. e ≢ 0) (λ m c z. positive (sym (has_degree d same greatest m (in_poly m c)) ∙ z)))
+
+    pub judged_constant : (constant : TextKind) (d : ℕ) → IsZeroOrHomogeneous (residues n) O p → IsDegree (residues n) O d p → d ≡ 0 → judged n O constant sum ≡ Err constant
+    unfolding judged
+    judged_constant constant d same greatest zero =
+        let there : list_any (λ e. eqb e 0) (degrees n O sum) ≡ true =
+        elim (list_any (λ e. eqb e 0) (degrees n O sum)) as (λ b. list_any (λ e. eqb e 0) (degrees n O sum) ≡ b → b ≡ true) [
+          | true ↦ λ e. refl
+          | false ↦ λ e. absurd (every (λ k. k ≢ 0) (zero_none (degrees n O sum) e) greatest.some.0 (in_sum greatest.some.0 greatest.some.1) (greatest.some.2 ∙ zero))
+        ] refl in
+        rw (one_degree same, there) refl
+
+    pub kept_zero : IsKept (residues n) O p → p ≡ [] → IsKeptGenerator (residues n) O p
+    kept_zero kept zero = record { kept = kept; homogeneous = inl zero }
+
+    pub kept_positive : (d : ℕ) → IsKept (residues n) O p → IsZeroOrHomogeneous (residues n) O p → IsDegree (residues n) O d p → d ≢ 0 → IsKeptGenerator (residues n) O p
+    kept_positive d kept same greatest positive =
+        let low : O.degree greatest.some.0 ≤ 30000 = all_found (residues n) (residues_field n listed) O L (λ m. O.degree m ≤ 30000) sum s.small greatest.some.0 (in_sum greatest.some.0 greatest.some.1) in
+        record {
+          kept = kept;
+          homogeneous = inr (d, omega (arith, positive), omega (arith, low, greatest.some.2), record { some = (greatest.some.0, greatest.some.1); each = has_degree d same greatest });
+        }

@@ -1,0 +1,11 @@
+pub mod Giving
+pub mod Heading
+pub mod Judging
+pub mod KeptSums
+pub mod Lines
+pub mod Meaning
+pub mod Numbers
+pub mod Pending
+pub mod PresentationText
+pub mod Reading
+pub mod Taking

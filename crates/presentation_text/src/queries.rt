@@ -1,0 +1,39 @@
+//! Reading query files.
+ghost use Rattle.std.specs.Prelude.{◌≤◌, IfOk, IfErr, length};
+ghost use Rattle.poly_core.specs.Presentation.{IsValid, order_of};
+ghost use Rattle.presentation_text.specs.Meaning.{text_max, AreQueries, IsFaultOf};
+ghost use Rattle.presentation_text.specs.Reading.{queries};
+
+use crate::lines::Lines;
+use crate::located::located;
+use crate::text_fault::TextFault;
+use monomial_order::WeightOrder;
+use poly_core::poly::Poly;
+use poly_core::presentation::Presentation;
+use polynomial_text::poly_line::read_poly;
+use std::alloc::Global;
+use word_field::Field;
+
+/// The polynomials of a text, one on each line that is not skipped, or the first fault of the text.
+pub fn read_polys<F: Field>(
+    alloc: Global,
+    p: &Presentation<F, WeightOrder>,
+    bytes: &[u8],
+) -> Result<Vec<Poly<F>>, TextFault>
+    requires valid { IsValid F.ops order_of p.now }
+    requires short { length bytes.now ≤ text_max }
+    ensures accepted { IfOk result (λ polys. AreQueries (F.ops p.now.field) (order_of p.now.order) p.now.names bytes.now polys.items) }
+    ensures refused { IfErr result (IsFaultOf (queries (F.ops p.now.field) (order_of p.now.order) p.now.names bytes.now)) }
+{
+    let mut lines = Lines::new(bytes);
+    let mut polys = Vec::new(alloc);
+    while let Ok(line) = lines.next_due() {
+        let read = read_poly(alloc, &p.field, &p.order, &p.names, line.bytes);
+        let poly = located(line.number, read)?;
+        polys.push(poly)?;
+    }
+    Ok(polys)
+}
+
+#[cfg(test)]
+mod tests;

@@ -1,0 +1,125 @@
+//! Reading presentations.
+ghost use Rattle.std.specs.Prelude.{◌≡◌, ◌≤◌, [], length, map, Ok, IfOk, IfErr};
+ghost use Rattle.word_field.specs.Residues.{residues};
+ghost use Rattle.poly_core.specs.Names.{AreNames};
+ghost use Rattle.poly_core.specs.Presentation.{IsKeptGenerator, AreKeptGenerators, generator_degree, order_of};
+ghost use Rattle.presentation_text.specs.Giving.{Gives, head_of};
+ghost use Rattle.presentation_text.specs.Heading.{closing_line};
+ghost use Rattle.presentation_text.specs.KeptSums.{AreListsIn, IsMadeOf, lists};
+ghost use Rattle.presentation_text.specs.Meaning.{text_max, IsRead, IsFaultOf};
+ghost use Rattle.presentation_text.specs.Reading.{next, ended, reading};
+
+use crate::head::Head;
+use crate::heading::closing_line;
+use crate::lines::Lines;
+use crate::located::{due_line, located};
+use crate::opening::read_head;
+use crate::polys::counted;
+use crate::text_fault::TextFault;
+use monomial_order::{Memory, Order, WeightOrder, WordOrder};
+use poly_core::poly::Poly;
+use poly_core::presentation::Presentation;
+use polynomial_text::text_kind::TextKind;
+use std::alloc::Global;
+use word_field::WordField;
+
+fn closing(lines: &mut Lines) -> Result<(), TextFault>
+    ensures missing { lines.new.missing ≡ lines.old.missing }
+    ensures read { Gives (λ _. ([], lines.new.due)) result (next lines.old.missing closing_line lines.old.due) }
+{
+    let line = due_line(lines)?;
+    located(line.number, closing_line(line.bytes))
+}
+
+/// The last due line.
+#[tactic(auto, unfolding(crate::specs::Reading::ended))]
+fn ended(lines: &mut Lines) -> Result<(), TextFault>
+    ensures { Gives (λ _. []) result (ended lines.old.missing lines.old.due) }
+{
+    closing(lines)?;
+    match lines.next_due() {
+        Ok(line) => Err(TextFault::At {
+            kind: TextKind::TextAfterEnd,
+            line: line.number,
+        }),
+        Err(_) => Ok(()),
+    }
+}
+
+/// The degree of the letter of a generator.
+fn generator_degree(h: &Head, p: &Poly<WordField>) -> u32
+    requires { IsKeptGenerator (residues h.now.field.modulus) (order_of h.now.order) p.now }
+    ensures degree { result ≡ generator_degree (order_of h.now.order) p.now }
+    ensures positive { 1 ≤ result }
+    ensures small { result ≤ 30000 }
+{
+    match p.lead() {
+        Some(first) => h.order.degree(&first.at),
+        None => 1,
+    }
+}
+
+/// The order of the words in the generators.
+fn gen_order(alloc: Global, h: &Head, generators: &[Poly<WordField>]) -> Result<WordOrder, Memory>
+    requires { AreKeptGenerators (residues h.now.field.modulus) (order_of h.now.order) generators.now }
+    ensures x { IfOk result (λ o. o.x_degrees.items ≡ []) }
+    ensures s { IfOk result (λ o. o.s_degrees.items ≡ map (generator_degree (order_of h.now.order)) generators.now) }
+{
+    let mut order = WordOrder::new(alloc, &[])?;
+    for p in generators {
+        order.push_place(generator_degree(h, p))?;
+    }
+    Ok(order)
+}
+
+/// The ideal and the generators, up to the end.
+fn lists(
+    alloc: Global,
+    h: &Head,
+    lines: &mut Lines,
+) -> Result<(Vec<Poly<WordField>>, Vec<Poly<WordField>>), TextFault>
+    requires { AreNames (length h.now.order.weights.items) h.now.names }
+    ensures read { IfOk result (λ x. AreListsIn (residues h.now.field.modulus) (order_of h.now.order) (λ sums. lists lines.old.missing (head_of h.now) lines.old.due ≡ Ok sums) x.0.items x.1.items) }
+    ensures fault { IfErr result (IsFaultOf (lists lines.old.missing (head_of h.now) lines.old.due)) }
+{
+    let ideal = counted(alloc, h, b"ideal", TextKind::UnitIdeal, lines)?;
+    let generators = counted(alloc, h, b"generators", TextKind::ConstantGenerator, lines)?;
+    ended(lines)?;
+    Ok((ideal, generators))
+}
+
+/// The presentation of what was read.
+fn presentation(
+    alloc: Global,
+    head: Head,
+    ideal: Vec<Poly<WordField>>,
+    generators: Vec<Poly<WordField>>,
+) -> Result<Presentation<WordField, WeightOrder>, Memory>
+    requires { AreKeptGenerators (residues head.field.modulus) (order_of head.order) generators.items }
+    ensures { IfOk result (IsMadeOf head ideal.items generators.items) }
+{
+    let gen_order = gen_order(alloc, &head, generators.as_slice())?;
+    Ok(Presentation {
+        field: head.field,
+        order: head.order,
+        names: head.names,
+        ideal,
+        generators,
+        gen_order,
+    })
+}
+
+/// The presentation of a text, or the first fault of the text.
+pub fn read(alloc: Global, bytes: &[u8]) -> Result<Presentation<WordField, WeightOrder>, TextFault>
+    requires { length bytes.now ≤ text_max }
+    ensures accepted { IfOk result (IsRead bytes.now) }
+    ensures refused { IfErr result (IsFaultOf (reading bytes.now)) }
+{
+    let mut lines = Lines::new(bytes);
+    let head = read_head(alloc, &mut lines)?;
+    let (ideal, generators) = lists(alloc, &head, &mut lines)?;
+    Ok(presentation(alloc, head, ideal, generators)?)
+}
+
+#[cfg(test)]
+mod tests;
