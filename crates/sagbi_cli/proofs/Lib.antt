@@ -1,12 +1,5 @@
-pub mod Built
 pub mod Decimal
-pub mod Loops
-pub mod Names
-pub mod Numbers
-pub mod Parts
-pub mod Powers
+pub mod Due
 pub mod Printable
 pub mod Printing
 pub mod Putting
-pub mod Reporting
-pub mod Whole

@@ -1,25 +1,21 @@
--- The report of a presentation to a degree.
-use Rattle.std.specs.Prelude.{◌≡◌, ℕ, List, [], length, replicate}
+-- The report of a text to a degree.
+use Rattle.std.specs.Prelude.{◌≡◌, ℕ, List}
 use Rattle.word_field.specs.Residues.{residues}
+use Rattle.word_field.specs.declared.WordField.{WordField}
 use Rattle.monomial_order.specs.declared.Term.{Term}
-use Rattle.monomial_order.specs.MonomialOrder.{MonomialOrder}
-use Rattle.monomial_order.specs.Orders.{weight_order, lex}
-use Rattle.poly_core.specs.declared.names.Names.TheVariants.{Listed}
-use Rattle.poly_core.specs.Subalgebra.{Presented, IsReducedBasis}
-use Rattle.sagbi_cli.specs.Accepted.{IsMonomialPresentation, as_polys}
+use Rattle.monomial_order.specs.declared.weight_order.WeightOrder.{WeightOrder}
+use Rattle.poly_core.specs.Presentation.{presented, order_of}
+use Rattle.poly_core.specs.Subalgebra.{IsReducedBasis}
+use Rattle.poly_core.specs.declared.presentation.Presentation.{Presentation}
+use Rattle.presentation_text.specs.Meaning.{IsRead}
+use Rattle.sagbi_cli.specs.Built.{IsBuilt}
 use Rattle.sagbi_cli.specs.ReportText.{report_text}
 
--- lex on so many places of weight 1
-abbrev pub plain_order : ℕ → MonomialOrder
-plain_order places = weight_order (replicate places 1) [] lex
-
--- what is presented by these monomials in so many places
-abbrev pub presented_by : ℕ → List (List ℕ) → Presented ℕ
-presented_by places generators = record { field = residues 101; order = plain_order places; ideal = []; generators = as_polys generators }
-
--- the report on the reduced basis, to the bound, of the presentation whose text the bytes are
+-- the report on the reduced basis, to the bound, of the presentation that the bytes present
 pub record IsReport (bytes : List ℕ) (bound : ℕ) (report : List ℕ) : Type 0 where
-  pub form : IsMonomialPresentation bytes
+  pub presentation : Presentation WordField WeightOrder ℕ
+  pub read : IsRead bytes presentation
+  pub built : IsBuilt presentation
   pub basis : List (List (Term ℕ))
-  pub reduced : IsReducedBasis (presented_by (length form.names) form.generators) bound basis
-  pub text : report ≡ report_text (residues 101) (plain_order (length form.names)) (Listed form.names) bound basis
+  pub reduced : IsReducedBasis (presented (λ f. residues f.modulus) order_of presentation) bound basis
+  pub text : report ≡ report_text (residues presentation.field.modulus) (order_of presentation.order) presentation.names bound basis

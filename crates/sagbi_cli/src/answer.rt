@@ -1,20 +1,21 @@
 //! What a run does with the bytes of its presentation.
 ghost use Rattle.std.specs.Prelude.{◌≡◌, ◌≢◌, ℕ, ◌≤◌, List, IfOk, length};
 ghost use Rattle.word_field.specs.Residues.{residues};
-ghost use Rattle.poly_core.specs.Presentation.{presented, order_of};
+ghost use Rattle.poly_core.specs.Presentation.{presented, order_of, IsValid};
 ghost use Rattle.poly_core.specs.Subalgebra.{IsReducedBasis};
+ghost use Rattle.presentation_text.specs.Meaning.{text_max, IsRead};
 ghost use Rattle.shelf_io.specs.Counts.{HasRisen};
-ghost use Rattle.sagbi_cli.specs.Accepted.{IsRead};
+ghost use Rattle.sagbi_cli.specs.Built.{IsBuilt};
 ghost use Rattle.sagbi_cli.specs.Command.{IsBound};
-ghost use Rattle.sagbi_cli.specs.Outcome.{text_max, EndsOn, SparesOut};
+ghost use Rattle.sagbi_cli.specs.Outcome.{Puts, SparesOut};
 
+use crate::built::is_built;
 use crate::outcome::Outcome;
-use crate::reader::read;
 use crate::report::{PrintFault, print};
 use monomial_basis::complete::complete;
-use monomial_order::{Memory, WeightOrder};
-use poly_core::poly::Poly;
+use monomial_order::WeightOrder;
 use poly_core::presentation::Presentation;
+use presentation_text::{TextFault, read};
 use shelf_io::Sink;
 use std::alloc::Global;
 use word_field::WordField;
@@ -23,16 +24,40 @@ use word_field::WordField;
 pub fn answer<K: Sink>(alloc: Global, bytes: &[u8], bound: u32, out: &mut K) -> Outcome
     requires short { length bytes.now ≤ text_max }
     requires bound { IsBound bound }
-    ensures ends { EndsOn bytes.now bound result (K.taken out.old) (K.taken out.new) }
+    ensures ends { Puts bytes.now bound result (K.taken out.old) (K.taken out.new) }
     ensures counted { K.faults out.old ≤ K.faults out.new }
     ensures sink { result ≡ Outcome.Sink → HasRisen (K.faults out.old) (K.faults out.new) }
     ensures never_shelf { result ≢ Outcome.Shelf }
+    ensures never_usage { result ≢ Outcome.Usage }
     ensures spares { SparesOut result (K.taken out.old) (K.taken out.new) }
 {
     match read(alloc, bytes) {
-        Ok(Some(p)) => report(alloc, &p, bound, out),
-        Ok(None) => Outcome::NotBuilt,
-        Err(_) => Outcome::Memory,
+        Ok(p) => report_if_built(alloc, &p, bound, out),
+        Err(TextFault::At { kind, line }) => Outcome::Fault(kind, line),
+        Err(TextFault::Memory) => Outcome::Memory,
+    }
+}
+
+/// Completes the presentation and prints its report, where it is one that is completed so far.
+fn report_if_built<K: Sink>(
+    alloc: Global,
+    p: &Presentation<WordField, WeightOrder>,
+    bound: u32,
+    out: &mut K,
+) -> Outcome
+    requires valid { IsValid (λ f. residues f.modulus) order_of p.now }
+    requires bound { IsBound bound }
+    ensures ends { (bytes : List ℕ) → IsRead bytes p.now → length bytes ≤ text_max → Puts bytes bound result (K.taken out.old) (K.taken out.new) }
+    ensures counted { K.faults out.old ≤ K.faults out.new }
+    ensures sink { result ≡ Outcome.Sink → HasRisen (K.faults out.old) (K.faults out.new) }
+    ensures never_shelf { result ≢ Outcome.Shelf }
+    ensures never_usage { result ≢ Outcome.Usage }
+    ensures spares { SparesOut result (K.taken out.old) (K.taken out.new) }
+{
+    if is_built(p) {
+        report(alloc, p, bound, out)
+    } else {
+        Outcome::NotBuilt
     }
 }
 
@@ -43,15 +68,17 @@ fn report<K: Sink>(
     bound: u32,
     out: &mut K,
 ) -> Outcome
-    requires read { (bytes : List ℕ) × IsRead bytes p.now }
+    requires valid { IsValid (λ f. residues f.modulus) order_of p.now }
+    requires built { IsBuilt p.now }
     requires bound { IsBound bound }
-    ensures ends { (bytes : List ℕ) → IsRead bytes p.now → length bytes ≤ text_max → EndsOn bytes bound result (K.taken out.old) (K.taken out.new) }
+    ensures ends { (bytes : List ℕ) → IsRead bytes p.now → length bytes ≤ text_max → Puts bytes bound result (K.taken out.old) (K.taken out.new) }
     ensures counted { K.faults out.old ≤ K.faults out.new }
     ensures sink { result ≡ Outcome.Sink → HasRisen (K.faults out.old) (K.faults out.new) }
     ensures never_shelf { result ≢ Outcome.Shelf }
+    ensures never_usage { result ≢ Outcome.Usage }
     ensures spares { SparesOut result (K.taken out.old) (K.taken out.new) }
 {
-    let Ok(basis) = reduced_basis(alloc, p, bound) else {
+    let Ok(basis) = complete(alloc, p, bound) else {
         return Outcome::Memory;
     };
     match print(alloc, out, &p.field, &p.order, &p.names, bound, &basis) {
@@ -59,16 +86,4 @@ fn report<K: Sink>(
         Err(PrintFault::Sink) => Outcome::Sink,
         Err(PrintFault::Memory) => Outcome::Memory,
     }
-}
-
-/// The reduced basis of a presentation that was read.
-fn reduced_basis(
-    alloc: Global,
-    p: &Presentation<WordField, WeightOrder>,
-    bound: u32,
-) -> Result<Vec<Poly<WordField>>, Memory>
-    requires { (bytes : List ℕ) × IsRead bytes p.now }
-    ensures { IfOk result (λ s. IsReducedBasis (presented (λ f. residues f.modulus) order_of p.now) bound s.items) }
-{
-    complete(alloc, p, bound)
 }

@@ -2,10 +2,10 @@
 #![tactic(auto)]
 
 mod answer;
+mod built;
 mod command;
 mod outcome;
 mod put;
-mod reader;
 mod report;
 mod run;
 #[cfg(test)]

@@ -4,12 +4,13 @@ ghost use Rattle.std.specs.FinMap as map;
 ghost use Rattle.shelf_io.specs.Counts.{HasRisen};
 ghost use Rattle.shelf_io.specs.Shelf.{Files};
 ghost use Rattle.sagbi_cli.specs.Command.{IsBound, IsComplete, IsNoCommand, pres_of};
-ghost use Rattle.sagbi_cli.specs.Outcome.{status_of, Ends, EndsWith, SparesOut, Notes};
+ghost use Rattle.sagbi_cli.specs.Outcome.{status_of, Ends, EndsWith, EndsSo, IsDue, SparesOut, Notes};
 
 use crate::WordList;
 use crate::answer::answer;
 use crate::command::command;
 use crate::outcome::{Outcome, status, tell};
+use presentation_text::laws::one_reading;
 use shelf_io::{LoadFault, Loaded, Shelf, Sink};
 use std::alloc::Global;
 
@@ -34,7 +35,7 @@ fn complete<H: Shelf, K: Sink>(
 {
     match shelf.load(alloc, name, Some(TEXT_MAX)) {
         Ok(Loaded::Missing) => Outcome::Missing,
-        Ok(Loaded::TooLong) => Outcome::NotBuilt,
+        Ok(Loaded::TooLong) => Outcome::TooLong,
         Ok(Loaded::Bytes(bytes)) => answer(alloc, &bytes, bound, out),
         Err(LoadFault::Failed) => Outcome::Shelf,
         Err(LoadFault::Memory) => Outcome::Memory,
@@ -50,6 +51,7 @@ pub fn run<H: Shelf, K: Sink, N: Sink>(
     note: &mut N,
 ) -> u8
     ensures ends { (files : Files) → H.holds shelf.old ≡ Some files → (o : Outcome) × (result ≡ status_of o) × Ends words.now files o (K.taken out.old) (K.taken out.new) }
+    ensures due { (files : Files) → H.holds shelf.old ≡ Some files → (due : Outcome) → IsDue words.now files due → (o : Outcome) × (result ≡ status_of o) × EndsSo due o }
     ensures no_command { result ≡ 1 → IsNoCommand words.now }
     ensures command { result ≢ 1 → (pres : List ℕ) × (bound : ℕ) × IsComplete words.now pres bound }
     ensures noted { (o : Outcome) × (result ≡ status_of o) × SparesOut o (K.taken out.old) (K.taken out.new)
@@ -58,6 +60,7 @@ pub fn run<H: Shelf, K: Sink, N: Sink>(
     ensures shelf { result ≡ 5 → HasRisen (H.faults shelf.old) (H.faults shelf.new) }
     ensures sink { result ≡ 6 → HasRisen (K.faults out.old) (K.faults out.new) }
 {
+    one_reading();
     match command(words) {
         Some((name, bound)) => {
             let outcome = complete(alloc, name, bound, shelf, out);

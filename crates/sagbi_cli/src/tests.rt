@@ -48,6 +48,178 @@ fn words_in_order(rt: HostRuntime) -> Result<(), Fail> {
     Ok(())
 }
 
+/// A presentation with the end of its report.
+struct Reading {
+    text: &'static str,
+    status: u8,
+    report: &'static str,
+    told: &'static str,
+}
+
+/// What `complete P 2` does on these texts, by hand.
+const READINGS: [Reading; 17] = [
+    Reading {
+        text: "",
+        status: 2,
+        report: "",
+        told: "error: presentation line 1: Truncated\n",
+    },
+    Reading {
+        text: "subalgebra 1\nfield 101\nvars x y\nweights 1 1\norder lex\nideal 0\ngenerators 2\nx + y\nx*y\nend\nx\n",
+        status: 2,
+        report: "",
+        told: "error: presentation line 11: TextAfterEnd\n",
+    },
+    Reading {
+        text: "subalgebra 1\nfield 101\nvars x y\nweights 1 1\norder lex\nideal 0\ngenerators 2\nx + y^2\nx*y\nend\n",
+        status: 2,
+        report: "",
+        told: "error: presentation line 8: NotHomogeneous\n",
+    },
+    Reading {
+        text: "subalgebra 1\nfield 101\nvars x y\nweights 1 1\norder lex\nideal 1\n3\ngenerators 2\nx + y\nx*y\nend\n",
+        status: 2,
+        report: "",
+        told: "error: presentation line 7: UnitIdeal\n",
+    },
+    // one variable and no generator
+    Reading {
+        text: "subalgebra 1\nfield 101\nvars x\nweights 1\norder lex\nideal 0\ngenerators 0\nend\n",
+        status: 0,
+        report: "report 1\nbound 2\nbasis 0\nend\n",
+        told: "",
+    },
+    Reading {
+        text: "subalgebra 1\nfield 101\nvars x\nweights 1\norder lex\nideal 0\ngenerators 1\n0\nend\n",
+        status: 0,
+        report: "report 1\nbound 2\nbasis 0\nend\n",
+        told: "",
+    },
+    // a zero generator by its coefficient, blanks, comments and zeros
+    Reading {
+        text: "# M\n\n subalgebra\t1\nfield 0101\r\nvars  x y\nweights 1 01\norder lex\nideal 0\ngenerators 3\n101*x\n + x * x\n-100*y*x^1\n\nend",
+        status: 0,
+        report: "report 1\nbound 2\nbasis 2\n1 2 x*y : x*y\n2 2 x^2 : x^2\nend\n",
+        told: "",
+    },
+    // each field, with its own zero
+    Reading {
+        text: "subalgebra 1\nfield 2\nvars x y\nweights 1 1\norder lex\nideal 0\ngenerators 2\n3*x + 2*y\n2*x\nend\n",
+        status: 0,
+        report: "report 1\nbound 2\nbasis 1\n1 1 x : x\nend\n",
+        told: "",
+    },
+    Reading {
+        text: "subalgebra 1\nfield 3\nvars x y\nweights 1 1\norder lex\nideal 0\ngenerators 1\nx - 2*x + 2*x\nend\n",
+        status: 0,
+        report: "report 1\nbound 2\nbasis 1\n1 1 x : x\nend\n",
+        told: "",
+    },
+    Reading {
+        text: "subalgebra 1\nfield 65521\nvars x y\nweights 1 1\norder lex\nideal 0\ngenerators 1\n65522*x\nend\n",
+        status: 0,
+        report: "report 1\nbound 2\nbasis 1\n1 1 x : x\nend\n",
+        told: "",
+    },
+    Reading {
+        text: "subalgebra 1\nfield 32003\nvars x y\nweights 1 1\norder lex\nideal 0\ngenerators 1\n32003*x + y\nend\n",
+        status: 0,
+        report: "report 1\nbound 2\nbasis 1\n1 1 y : y\nend\n",
+        told: "",
+    },
+    // x has the degree 2
+    Reading {
+        text: "subalgebra 1\nfield 5\nvars x y\nweights 2 1\norder lex\nideal 0\ngenerators 2\nx\ny\nend\n",
+        status: 0,
+        report: "report 1\nbound 2\nbasis 2\n1 1 y : y\n2 2 x : x\nend\n",
+        told: "",
+    },
+    // a row that puts y above x
+    Reading {
+        text: "subalgebra 1\nfield 7\nvars x y\nweights 1 1\norder 0 1 ; lex\nideal 0\ngenerators 2\nx\ny\nend\n",
+        status: 0,
+        report: "report 1\nbound 2\nbasis 2\n1 1 x : x\n2 1 y : y\nend\n",
+        told: "",
+    },
+    // x*z is below y^2 in reverse lex, and above it in lex
+    Reading {
+        text: "subalgebra 1\nfield 7\nvars x y z\nweights 1 1 1\norder revlex\nideal 0\ngenerators 2\ny^2\nx*z\nend\n",
+        status: 0,
+        report: "report 1\nbound 2\nbasis 2\n1 2 x*z : x*z\n2 2 y^2 : y^2\nend\n",
+        told: "",
+    },
+    // a generator of the ideal, a sum, and a coefficient
+    Reading {
+        text: "subalgebra 1\nfield 7\nvars x y\nweights 1 1\norder lex\nideal 1\nx^2\ngenerators 1\nx\nend\n",
+        status: 99,
+        report: "",
+        told: "error: not built yet\n",
+    },
+    Reading {
+        text: "subalgebra 1\nfield 7\nvars x y\nweights 1 1\norder lex\nideal 0\ngenerators 2\nx\nx + y\nend\n",
+        status: 99,
+        report: "",
+        told: "error: not built yet\n",
+    },
+    Reading {
+        text: "subalgebra 1\nfield 7\nvars x y\nweights 1 1\norder lex\nideal 0\ngenerators 1\n2*x\nend\n",
+        status: 99,
+        report: "",
+        told: "error: not built yet\n",
+    },
+];
+
+fn shelf_with(alloc: Global, text: &[u8]) -> Result<MemoryShelf, Fail> {
+    let mut shelf = MemoryShelf::new(alloc);
+    shelf.put("P", text)?;
+    Ok(shelf)
+}
+
+#[test]
+fn texts_are_read(rt: HostRuntime) -> Result<(), Fail> {
+    let alloc = rt.alloc();
+    let words = words_in(alloc, "complete P 2")?;
+    for case in &READINGS {
+        let mut shelf = shelf_with(alloc, case.text.as_bytes())?;
+        let mut out = MemorySink::new(alloc, 64, 4096)?;
+        let mut note = MemorySink::new(alloc, 64, 4096)?;
+        assert_eq!(rt;
+            run(alloc, &words, &mut shelf, &mut out, &mut note),
+            case.status,
+            "{}",
+            case.text
+        );
+        assert_eq!(rt; out.bytes(), case.report.as_bytes(), "{}", case.text);
+        assert_eq!(rt; note.bytes(), case.told.as_bytes(), "{}", case.text);
+    }
+    Ok(())
+}
+
+/// A text of so many bytes: one line of blanks.
+fn blanks(alloc: Global, count: usize) -> Result<Vec<u8>, Fail> {
+    let mut text = Vec::new(alloc);
+    text.resize(count, b' ')?;
+    Ok(text)
+}
+
+#[test]
+fn long_texts_are_refused(rt: HostRuntime) -> Result<(), Fail> {
+    let alloc = rt.alloc();
+    let words = words_in(alloc, "complete P 2")?;
+    for (count, status, told) in [
+        (16777216, 2, "error: presentation line 2: Truncated\n"),
+        (16777217, 9, "error: too long P\n"),
+    ] {
+        let mut shelf = shelf_with(alloc, blanks(alloc, count)?.as_slice())?;
+        let mut out = MemorySink::new(alloc, 64, 4096)?;
+        let mut note = MemorySink::new(alloc, 64, 4096)?;
+        assert_eq!(rt; run(alloc, &words, &mut shelf, &mut out, &mut note), status);
+        assert_eq!(rt; out.bytes(), b"".as_slice());
+        assert_eq!(rt; note.bytes(), told.as_bytes());
+    }
+    Ok(())
+}
+
 #[test]
 fn runs_end_as_they_should(rt: HostRuntime) -> Result<(), Fail> {
     let alloc = rt.alloc();

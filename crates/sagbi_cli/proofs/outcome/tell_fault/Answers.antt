@@ -1,0 +1,29 @@
+use Rattle.std.proofs.Common.{◌≡◌, ◌++◌, arith, Err, ◌∙◌}
+use Rattle.std.specs.Prelude.{codes}
+use Rattle.std.specs.Fmt.{decimal}
+use Rattle.std.proofs.lemmas.Result.{err_from_is_err_and}
+use Rattle.sagbi_cli.specs.Outcome.{kind_line}
+use Rattle.sagbi_cli.proofs.Putting.{takes-after, takes-before}
+use Rattle.sagbi_cli.proofs.outcome.tell_fault.Goals as goal
+
+pub returns-in_err-put_all-clause-takes : goal.returns-in_err-put_all-clause-takes
+returns-in_err-put_all-clause-takes g c =
+    let p = err_from_is_err_and c.from_residual.result c.from_residual.ensures.1 in
+    rw p.1 (takes-before p.0 (codes "error: presentation line ") (decimal c.args.line ++ kind_line c.args.kind) _ _ _ _ c.in_err-put_all.ensures.takes)
+
+pub returns-in_err-put_all-2-clause-takes : goal.returns-in_err-put_all-2-clause-takes
+returns-in_err-put_all-2-clause-takes g c =
+    let p = err_from_is_err_and c.from_residual-in_err-put_all-2.result c.from_residual-in_err-put_all-2.ensures.1 in
+    let digits : c.as_bytes.result.now ≡ decimal c.args.line = c.as_bytes.ensures.value ∙ c.format.ensures.text in
+    rw p.1 (rw (← digits) (takes-after (Err p.0) (codes "error: presentation line ") (c.as_bytes.result.now ++ kind_line c.args.kind) _ _ _ _ _ _ c.put_all.ensures.counted c.put_all-2.ensures.counted
+    c.in_ok-put_all.ensures.takes
+    (takes-before p.0 c.as_bytes.result.now (kind_line c.args.kind) _ _ _ _ c.in_err-put_all-2.ensures.takes)))
+
+pub returns-clause-takes : goal.returns-clause-takes
+returns-clause-takes g c =
+    let digits : c.as_bytes.result.now ≡ decimal c.args.line = c.as_bytes.ensures.value ∙ c.format.ensures.text in
+    rw (← digits) (takes-after c.tell_kind.result (codes "error: presentation line ") (c.as_bytes.result.now ++ kind_line c.args.kind) _ _ _ _ _ _ c.put_all.ensures.counted
+    (omega (arith, c.put_all-2.ensures.counted, c.tell_kind.ensures.counted))
+    c.in_ok-put_all.ensures.takes
+    (takes-after c.tell_kind.result c.as_bytes.result.now (kind_line c.args.kind) _ _ _ _ _ _ c.put_all-2.ensures.counted c.tell_kind.ensures.counted
+    c.in_ok-put_all-2.ensures.takes c.tell_kind.ensures.takes))

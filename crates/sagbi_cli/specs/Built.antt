@@ -1,0 +1,18 @@
+-- The presentations that are completed so far.
+use Rattle.std.specs.Prelude.{◌≡◌, ◌≢◌, ◌⊎◌, ℕ, List, [], Contains}
+use Rattle.word_field.specs.Residues.{residues}
+use Rattle.word_field.specs.declared.WordField.{WordField}
+use Rattle.monomial_order.specs.declared.Term.{Term}
+use Rattle.monomial_order.specs.declared.weight_order.WeightOrder.{WeightOrder}
+use Rattle.poly_core.specs.declared.presentation.Presentation.{Presentation}
+use Rattle.monomial_basis.specs.MonomialGenerators.{IsMonomialOrZero, AreMonomials}
+
+-- no ideal, and each generator is zero or a monomial with the coefficient 1
+pub record IsBuilt (p : Presentation WordField WeightOrder ℕ) : Type 0 where
+  pub no_ideal : p.ideal.items ≡ []
+  pub monomials : AreMonomials (residues p.field.modulus) p.generators.items
+
+-- a generator of the ideal, or a generator of the subalgebra that is neither zero nor such a monomial
+abbrev pub IsNotBuilt : Presentation WordField WeightOrder ℕ → Type 0
+IsNotBuilt p =
+    (p.ideal.items ≢ []) ⊎ ((f : List (Term ℕ)) × Contains p.generators.items f × (IsMonomialOrZero (residues p.field.modulus) f → ⊥))
