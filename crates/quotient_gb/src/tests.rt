@@ -155,128 +155,157 @@ const XZ: Exponents = [1, 0, 1, 0];
 
 const YZ: Exponents = [0, 1, 1, 0];
 
+/// An ideal with its minimal leads up to a degree.
+struct Case {
+    size: u32,
+    weights: &'static [u32],
+    row: &'static [u32],
+    tie: Tie,
+    ideal: &'static [Terms],
+    degree: u32,
+    leads: &'static [Exponents],
+}
+
+const CASES: [Case; 12] = [
+    // x^2 - y^2
+    Case {
+        size: 101,
+        weights: &[1, 1],
+        row: &[],
+        tie: Tie::Lex,
+        ideal: &[&[(1, X2), (100, Y2)]],
+        degree: 3,
+        leads: &[X2],
+    },
+    // y^2, where y is the second variable
+    Case {
+        size: 101,
+        weights: &[1, 1],
+        row: &[],
+        tie: Tie::Lex,
+        ideal: &[&[(1, Y2)]],
+        degree: 2,
+        leads: &[Y2],
+    },
+    // monomials, of which x^2 * y is a multiple of another
+    Case {
+        size: 101,
+        weights: &[1, 1],
+        row: &[],
+        tie: Tie::Lex,
+        ideal: &[
+            &[(1, X2)],
+            &[(1, XY)],
+            &[(1, [2, 1, 0, 0])],
+            &[(1, [0, 3, 0, 0])],
+        ],
+        degree: 4,
+        leads: &[XY, X2, [0, 3, 0, 0]],
+    },
+    // x^2 - y*z and x*y - z^2: x*z^2 - y^2*z and y^3*z - z^4 come in
+    Case {
+        size: 101,
+        weights: &[1, 1, 1],
+        row: &[],
+        tie: Tie::Lex,
+        ideal: &[&[(1, X2), (100, YZ)], &[(1, XY), (100, Z2)]],
+        degree: 6,
+        leads: &[XY, X2, [1, 0, 2, 0], [0, 3, 1, 0]],
+    },
+    // the conic x*z - y^2 in lex
+    Case {
+        size: 101,
+        weights: &[1, 1, 1],
+        row: &[],
+        tie: Tie::Lex,
+        ideal: &[&[(1, XZ), (100, Y2)]],
+        degree: 4,
+        leads: &[XZ],
+    },
+    // and in reverse lex
+    Case {
+        size: 101,
+        weights: &[1, 1, 1],
+        row: &[],
+        tie: Tie::RevLex,
+        ideal: &[&[(1, XZ), (100, Y2)]],
+        degree: 4,
+        leads: &[Y2],
+    },
+    // the twisted cubic in reverse lex
+    Case {
+        size: 101,
+        weights: &[1, 1, 1, 1],
+        row: &[],
+        tie: Tie::RevLex,
+        ideal: &[
+            &[(1, XZ), (100, Y2)],
+            &[(1, [0, 1, 0, 1]), (100, Z2)],
+            &[(1, [1, 0, 0, 1]), (100, YZ)],
+        ],
+        degree: 5,
+        leads: &[Z2, YZ, Y2],
+    },
+    // two generators of one degree with one lead
+    Case {
+        size: 101,
+        weights: &[1, 1],
+        row: &[],
+        tie: Tie::Lex,
+        ideal: &[&[(1, X2), (1, Y2)], &[(1, X2), (100, Y2)]],
+        degree: 3,
+        leads: &[Y2, X2],
+    },
+    // the same two over two elements, where they are equal
+    Case {
+        size: 2,
+        weights: &[1, 1],
+        row: &[],
+        tie: Tie::Lex,
+        ideal: &[&[(1, X2), (1, Y2)], &[(1, X2), (1, Y2)]],
+        degree: 3,
+        leads: &[X2],
+    },
+    // a generator that is zero
+    Case {
+        size: 101,
+        weights: &[1, 1],
+        row: &[],
+        tie: Tie::Lex,
+        ideal: &[&[], &[(1, XY)]],
+        degree: 2,
+        leads: &[XY],
+    },
+    // a row turns x^2 and y^2 round
+    Case {
+        size: 101,
+        weights: &[1, 1],
+        row: &[0, 1],
+        tie: Tie::Lex,
+        ideal: &[&[(1, X2), (100, Y2)]],
+        degree: 3,
+        leads: &[Y2],
+    },
+    // x^3 + y^2, where x has degree 2 and y has degree 3
+    Case {
+        size: 7,
+        weights: &[2, 3],
+        row: &[],
+        tie: Tie::Lex,
+        ideal: &[&[(1, [3, 0, 0, 0]), (1, Y2)]],
+        degree: 6,
+        leads: &[[3, 0, 0, 0]],
+    },
+];
+
 #[test]
 fn leads_of_small_ideals(rt: HostRuntime) -> Result<(), Fail> {
     let alloc = rt.alloc();
-    let cases: [(u32, &[u32], &[u32], Tie, &[Terms], u32, &[Exponents]); 12] = [
-        // x^2 - y^2
-        (
-            101,
-            &[1, 1],
-            &[],
-            Tie::Lex,
-            &[&[(1, X2), (100, Y2)]],
-            3,
-            &[X2],
-        ),
-        // y^2, where y is the second variable
-        (101, &[1, 1], &[], Tie::Lex, &[&[(1, Y2)]], 2, &[Y2]),
-        // monomials, of which x^2 * y is a multiple of another
-        (
-            101,
-            &[1, 1],
-            &[],
-            Tie::Lex,
-            &[
-                &[(1, X2)],
-                &[(1, XY)],
-                &[(1, [2, 1, 0, 0])],
-                &[(1, [0, 3, 0, 0])],
-            ],
-            4,
-            &[XY, X2, [0, 3, 0, 0]],
-        ),
-        // x^2 - y*z and x*y - z^2: x*z^2 - y^2*z and y^3*z - z^4 come in
-        (
-            101,
-            &[1, 1, 1],
-            &[],
-            Tie::Lex,
-            &[&[(1, X2), (100, YZ)], &[(1, XY), (100, Z2)]],
-            6,
-            &[XY, X2, [1, 0, 2, 0], [0, 3, 1, 0]],
-        ),
-        // the conic x*z - y^2, in lex and in reverse lex
-        (
-            101,
-            &[1, 1, 1],
-            &[],
-            Tie::Lex,
-            &[&[(1, XZ), (100, Y2)]],
-            4,
-            &[XZ],
-        ),
-        (
-            101,
-            &[1, 1, 1],
-            &[],
-            Tie::RevLex,
-            &[&[(1, XZ), (100, Y2)]],
-            4,
-            &[Y2],
-        ),
-        // the twisted cubic in reverse lex
-        (
-            101,
-            &[1, 1, 1, 1],
-            &[],
-            Tie::RevLex,
-            &[
-                &[(1, XZ), (100, Y2)],
-                &[(1, [0, 1, 0, 1]), (100, Z2)],
-                &[(1, [1, 0, 0, 1]), (100, YZ)],
-            ],
-            5,
-            &[Z2, YZ, Y2],
-        ),
-        // two generators of one degree with one lead
-        (
-            101,
-            &[1, 1],
-            &[],
-            Tie::Lex,
-            &[&[(1, X2), (1, Y2)], &[(1, X2), (100, Y2)]],
-            3,
-            &[Y2, X2],
-        ),
-        // the same two over two elements, where they are equal
-        (
-            2,
-            &[1, 1],
-            &[],
-            Tie::Lex,
-            &[&[(1, X2), (1, Y2)], &[(1, X2), (1, Y2)]],
-            3,
-            &[X2],
-        ),
-        // a generator that is zero
-        (101, &[1, 1], &[], Tie::Lex, &[&[], &[(1, XY)]], 2, &[XY]),
-        // a row turns x^2 and y^2 round
-        (
-            101,
-            &[1, 1],
-            &[0, 1],
-            Tie::Lex,
-            &[&[(1, X2), (100, Y2)]],
-            3,
-            &[Y2],
-        ),
-        // x^3 + y^2, where x has degree 2 and y has degree 3
-        (
-            7,
-            &[2, 3],
-            &[],
-            Tie::Lex,
-            &[&[(1, [3, 0, 0, 0]), (1, Y2)]],
-            6,
-            &[[3, 0, 0, 0]],
-        ),
-    ];
-    for (size, weights, row, tie, ideal, degree, leads) in cases {
-        let o = order(alloc, weights, row, tie)?;
-        let p = presentation(&rt, alloc, size, o, ideal)?;
-        assert!(rt; degree <= 30000);
-        assert!(rt; has_leads(&rt, alloc, &p, degree, leads)?);
+    for case in &CASES {
+        let o = order(alloc, case.weights, case.row, case.tie)?;
+        let p = presentation(&rt, alloc, case.size, o, case.ideal)?;
+        assert!(rt; case.degree <= 30000);
+        assert!(rt; has_leads(&rt, alloc, &p, case.degree, case.leads)?);
     }
     Ok(())
 }
