@@ -118,8 +118,8 @@ module _ {E : Type 0} (K : FieldOps E) (F : IsField K) where
         first_found = subst (λ x. coefficient K x t.at ≢ K.zero) (sym e) (first_nonzero t rest (subst (IsDecreasing K O) e h))
 
 -- a constant
-pub kept_constant : {E : Type 0} (K : FieldOps E) (O : MonomialOrder) → IsMonomialOrder O → (c : E) → IsValue K c → c ≢ K.zero → IsCanonical K O (constant K c)
-kept_constant K O L c v n = record {
+pub canonical_constant : {E : Type 0} (K : FieldOps E) (O : MonomialOrder) → IsMonomialOrder O → (c : E) → IsValue K c → c ≢ K.zero → IsCanonical K O (constant K c)
+canonical_constant K O L c v n = record {
   decreasing = (record { term = record { monomial = record { trimmed = tt; within = omega arith }; value = v }; nonzero = n; above = tt }, tt);
   small = (let z = degree_one O L in omega arith, tt);
 }

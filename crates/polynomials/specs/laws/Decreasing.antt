@@ -67,7 +67,7 @@ module _ {E : Type 0} (K : FieldOps E) (F : IsField K) (O : MonomialOrder) (L : 
             ap (λ x. x ∷ p) same ∙ ap (λ r. u ∷ r) (IsDecreasing_unique p q hp.1 hq.1 (tail_same u p q (subst (λ x. Same K (x ∷ p) (u ∷ q)) same h)))
       ] refl
 
-  -- the lead of a falling list
+  -- the lead of a decreasing list
   pub IsLead_first : (t : Term E) (p : Polynomial E) → IsDecreasing K O (t ∷ p) → IsLead K O (t ∷ p) t.at
   unfolding coefficient
   IsLead_first t p h = record {

@@ -59,7 +59,7 @@ module _ {E : Type 0} where
       by_test false r = r
 
 module _ {E : Type 0} (K : FieldOps E) (F : IsField K) (O : MonomialOrder) (L : IsMonomialOrder O) where
-  -- a monomial with a nonzero coefficient stands in a term
+  -- a monomial with a nonzero coefficient is that of a term
   pub all_found : (P : List ℕ → Type 0) (p : Polynomial E) → AllAt P p → (n : List ℕ) → coefficient K p n ≢ K.zero → P n
   unfolding coefficient
   all_found P [] h n k = absurd (k refl)
@@ -69,7 +69,7 @@ module _ {E : Type 0} (K : FieldOps E) (F : IsField K) (O : MonomialOrder) (L : 
         | false ↦ λ e. all_found P p h.1 n (λ z. k (ap (λ b. K.plus (cond b t.by K.zero) (coefficient K p n)) e ∙ (ap (K.plus K.zero) z ∙ zero-plus-zero K F)))
       ] refl
 
-  -- what holds of each monomial with a nonzero coefficient holds of each term of a falling list
+  -- what holds of each monomial with a nonzero coefficient holds of each term of a decreasing list
   pub decreasing_all : (P : List ℕ → Type 0) (p : Polynomial E) → IsDecreasing K O p → ((m : List ℕ) → coefficient K p m ≢ K.zero → P m) → AllAt P p
   decreasing_all P [] h k = tt
   decreasing_all P (t ∷ p) h k =

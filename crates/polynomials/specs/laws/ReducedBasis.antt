@@ -173,7 +173,7 @@ module _ {E : Type 0} (P : Presented E) (H : IsPresentation P) (c : ℕ) where
             leads = l;
           }
 
-  -- the leads rise along the list
+  -- the leads increase along the list
   rise_all : (s : Polynomial E) (S : List (Polynomial E)) → IsIncreasing P.order (lead_monomial s ∷ map lead_monomial S) → (x : Polynomial E) → Contains S x → P.order.compare (lead_monomial s) (lead_monomial x) ≡ Less
   rise_all s [] h x k = absurd (contains_none x k)
   rise_all s (y ∷ S) h x k =
@@ -184,7 +184,7 @@ module _ {E : Type 0} (P : Presented E) (H : IsPresentation P) (c : ℕ) where
   rise_tail s [] h = tt
   rise_tail s (y ∷ S) h = h.1
 
-  -- two rising lists with the same members are equal
+  -- two increasing lists with the same members are equal
   same_members : (S T : List (Polynomial E)) → IsIncreasing P.order (map lead_monomial S) → IsIncreasing P.order (map lead_monomial T) →
       ((x : Polynomial E) → Contains S x → Contains T x) → ((x : Polynomial E) → Contains T x → Contains S x) → S ≡ T
   same_members [] [] hs ht f g = refl
