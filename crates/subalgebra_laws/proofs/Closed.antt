@@ -21,7 +21,7 @@ module _ {E : Type 0} (P : Presented E) (H : IsPresentation P) (D : ℕ) (S : Li
   closed_combinations c =
       let b = basis_combinations P H D S dec red in
       record {
-        generators = λ f d k h le. b.generators f d k h (let m = h.some in let e = h.each m.0 m.1 in let l = closed.generators f m.0 k m.1 in omega arith);
+        generators = λ f d k h le. b.generators f d k h (let m = h.some in let e = h.each m.0 m.1 in let l = closed.generators f k m.0 m.1 in omega arith);
         words = λ u h le. b.words u h (minimal_low u h);
       }
 

@@ -105,8 +105,8 @@ x_squared = inr (0 ∷ (1 ∷ []), record { word = record { trimmed = λ e. cc; 
 pub closed : IsClosedAt squares 2 (square ∷ [])
 unfolding coefficient
 closed = record {
-  generators = λ f m k n. all_found (residues 101) K squares.order L (λ y. squares.order.degree y ≤ 2) f (subst (AllAt (λ y. squares.order.degree y ≤ 2)) (only f k) (omega arith, tt)) m n;
-  ideal = λ r m k. absurd (contains_none r k);
+  generators = λ f k m n. all_found (residues 101) K squares.order L (λ y. squares.order.degree y ≤ 2) f (subst (AllAt (λ y. squares.order.degree y ≤ 2)) (only f k) (omega arith, tt)) m n;
+  ideal = λ r k. absurd (contains_none r k);
   leads = λ m l. absurd (no_lead m l);
   words = λ w hw r. (2 ∷ [], record { trimmed = λ e. cc; within = omega arith }, x_squared, divides w (reducible_x w hw r), omega arith);
 }

@@ -50,7 +50,7 @@ module _ {E : Type 0} (P : Presented E) (S : List (List (Term E))) where
     pub equal : Congruent P.field P.order.places P.ideal a (combination_value sum)
 
 -- r differs from a by a member of the subalgebra, and each monomial of r is standard and leads no member of the subalgebra
-pub record IsRemainder {E : Type 0} (P : Presented E) (a r : List (Term E)) : Type 0 where
+pub record IsSubductionRemainder {E : Type 0} (P : Presented E) (a r : List (Term E)) : Type 0 where
   pub poly : IsPoly P.field P.order.places r
   pub inside : InSubalgebra P (minus P.field a r)
   pub reduced : (m : List ℕ) → coefficient P.field r m ≢ P.field.zero → IsStandard P m × (LeadsSubalgebra P m → ⊥)

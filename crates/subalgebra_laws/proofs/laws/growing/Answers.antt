@@ -16,7 +16,7 @@ pub returns-clause-combinations : goal.returns-clause-combinations
 returns-clause-combinations g c P S T d H n a ha low h = combination_grows P H S T n.monic d n.degree n.new a ha low h
 
 pub returns-clause-ends : goal.returns-clause-ends
-returns-clause-ends g c P S T U d H n HU above each a ha low h = ends_exchange P H S T U n.monic HU d n.degree n.new above each a ha low h
+returns-clause-ends g c P S T d H n U HU above each a ha low h = ends_exchange P H S T U n.monic HU d n.degree n.new above each a ha low h
 
 pub returns-clause-elements : goal.returns-clause-elements
 returns-clause-elements g c P S T d H n t k le = element_combines P H S T n.after.monic d n.after.degree n.after.new n.standard n.rise t k le
@@ -28,4 +28,4 @@ returns-clause-minimal g c P S T d H n u le = (
 )
 
 pub returns-clause-next : goal.returns-clause-next
-returns-clause-next g c P S T k d H n next dec red elements gens words = next_reduced P H S T k d next dec red n elements gens words
+returns-clause-next g c P S T d H n k next dec red elements gens words = next_reduced P H S T k d next dec red n elements gens words

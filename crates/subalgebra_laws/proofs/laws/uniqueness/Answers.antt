@@ -9,4 +9,4 @@ pub returns-clause-remainders : goal.returns-clause-remainders
 returns-clause-remainders g c P H a r q hr hq = remainder_unique P H a r q hr hq
 
 pub returns-clause-members : goal.returns-clause-members
-returns-clause-members g c P a r H h = (member_remainder P H a r h, remainder_member P H a r h)
+returns-clause-members g c P H a r h = (member_remainder P H a r h, remainder_member P H a r h)

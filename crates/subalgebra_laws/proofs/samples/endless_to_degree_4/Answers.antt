@@ -24,7 +24,7 @@ returns-clause-start c =
 
 pub returns-clause-basis : goal.returns-clause-basis
 returns-clause-basis c =
-    c.growing.ensures.next endless endless.generators (x_times_y 3 ∷ []) 3 4 presentation next_to refl (decided 4)
+    c.growing.ensures.next endless endless.generators (x_times_y 3 ∷ []) 4 presentation next_to 3 refl (decided 4)
     ((c.checked_basis.ensures endless presentation 3 endless.generators (decided 3)).0
     (start_checked (λ u le h. (c.growing.ensures.minimal endless endless.generators (x_times_y 3 ∷ []) 4 presentation next_to u le).1 h)))
     fourth_element fourth_generators

@@ -10,4 +10,4 @@ pub returns-clause-members : goal.returns-clause-members
 returns-clause-members c = c.subduction.ensures quotient quotient_basis 3 presentation (decided 3) ((c.checked_basis.ensures quotient presentation 3 quotient_basis (decided 3)).0 checked)
 
 pub returns-clause-zeros : goal.returns-clause-zeros
-returns-clause-zeros c = c.decisions.ensures.zero_words quotient quotient_basis 3 ((2 ∷ []) ∷ []) presentation monic zeros
+returns-clause-zeros c = c.decisions.ensures.zero_words quotient quotient_basis presentation monic 3 ((2 ∷ []) ∷ []) zeros

@@ -12,4 +12,4 @@ returns-clause-leads c d =
     c.closed_basis.ensures.all_leads squares (square ∷ []) 2 d presentation (decided 2) ((c.checked_basis.ensures squares presentation 2 (square ∷ []) (decided 2)).0 checked) closed
 
 pub returns-clause-words : goal.returns-clause-words
-returns-clause-words c d = c.decisions.ensures.all_words squares (square ∷ []) 2 d presentation monic (decided 2) closed.leads
+returns-clause-words c d = c.decisions.ensures.all_words squares (square ∷ []) 2 presentation (decided 2) monic closed.leads d
