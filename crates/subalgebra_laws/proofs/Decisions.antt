@@ -9,31 +9,23 @@ use Rattle.monomial_order.specs.MonomialLaws.{product_comm}
 use Rattle.monomial_order.specs.Cofactors.{cofactor, length-product_right, Divides-trans}
 use Rattle.monomial_order.specs.Comparing.{le_or_not, monomial_or_not, divisor_degree}
 use Rattle.monomial_order.specs.Rank.{within_listed}
-use Rattle.monomial_order.specs.Words.{order_of, image_of, image, IsWord, IsReducible, IsMinimalReducible}
+use Rattle.monomial_order.specs.Words.{order_of, image_of, IsWord, IsReducible, IsMinimalReducible}
 use Rattle.monomial_order.specs.ReducibleLaws.{IsMultiple, multiple_closed, multiple_decided, reducible_zeros, find_smaller, within_own, reducible_exactly}
-use Rattle.poly_core.specs.Poly.{coefficient, AllAt, IsPoly}
 use Rattle.poly_core.specs.Subalgebra.{Presented, IsPresentation, LeadsIdeal}
-use Rattle.poly_core.specs.DegreeLaws.{all_found}
 use Rattle.poly_core.specs.NormalFormLaws.{lead_times}
 use Rattle.subalgebra_laws.specs.Words.{letters, IsReducibleWord}
 use Rattle.subalgebra_laws.specs.Bases.{AreMonicElements, IsDecidedTo, AreZerosTo, IsIdealClosedAt}
-use Rattle.subalgebra_laws.proofs.Letters.{letter_images, letter_degrees, image_is, word_monic, letter_laws, word_degree, are_letters}
+use Rattle.subalgebra_laws.proofs.ToPolynomials.{poly_monomial}
+use Rattle.subalgebra_laws.proofs.Letters.{letter_degrees, word_monic, letter_laws, word_degree, are_letters}
 
 module _ {E : Type 0} (P : Presented E) (H : IsPresentation P) where
-  poly_monomials : (p : List (Term E)) → IsPoly P.field P.order.places p → AllAt (IsMonomial P.order.places) p
-  poly_monomials [] h = tt
-  poly_monomials (t ∷ p) h = (h.0.monomial, poly_monomials p h.1)
-
-  pub poly_monomial : (p : List (Term E)) (m : List ℕ) → IsPoly P.field P.order.places p → coefficient P.field p m ≢ P.field.zero → IsMonomial P.order.places m
-  poly_monomial p m h k = all_found P.field H.field P.order H.order (IsMonomial P.order.places) p (poly_monomials p h) m k
-
-  pub lead_monomial : (m : List ℕ) → LeadsIdeal P m → IsMonomial P.order.places m
-  lead_monomial m h = poly_monomial h.member m h.poly h.leads.nonzero
+  pub monomial_of_lead : (m : List ℕ) → LeadsIdeal P m → IsMonomial P.order.places m
+  monomial_of_lead m h = poly_monomial P.field H.field P.order H.order h.member m h.poly h.leads.nonzero
 
   -- a monomial that a lead of the ideal divides is one
   pub lead_multiple : (n m : List ℕ) → LeadsIdeal P n → IsMonomial P.order.places m → Divides n m → LeadsIdeal P m
   lead_multiple n m l hm d =
-      let k = cofactor n m (lead_monomial n l).trimmed hm.trimmed d in
+      let k = cofactor n m (monomial_of_lead n l).trimmed hm.trimmed d in
       subst (LeadsIdeal P) (product_comm k.0 n ∙ k.2)
       (lead_times P H k.0 n
       (record {
@@ -66,7 +58,7 @@ module _ {E : Type 0} (P : Presented E) (H : IsPresentation P) where
       let none : (LeadsIdeal P x → P.order.degree x ≤ c → ⊥) → (zs : List (List ℕ)) × AreLeadsAmong c (x ∷ ks) zs = λ n. (r.0, without_lead c x ks r.0 r.1 n) in
       ⊎_elim
       (λ mono. ⊎_elim (λ le. ⊎_elim (λ l. (x ∷ r.0, with_lead c x ks r.0 r.1 l)) (λ n. none (λ l d. n l)) (dec x mono le)) (λ n. none (λ l d. n d)) (le_or_not (P.order.degree x) c))
-      (λ n. none (λ l d. n (lead_monomial x l))) (monomial_or_not P.order.places x)
+      (λ n. none (λ l d. n (monomial_of_lead x l))) (monomial_or_not P.order.places x)
 
   -- a decided ideal has a list of zeros
   pub decided_zeros : (c : ℕ) → IsDecidedTo P c → (zs : List (List ℕ)) × AreZerosTo P c zs
@@ -75,7 +67,7 @@ module _ {E : Type 0} (P : Presented E) (H : IsPresentation P) where
         r.0,
         record {
           lead = r.1.lead;
-          divide = λ m l d. (m, r.1.all m (within_listed P.order H.order c m (record { monomial = lead_monomial m l; degree = d })) l d, λ i. omega arith);
+          divide = λ m l d. (m, r.1.all m (within_listed P.order H.order c m (record { monomial = monomial_of_lead m l; degree = d })) l d, λ i. omega arith);
         },
       )
 
@@ -89,13 +81,10 @@ module _ {E : Type 0} (P : Presented E) (H : IsPresentation P) where
 
     module _ (S : List (List (Term E))) (HS : AreMonicElements P S) where
       image_leads : (w : List ℕ) → IsMultiple zeros (image_of (letters P S) w) → LeadsIdeal P (image_of (letters P S) w)
-      image_leads w h = multiple_leads (image_of (letters P S) w) (subst (IsMonomial P.order.places) (sym (image_is P S w)) (word_monic P H S HS w).monomial) h
+      image_leads w h = multiple_leads (image_of (letters P S) w) (word_monic P H S HS w).monomial h
 
       leads_image : (w : List ℕ) → (order_of (letters P S)).degree w ≤ c → LeadsIdeal P (image_of (letters P S) w) → IsMultiple zeros (image_of (letters P S) w)
-      leads_image w d l =
-          let e = word_degree P H S HS w in
-          let i : P.order.degree (image_of (letters P S) w) ≡ P.order.degree (image w (letter_images P S)) = ap P.order.degree (image_is P S w) in
-          Z.divide (image_of (letters P S) w) l (omega arith)
+      leads_image w d l = let e = word_degree P H S HS w in Z.divide (image_of (letters P S) w) l (omega arith)
 
       to_ideal : (w : List ℕ) → IsReducible (IsMultiple zeros) (letters P S) w → IsReducibleWord P S w
       to_ideal w = reducible_zeros (IsMultiple zeros) (LeadsIdeal P) (letters P S) w (image_leads w)
@@ -141,10 +130,10 @@ module _ {E : Type 0} (P : Presented E) (H : IsPresentation P) where
     pub words_decided : (c : ℕ) → IsDecidedTo P c → (w : List ℕ) → IsWord (letters P S) w → (order_of (letters P S)).degree w ≤ c → IsReducibleWord P S w ⊎ (IsReducibleWord P S w → ⊥)
     words_decided c dec w hw le =
         let e = word_degree P H S HS w in
-        ⊎_elim (λ l. inl (inl (subst (LeadsIdeal P) (sym (image_is P S w)) l)))
-        (λ n. ⊎_elim (λ s. inl (inr s)) (λ none. inr (λ r. ⊎_elim (λ l. n (subst (LeadsIdeal P) (image_is P S w) l)) (λ s. none s.0 s.1) r))
+        ⊎_elim (λ l. inl (inl l))
+        (λ n. ⊎_elim (λ s. inl (inr s)) (λ none. inr (λ r. ⊎_elim n (λ s. none s.0 s.1) r))
         (find_smaller (letters P S) (are_letters P H S HS) ((order_of (letters P S)).degree w) w (within_own (letters P S) (are_letters P H S HS) w hw)))
-        (dec (image w (letter_images P S)) (word_monic P H S HS w).monomial (omega arith))
+        (dec (image_of (letters P S) w) (word_monic P H S HS w).monomial (omega arith))
 
   module _ (D c : ℕ) (closed : IsIdealClosedAt P D) where
     -- a list of zeros to D is one to every degree

@@ -1,23 +1,22 @@
 -- From the reduced basis to one degree to that of the next.
-use Rattle.std.proofs.Common.{◌≡◌, ℕ, suc, ◌≤◌, refl, sym, ◌∙◌, ap, subst, List, [], ◌∷◌, ◌++◌, ◌⊎◌, inl, inr, ⊎_elim, append_assoc, arith}
+use Rattle.std.proofs.Common.{◌≡◌, ℕ, zero, suc, ◌<◌, ◌≤◌, refl, sym, ◌∙◌, ap, subst, List, [], ◌∷◌, ◌++◌, ◌⊎◌, inl, inr, ⊎_elim, length, get_or, append_assoc, arith}
 use Rattle.std.specs.Prelude.{map, Contains}
-use Rattle.std.proofs.lemmas.List.{map-append}
+use Rattle.std.proofs.lemmas.List.{map-append, get_or-map, length-map}
+use Rattle.std.proofs.lemmas.List.Elements.{Contains-append_cases, Contains-get_or}
 use Rattle.std.specs.declared.cmp.Ordering.TheVariants.{Less}
 use Rattle.monomial_order.specs.declared.Term.{Term}
 use Rattle.monomial_order.specs.Monomial.{product}
 use Rattle.monomial_order.specs.Lists.{contains_cases, contains_here, contains_there, contains_none, contains_map, contains_left, contains_right}
 use Rattle.monomial_order.specs.MonomialLaws.{product-one}
 use Rattle.monomial_order.specs.Comparing.{not_below_self}
-use Rattle.monomial_order.specs.Words.{order_of}
-use Rattle.poly_core.specs.Poly.{IsHomogeneous, lead}
+use Rattle.poly_core.specs.Poly.{lead}
 use Rattle.poly_core.specs.Subalgebra.{Presented, IsPresentation, AllIn, product_of, IsGenerated, IsReducedBasis, Rise}
 use Rattle.poly_core.specs.ReducedBasisLaws.{map_contains}
-use Rattle.subalgebra_laws.specs.Words.{letters, word_value, IsMinimalWord, IsCombination}
-use Rattle.subalgebra_laws.specs.Bases.{IsDecidedTo, AreNextTo, IsCheckedElement, IsCheckedBasis}
+use Rattle.subalgebra_laws.specs.Bases.{IsDecidedTo, HaveLeadsFrom, AreStandardAfter, AreNextTo, IsCheckedElement, IsCheckedBasis}
+use Rattle.subalgebra_laws.specs.Statements.{ProductsSplit, NextBasisIsReduced}
 use Rattle.subalgebra_laws.proofs.Generated.{generated_leads}
-use Rattle.subalgebra_laws.proofs.Subduction.{basis_monic, basis_combinations}
-use Rattle.subalgebra_laws.proofs.Checked.{checked_reduced}
-use Rattle.subalgebra_laws.proofs.Grown.{contains_either, next_combinations}
+use Rattle.subalgebra_laws.proofs.ReducedBases.{basis_monic, basis_combinations, element_checked, checked_reduced}
+use Rattle.subalgebra_laws.proofs.Growing.{next_combinations}
 
 -- a member of two lists in a row stands in the first or in the second
 split_append : {A : Type 0} (S T before : List A) (s : A) (after : List A) → S ++ T ≡ before ++ (s ∷ after) →
@@ -32,135 +31,124 @@ split_append (x ∷ S) T (y ∷ before) s after e =
     let b : S ++ T ≡ before ++ (s ∷ after) = cc in
     ⊎_elim (λ r. inl (r.0, ap (λ z. z ∷ S) a ∙ ap (λ zs. y ∷ zs) r.1, r.2)) (λ r. inr (r.0, ap (λ zs. y ∷ zs) r.1 ∙ ap (λ z. z ∷ (S ++ r.0)) (sym a), r.2)) (split_append S T before s after b)
 
+-- a member other than the one in the middle is a member
+without_middle : {A : Type 0} (T front : List A) (t : A) (rest : List A) → T ≡ front ++ (t ∷ rest) → (x : A) → Contains (front ++ rest) x → Contains T x
+without_middle T front t rest e x k = subst (λ X. Contains X x) (sym e)
+    (⊎_elim (λ a. contains_left front (t ∷ rest) x a) (λ b. contains_right front (t ∷ rest) x (contains_there t rest x b)) (Contains-append_cases front rest x k))
+
+the_middle : {A : Type 0} (T front : List A) (t : A) (rest : List A) → T ≡ front ++ (t ∷ rest) → Contains T t
+the_middle T front t rest e = subst (λ X. Contains X t) (sym e) (contains_right front (t ∷ rest) t (contains_here t rest))
+
 module _ {E : Type 0} (P : Presented E) (H : IsPresentation P) where
-  rise_all : (m : List ℕ) (M : List (List ℕ)) → Rise P (m ∷ M) → (n : List ℕ) → Contains M n → P.order.compare m n ≡ Less
-  rise_all m [] r n k = absurd (contains_none n k)
-  rise_all m (l ∷ M) r n k =
-      ⊎_elim (λ e. subst (λ x. P.order.compare m x ≡ Less) e r.0) (λ i. H.order.total.trans m l n r.0 (rise_all l M r.1 n i)) (contains_cases l M n k)
+  open P use {field as K, order as O}
+  open H use {order as L}
 
   rise_rest : (m : List ℕ) (M : List (List ℕ)) → Rise P (m ∷ M) → Rise P M
   rise_rest m [] r = tt
   rise_rest m (n ∷ M) r = r.1
 
-  -- in a list whose leads rise no other member has the lead
+  rise_all : (m : List ℕ) (M : List (List ℕ)) → Rise P (m ∷ M) → (n : List ℕ) → Contains M n → O.compare m n ≡ Less
+  rise_all m [] r n k = absurd (contains_none n k)
+  rise_all m (l ∷ M) r n k = ⊎_elim (λ e. subst (λ x. O.compare m x ≡ Less) e r.0) (λ i. L.total.trans m l n r.0 (rise_all l M r.1 n i)) (contains_cases l M n k)
+
+  -- in an increasing list no other member has the lead
   rise_other : (front : List (List (Term E))) (t : List (Term E)) (after : List (List (Term E))) → Rise P (map lead (front ++ (t ∷ after))) → Contains (map lead (front ++ after)) (lead t) → ⊥
-  rise_other [] t after r k = not_below_self P.order H.order (lead t) (rise_all (lead t) (map lead after) r (lead t) k)
+  rise_other [] t after r k = not_below_self O L (lead t) (rise_all (lead t) (map lead after) r (lead t) k)
   rise_other (x ∷ front) t after r k =
       ⊎_elim
-      (λ e. not_below_self P.order H.order (lead t)
-      (subst (λ y. P.order.compare y (lead t) ≡ Less) e
+      (λ e. not_below_self O L (lead t) (subst (λ y. O.compare y (lead t) ≡ Less) e
       (rise_all (lead x) (map lead (front ++ (t ∷ after))) r (lead t) (contains_map lead (front ++ (t ∷ after)) t (contains_right front (t ∷ after) t (contains_here t after))))))
       (λ i. rise_other front t after (rise_rest (lead x) (map lead (front ++ (t ∷ after))) r) i) (contains_cases (lead x) (map lead (front ++ after)) (lead t) k)
 
-  rise_append : (M N : List (List ℕ)) → Rise P M → Rise P N → ((m n : List ℕ) → Contains M m → Contains N n → P.order.compare m n ≡ Less) → Rise P (M ++ N)
+  -- members at different indices differ
+  rise_differ : (T : List (List (Term E))) → Rise P (map lead T) → (i j : ℕ) → i < length T → j < length T → lead (get_or T i []) ≡ lead (get_or T j []) → i ≡ j
+  rise_differ [] r i j li lj e = absurd (omega arith)
+  rise_differ (t ∷ T) r zero zero li lj e = refl
+  rise_differ (t ∷ T) r zero (suc j) li lj e = absurd (rise_other [] t T r (subst (Contains (map lead T)) (sym e) (contains_map lead T (get_or T j []) (Contains-get_or T j [] (omega arith)))))
+  rise_differ (t ∷ T) r (suc i) zero li lj e = absurd (rise_other [] t T r (subst (Contains (map lead T)) e (contains_map lead T (get_or T i []) (Contains-get_or T i [] (omega arith)))))
+  rise_differ (t ∷ T) r (suc i) (suc j) li lj e = ap suc (rise_differ T (rise_rest (lead t) (map lead T) r) i j (omega arith) (omega arith) e)
+
+  pub next_standard : (d : ℕ) (S T : List (List (Term E))) → AreNextTo P d S T → AreStandardAfter P d S T
+  next_standard d S T n = record { after = n.after; standard = n.standard; differ = rise_differ T n.rise }
+
+  rise_append : (M N : List (List ℕ)) → Rise P M → Rise P N → ((m n : List ℕ) → Contains M m → Contains N n → O.compare m n ≡ Less) → Rise P (M ++ N)
   rise_append [] N rm rn h = rn
   rise_append (m ∷ []) [] rm rn h = tt
   rise_append (m ∷ []) (n ∷ N) rm rn h = (h m n (contains_here m []) (contains_here n N), rn)
   rise_append (m ∷ (l ∷ M)) N rm rn h = (rm.0, rise_append (l ∷ M) N rm.1 rn (λ a b ka kb. h a b (contains_there m (l ∷ M) a ka) kb))
 
+  -- the lead of an element has what each element's lead has
+  of_lead : (Q : List ℕ → Type 0) (S : List (List (Term E))) → ((s : List (Term E)) → Contains S s → Q (lead s)) → (m : List ℕ) → Contains (map lead S) m → Q m
+  of_lead Q S h m k = let r = map_contains lead S m k in subst Q r.2 (h r.0 r.1)
+
   -- a product of leads of at most the degree of the leads of T has none of them as a factor, or is one
-  module _ (S T : List (List (Term E))) (d : ℕ) (positive : (s : List (Term E)) → Contains S s → 1 ≤ P.order.degree (lead s)) (new_positive : (t : List (Term E)) → Contains T t → 1 ≤ P.order.degree (lead t)) (high : (t : List (Term E)) → Contains T t → d ≤ P.order.degree (lead t)) where
-    factor_degree : (m : List ℕ) → Contains (map lead (S ++ T)) m → 1 ≤ P.order.degree m
-    factor_degree m k =
-        let r = map_contains lead (S ++ T) m k in
-        let e : P.order.degree (lead r.0) ≡ P.order.degree m = ap P.order.degree r.2 in
-        ⊎_elim (λ a. let p = positive r.0 a in omega arith) (λ b. let p = new_positive r.0 b in omega arith) (contains_either S T r.0 r.1)
-
-    -- a product of degree 0 has no factors
-    no_factors : (ms : List (List ℕ)) → AllIn (map lead (S ++ T)) ms → P.order.degree (product_of ms) ≡ 0 → ms ≡ []
+  module _ (S T : List (List (Term E))) (d : ℕ) (positive : HaveLeadsFrom P 1 (S ++ T)) (high : HaveLeadsFrom P d T) where
+    no_factors : (ms : List (List ℕ)) → AllIn (map lead (S ++ T)) ms → O.degree (product_of ms) ≡ 0 → ms ≡ []
     no_factors [] h e = refl
-    no_factors (m ∷ ms) h e = let p = H.order.degree_product m (product_of ms) in let q = factor_degree m h.0 in absurd (omega arith)
+    no_factors (m ∷ ms) h e = let p = L.degree_product m (product_of ms) in let q = of_lead (λ x. 1 ≤ O.degree x) (S ++ T) positive m h.0 in absurd (omega arith)
 
-    split_factors : (ms : List (List ℕ)) → AllIn (map lead (S ++ T)) ms → P.order.degree (product_of ms) ≤ d → AllIn (map lead S) ms ⊎ Contains (map lead T) (product_of ms)
+    split_factors : (ms : List (List ℕ)) → AllIn (map lead (S ++ T)) ms → O.degree (product_of ms) ≤ d → AllIn (map lead S) ms ⊎ Contains (map lead T) (product_of ms)
     split_factors [] h l = inl tt
     split_factors (m ∷ ms) h l =
-        let p = H.order.degree_product m (product_of ms) in
+        let p = L.degree_product m (product_of ms) in
+        let q = of_lead (λ x. 1 ≤ O.degree x) (S ++ T) positive m h.0 in
         let r = map_contains lead (S ++ T) m h.0 in
-        let e : P.order.degree (lead r.0) ≡ P.order.degree m = ap P.order.degree r.2 in
         ⊎_elim
-        (λ a.
-        let q = positive r.0 a in
-        ⊎_elim (λ rest. inl (subst (Contains (map lead S)) r.2 (contains_map lead S r.0 a), rest))
-        (λ c. absurd (let x = map_contains lead T (product_of ms) c in let y : P.order.degree (lead x.0) ≡ P.order.degree (product_of ms) = ap P.order.degree x.2 in let z = high x.0 x.1 in omega arith))
-        (split_factors ms h.1 (omega arith)))
+        (λ a. ⊎_elim (λ rest. inl (subst (Contains (map lead S)) r.2 (contains_map lead S r.0 a), rest))
+        (λ c. absurd (let z = of_lead (λ x. d ≤ O.degree x) T high (product_of ms) c in omega arith)) (split_factors ms h.1 (omega arith)))
         (λ b.
-        let q = high r.0 b in
+        let e : O.degree (lead r.0) ≡ O.degree m = ap O.degree r.2 in
+        let z = high r.0 b in
         let none : ms ≡ [] = no_factors ms h.1 (omega arith) in
         inr (subst (Contains (map lead T)) (r.2 ∙ (sym (product-one m) ∙ ap (λ x. product m (product_of x)) (sym none))) (contains_map lead T r.0 b)))
-        (contains_either S T r.0 r.1)
+        (Contains-append_cases S T r.0 r.1)
 
-    pub products_split : (m : List ℕ) → P.order.degree m ≤ d → IsGenerated (map lead (S ++ T)) m → IsGenerated (map lead S) m ⊎ Contains (map lead T) m
+    pub products_split : ProductsSplit P S T d
     products_split m l g =
         ⊎_elim (λ a. inl (record { factors = g.factors; members = a; product = g.product })) (λ b. inr (subst (Contains (map lead T)) g.product b))
-        (split_factors g.factors g.members (let e : P.order.degree (product_of g.factors) ≡ P.order.degree m = ap P.order.degree g.product in omega arith))
+        (split_factors g.factors g.members (let e : O.degree (product_of g.factors) ≡ O.degree m = ap O.degree g.product in omega arith))
 
-  module _ (S T : List (List (Term E))) (c d : ℕ) (next : suc c ≡ d) (dec : IsDecidedTo P d) (red : IsReducedBasis P c S) (after : AreNextTo P d S T)
-      (elements : (t : List (Term E)) → Contains T t → IsCheckedElement P d (S ++ T) t)
-      (generators : (f : List (Term E)) → Contains P.generators f → IsHomogeneous P.field P.order d f → IsCombination P (S ++ T) f)
-      (words : (u : List ℕ) → IsMinimalWord P S u → (order_of (letters P S)).degree u ≡ d → IsCombination P (S ++ T) (word_value P S u)) where
-    positive : (s : List (Term E)) → Contains S s → 1 ≤ P.order.degree (lead s)
-    positive s k = (red.elements s k).at_least
-
-    above : (t : List (Term E)) → Contains T t → 1 ≤ P.order.degree (lead t)
-    above t k = let e = after.after.degree t k in omega arith
+  module _ (S T : List (List (Term E))) (c d : ℕ) (next : suc c ≡ d) (red : IsReducedBasis P c S) (N : AreNextTo P d S T) (elements : (t : List (Term E)) → Contains T t → IsCheckedElement P d (S ++ T) t) where
+    -- of two parts of S and T
+    positive : (R U : List (List (Term E))) → ((s : List (Term E)) → Contains R s → Contains S s) → ((t : List (Term E)) → Contains U t → Contains T t) → HaveLeadsFrom P 1 (R ++ U)
+    positive R U r u x k = ⊎_elim (λ a. (red.elements x (r x a)).at_least) (λ b. let e = N.after.degree x (u x b) in omega arith) (Contains-append_cases R U x k)
 
     -- below the degree d the new leads have no products
-    old_product : (R : List (List (Term E))) → ((s : List (Term E)) → Contains R s → 1 ≤ P.order.degree (lead s)) → (m : List ℕ) → P.order.degree m ≤ c → IsGenerated (map lead (R ++ T)) m → IsGenerated (map lead R) m
-    old_product R p m l g =
-        ⊎_elim (λ a. a)
-        (λ b. absurd (let x = map_contains lead T m b in let y : P.order.degree (lead x.0) ≡ P.order.degree m = ap P.order.degree x.2 in let z = after.after.degree x.0 x.1 in omega arith))
-        (products_split R T d p above after.after.degree m (omega arith) g)
+    old_product : (R : List (List (Term E))) → ((s : List (Term E)) → Contains R s → Contains S s) → (m : List ℕ) → O.degree m ≤ c → IsGenerated (map lead (R ++ T)) m → IsGenerated (map lead R) m
+    old_product R r m l g =
+        ⊎_elim (λ a. a) (λ b. absurd (let z = of_lead (λ x. d ≤ O.degree x) T N.after.degree m b in omega arith))
+        (products_split R T d (positive R T r (λ t k. k)) N.after.degree m (omega arith) g)
 
     old_element : (s : List (Term E)) → Contains S s → IsCheckedElement P d (S ++ T) s
     old_element s k =
         let e = red.elements s k in
-        record {
-          falls = e.falls;
-          inside = e.inside;
-          monic = e.monic;
-          homogeneous = e.homogeneous;
-          at_least = e.at_least;
-          at_most = let a = e.at_most in omega arith;
-          standard = e.standard;
-          tail = λ m z ne g. e.tail m z ne (generated_leads P H S (basis_monic P H c S red) (λ x i. (red.elements x i).inside) m (e.standard m z)
-              (old_product S positive m (let q = e.homogeneous.each m z in let a = e.at_most in omega arith) g));
-        }
+        element_checked P H c d (S ++ T) s (omega arith) e (λ m z ne g. e.tail m z ne (generated_leads P H S (basis_monic P H c S red) (λ x i. (red.elements x i).inside) m (e.standard m z)
+        (old_product S (λ x i. i) m (let q = e.homogeneous.each m z in let a = e.at_most in omega arith) g)))
 
     old_minimal : (before rest : List (List (Term E))) (s : List (Term E)) → S ≡ before ++ (s ∷ rest) → IsGenerated (map lead (before ++ (rest ++ T))) (lead s) → ⊥
     old_minimal before rest s e g =
-        let inner : Contains S s = subst (λ X. Contains X s) (sym e) (contains_right before (s ∷ rest) s (contains_here s rest)) in
-        let low = (red.elements s inner).at_most in
-        let part : (x : List (Term E)) → Contains (before ++ rest) x → Contains S x = λ x k. subst (λ X. Contains X x) (sym e)
-        (⊎_elim (λ a. contains_left before (s ∷ rest) x a) (λ b. contains_right before (s ∷ rest) x (contains_there s rest x b)) (contains_either before rest x k)) in
-        red.minimal before rest s e (old_product (before ++ rest) (λ x k. positive x (part x k)) (lead s) low (subst (λ X. IsGenerated (map lead X) (lead s)) (sym (append_assoc before rest T)) g))
+        red.minimal before rest s e (old_product (before ++ rest) (without_middle S before s rest e) (lead s) (red.elements s (the_middle S before s rest e)).at_most
+        (subst (λ X. IsGenerated (map lead X) (lead s)) (sym (append_assoc before rest T)) g))
 
     new_minimal : (front rest : List (List (Term E))) (t : List (Term E)) → T ≡ front ++ (t ∷ rest) → IsGenerated (map lead (S ++ (front ++ rest))) (lead t) → ⊥
     new_minimal front rest t e g =
-        let inner : Contains T t = subst (λ X. Contains X t) (sym e) (contains_right front (t ∷ rest) t (contains_here t rest)) in
-        let part : (x : List (Term E)) → Contains (front ++ rest) x → Contains T x = λ x k. subst (λ X. Contains X x) (sym e)
-        (⊎_elim (λ a. contains_left front (t ∷ rest) x a) (λ b. contains_right front (t ∷ rest) x (contains_there t rest x b)) (contains_either front rest x k)) in
-        ⊎_elim (λ a. after.after.new t inner a) (λ b. rise_other front t rest (subst (λ X. Rise P (map lead X)) e after.rise) b)
-        (products_split S (front ++ rest) d positive (λ x k. above x (part x k)) (λ x k. after.after.degree x (part x k)) (lead t) (elements t inner).at_most g)
+        let inner = the_middle T front t rest e in
+        let part = without_middle T front t rest e in
+        ⊎_elim (λ a. N.after.new t inner a) (λ b. rise_other front t rest (subst (λ X. Rise P (map lead X)) e N.rise) b)
+        (products_split S (front ++ rest) d (positive S (front ++ rest) (λ s k. k) part) (λ x k. N.after.degree x (part x k)) (lead t) (elements t inner).at_most g)
 
-    pub next_checked : IsCheckedBasis P d (S ++ T)
-    next_checked = record {
-      rise = subst (Rise P) (sym (map-append lead S T)) (rise_append (map lead S) (map lead T) red.rise after.rise
-          (λ m n km kn.
-          let x = map_contains lead S m km in
-          let y = map_contains lead T n kn in
-          let a : P.order.degree (lead x.0) ≡ P.order.degree m = ap P.order.degree x.2 in
-          let b : P.order.degree (lead y.0) ≡ P.order.degree n = ap P.order.degree y.2 in
-          let p = (red.elements x.0 x.1).at_most in
-          let q = after.after.degree y.0 y.1 in
-          H.order.degree_first m n (omega arith)));
-      elements = λ s k. ⊎_elim (λ a. old_element s a) (λ b. elements s b) (contains_either S T s k);
-      minimal = λ before rest s e.
-          ⊎_elim (λ r. λ g. old_minimal before r.0 s r.1 (subst (λ X. IsGenerated (map lead (before ++ X)) (lead s)) r.2 g))
-          (λ r. λ g. new_minimal r.0 rest s r.2 (subst (λ X. IsGenerated (map lead X) (lead s)) (append_assoc S r.0 rest) (subst (λ X. IsGenerated (map lead (X ++ rest)) (lead s)) r.1 g)))
-          (split_append S T before s rest e);
-      combinations = next_combinations P H S T after.after.monic d after.after.degree after.after.new after.standard after.rise c next
-          (basis_combinations P H c S (λ m hm l. dec m hm (omega arith)) red) generators words;
-    }
-
-    pub next_reduced : IsReducedBasis P d (S ++ T)
-    next_reduced = checked_reduced P H d (S ++ T) dec next_checked
+  pub next_reduced : (S T : List (List (Term E))) (d : ℕ) → AreNextTo P d S T → NextBasisIsReduced P S T d
+  next_reduced S T d N c next dec red elements generators words = checked_reduced P H d (S ++ T) dec (record {
+    rise = subst (Rise P) (sym (map-append lead S T)) (rise_append (map lead S) (map lead T) red.rise N.rise
+        (λ m n km kn.
+        let p = of_lead (λ x. O.degree x ≤ c) S (λ s k. (red.elements s k).at_most) m km in
+        let q = of_lead (λ x. d ≤ O.degree x) T N.after.degree n kn in
+        L.degree_first m n (omega arith)));
+    elements = λ s k. ⊎_elim (λ a. old_element S T c d next red N elements s a) (λ b. elements s b) (Contains-append_cases S T s k);
+    minimal = λ before rest s e.
+        ⊎_elim (λ r. λ g. old_minimal S T c d next red N elements before r.0 s r.1 (subst (λ X. IsGenerated (map lead (before ++ X)) (lead s)) r.2 g))
+        (λ r. λ g. new_minimal S T c d next red N elements r.0 rest s r.2
+        (subst (λ X. IsGenerated (map lead X) (lead s)) (append_assoc S r.0 rest) (subst (λ X. IsGenerated (map lead (X ++ rest)) (lead s)) r.1 g)))
+        (split_append S T before s rest e);
+    combinations = next_combinations P H d S T (next_standard d S T N) c next (basis_combinations P H c S (λ m hm l. dec m hm (omega arith)) red) generators words;
+  })

@@ -8,7 +8,7 @@ use Rattle.poly_core.specs.SameLaws.{append_same, append_comm}
 use Rattle.poly_core.specs.CongruenceLaws.{congruent_same, minus_zero, minus_chain, negated-minus, minus_same}
 use Rattle.poly_core.specs.SubalgebraLaws.{sub_congruent, sub_minus}
 use Rattle.subalgebra_laws.specs.Words.{IsSubductionRemainder}
-use Rattle.subalgebra_laws.proofs.Terms.{minus_poly, minus_nonzero, nothing_at}
+use Rattle.subalgebra_laws.proofs.ToPolynomials.{minus_poly, minus_nonzero, nothing_at}
 
 module _ {E : Type 0} (P : Presented E) (H : IsPresentation P) (a r q : List (Term E)) (hr : IsSubductionRemainder P a r) (hq : IsSubductionRemainder P a q) where
   -- r - q is the difference of a - q and a - r
@@ -48,7 +48,7 @@ module _ {E : Type 0} (P : Presented E) (H : IsPresentation P) (a r : List (Term
       (record {
         poly = tt;
         inside = sub_congruent P H a (minus P.field a []) h (congruent_same P.field H.field P.order.places P.ideal (minus P.field a []) a minus_nothing);
-        reduced = λ m k. absurd (k (sym (nothing_at P.field H.field m)));
+        reduced = λ m k. absurd (k (sym (nothing_at P.field m)));
       })
 
   pub remainder_member : Same P.field r [] → InSubalgebra P a

@@ -1,5 +1,5 @@
 -- Lists of elements: what is asked of them, what can be checked of them, and when no later degree brings anything new.
-use Rattle.std.specs.Prelude.{◌≡◌, ◌≢◌, ℕ, ◌≤◌, ◌⊎◌, List, ◌∷◌, ◌++◌, map, Contains}
+use Rattle.std.specs.Prelude.{◌≡◌, ◌≢◌, ℕ, ◌<◌, ◌≤◌, ◌⊎◌, List, [], ◌∷◌, ◌++◌, length, get_or, map, Contains}
 use Rattle.monomial_order.specs.declared.Term.{Term}
 use Rattle.monomial_order.specs.Monomial.{IsMonomial, Divides}
 use Rattle.monomial_order.specs.Words.{order_of, IsWord}
@@ -70,7 +70,13 @@ module _ {E : Type 0} (P : Presented E) where
     pub degree : HaveLeadsFrom d T
     pub new : (t : List (Term E)) → Contains T t → ¬ IsGenerated (map lead S) (lead t)
 
-  -- and their leads are standard and increasing
+  -- and their leads are standard, and differ
+  pub record AreStandardAfter (d : ℕ) (S T : List (List (Term E))) : Type 0 where
+    pub after : AreAfter d S T
+    pub standard : (t : List (Term E)) → Contains T t → IsStandard P (lead t)
+    pub differ : (i j : ℕ) → i < length T → j < length T → lead (get_or T i []) ≡ lead (get_or T j []) → i ≡ j
+
+  -- or they are increasing
   pub record AreNextTo (d : ℕ) (S T : List (List (Term E))) : Type 0 where
     pub after : AreAfter d S T
     pub standard : (t : List (Term E)) → Contains T t → IsStandard P (lead t)

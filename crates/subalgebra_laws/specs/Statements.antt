@@ -9,7 +9,7 @@ use Rattle.poly_core.specs.Poly.{coefficient, constant, times, Same, IsPoly, IsL
 use Rattle.poly_core.specs.Ideal.{Congruent}
 use Rattle.poly_core.specs.Subalgebra.{Presented, IsPresentation, InSubalgebra, LeadsIdeal, LeadsSubalgebra, IsStandard, IsNormalForm, IsGenerated, IsReducedBasis}
 use Rattle.subalgebra_laws.specs.Words.{letters, word_value, combination_value, IsReducibleWord, IsMinimalWord, IsIrreducibleSum, IsTopWord, IsCombination, IsSubductionRemainder}
-use Rattle.subalgebra_laws.specs.Bases.{AreMonicElements, AreMembers, HasDegreesTo, HaveLeadsFrom, IsDecidedTo, AreZerosTo, HasCombinationsTo, IsIdealClosedAt, IsClosedAt, AreAfter, AreNextTo, IsCheckedElement, IsCheckedBasis}
+use Rattle.subalgebra_laws.specs.Bases.{AreMonicElements, AreMembers, HasDegreesTo, HaveLeadsFrom, IsDecidedTo, AreZerosTo, HasCombinationsTo, IsIdealClosedAt, IsClosedAt, AreAfter, AreStandardAfter, AreNextTo, IsCheckedElement, IsCheckedBasis}
 
 -- What a law holds of. E is the type of the coefficients.
 
@@ -41,7 +41,13 @@ abbrev pub ForNewElements :
 ForNewElements E Law = (P : Presented E) (S T : List (List (Term E))) (d : ℕ) →
     IsPresentation P → AreAfter P d S T → Law P S T d
 
--- and have standard leads that increase
+-- and have standard leads that differ
+abbrev pub ForStandardElements :
+    (E : Type 0) → (Presented E → List (List (Term E)) → List (List (Term E)) → ℕ → Type 0) → Type 0
+ForStandardElements E Law = (P : Presented E) (S T : List (List (Term E))) (d : ℕ) →
+    IsPresentation P → AreStandardAfter P d S T → Law P S T d
+
+-- or that are increasing
 abbrev pub ForNextElements :
     (E : Type 0) → (Presented E → List (List (Term E)) → List (List (Term E)) → ℕ → Type 0) → Type 0
 ForNextElements E Law = (P : Presented E) (S T : List (List (Term E))) (d : ℕ) →

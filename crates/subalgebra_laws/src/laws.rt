@@ -2,8 +2,8 @@
 ghost use Rattle.std.specs.Prelude.{◌++◌, ◌≤◌, List, ℕ};
 ghost use Rattle.monomial_order.specs.declared.Term.{Term};
 ghost use Rattle.poly_core.specs.Subalgebra.{IsPresentation, IsReducedBasis, Presented};
-ghost use Rattle.subalgebra_laws.specs.Bases.{AreMonicElements, AreZerosTo, HasCombinationsTo, HaveLeadsFrom, IsDecidedTo, IsIdealClosedAt};
-ghost use Rattle.subalgebra_laws.specs.Statements.{CheckingIsExact, ClosedIdealsAreDecided, ClosedIdealsKeepZeros, CombinationsHaveGeneratedLeads, CombinationsStay, CongruentAreCombinations, ElementsAreCombinations, EndsCanBeExchanged, ForClosedBases, ForDecidedIdeals, ForMonicElements, ForMonicMembers, ForNewElements, ForNextElements, ForPresentations, IrreducibleWordsAreCombinations, LeadsAreExactly, LeadsAreGenerated, LeastWordsAreIrreducible, LowMembersAreCombinations, MembersAreCombinations, MinimalWordsStay, MultiplesAreCombinations, NextBasisIsReduced, ProductsAreImages, ProductsSplit, RemaindersAreUnique, RemaindersDecideMembership, StandardProductsLead, SumsAreCombinations, SumsAreUnique, SumsHaveTopWords, SumsOfSWordsAreMembers, SWordsAreMembers, TopImagesAreLeast, TopImagesLead, TopImagesLeadNormalForms, ValuesStay, WordsAreDecided, ZerosDecide, ZerosStandForTheIdeal};
+ghost use Rattle.subalgebra_laws.specs.Bases.{AreMonicElements, AreStandardAfter, AreZerosTo, HasCombinationsTo, HaveLeadsFrom, IsDecidedTo, IsIdealClosedAt};
+ghost use Rattle.subalgebra_laws.specs.Statements.{CheckingIsExact, ClosedIdealsAreDecided, ClosedIdealsKeepZeros, CombinationsHaveGeneratedLeads, CombinationsStay, CongruentAreCombinations, ElementsAreCombinations, EndsCanBeExchanged, ForClosedBases, ForDecidedIdeals, ForMonicElements, ForMonicMembers, ForNewElements, ForNextElements, ForPresentations, ForStandardElements, IrreducibleWordsAreCombinations, LeadsAreExactly, LeadsAreGenerated, LeastWordsAreIrreducible, LowMembersAreCombinations, MembersAreCombinations, MinimalWordsStay, MultiplesAreCombinations, NextBasisIsReduced, ProductsAreImages, ProductsSplit, RemaindersAreUnique, RemaindersDecideMembership, StandardProductsLead, SumsAreCombinations, SumsAreUnique, SumsHaveTopWords, SumsOfSWordsAreMembers, SWordsAreMembers, TopImagesAreLeast, TopImagesLead, TopImagesLeadNormalForms, ValuesStay, WordsAreDecided, ZerosDecide, ZerosStandForTheIdeal};
 
 use word_field::Field;
 
@@ -54,8 +54,9 @@ pub fn growing<F: Field>()
         IsPresentation P → AreMonicElements P (S ++ T) → HaveLeadsFrom P d T → ProductsSplit P S T d }
     ensures combinations { ForNewElements F.Elem CombinationsStay }
     ensures ends { ForNewElements F.Elem EndsCanBeExchanged }
-    ensures elements { ForNextElements F.Elem ElementsAreCombinations }
-    ensures minimal { ForNextElements F.Elem MinimalWordsStay }
+    ensures elements { ForStandardElements F.Elem ElementsAreCombinations }
+    ensures minimal { ForStandardElements F.Elem MinimalWordsStay }
+    ensures differ { ForNextElements F.Elem (λ P S T d. AreStandardAfter P d S T) }
     ensures next { ForNextElements F.Elem NextBasisIsReduced }
 {}
 

@@ -1,5 +1,4 @@
-//! Laws of subalgebras and of their bases, as contracts of calls that do nothing.
+//! Laws.
 #![tactic(auto)]
 
 pub mod laws;
-pub mod samples;
