@@ -3,6 +3,7 @@ use Rattle.std.proofs.Common.{◌≡◌, ℕ, zero, suc, ◌+◌, ◌<◌, ◌�
 use Rattle.std.specs.Prelude.{map, Contains, sum}
 use Rattle.std.proofs.lemmas.List.{length-map, get_or-append-add, get_or-map}
 use Rattle.std.proofs.lemmas.List.Sums.{sum_by-cons}
+use Rattle.std.proofs.Math.Seq.{take-nil}
 use Rattle.word_field.specs.Field.{FieldOps, IsField}
 use Rattle.monomial_order.specs.declared.Term.{Term}
 use Rattle.monomial_order.specs.Monomial.{product, variable, IsMonomial, weighted_degree}
@@ -67,11 +68,7 @@ module _ {E : Type 0} (P : Presented E) (S : List (List (Term E))) where
 
   -- 1 and products of s-words are s-words
   pub s_one : IsSWord (letters P S) []
-  s_one = (record { trimmed = tt; within = omega arith }, ap sum (take_none (length letter_degrees)))
-    where
-      take_none : (k : ℕ) → take {A = ℕ} k [] ≡ []
-      take_none zero = refl
-      take_none (suc k) = refl
+  s_one = (record { trimmed = tt; within = omega arith }, ap sum (take-nil (length letter_degrees)))
 
   pub s_product : (u v : List ℕ) → IsSWord (letters P S) u → IsSWord (letters P S) v → IsSWord (letters P S) (product u v)
   s_product u v h k = (

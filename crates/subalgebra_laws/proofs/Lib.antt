@@ -9,3 +9,5 @@ mod ReducedBases
 mod Growing
 mod Next
 mod Remainders
+mod Principal
+mod SampleTools

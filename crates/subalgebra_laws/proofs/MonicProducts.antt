@@ -2,6 +2,7 @@
 use Rattle.std.proofs.Common.{◌≡◌, ◌≢◌, ℕ, zero, suc, refl, sym, ◌∙◌, ap, subst, List, [], ◌∷◌, ◌++◌, ◌⊎◌, inl, inr, ⊎_elim, cond, arith}
 use Rattle.std.specs.declared.cmp.Ordering.TheVariants.{Less}
 use Rattle.word_field.specs.Field.{FieldOps, IsField}
+use Rattle.word_field.specs.FieldLaws.{times_not_zero}
 use Rattle.monomial_order.specs.declared.Term.{Term}
 use Rattle.monomial_order.specs.Monomial.{product, IsMonomial, IsTrimmed}
 use Rattle.monomial_order.specs.MonomialOrder.{MonomialOrder, IsMonomialOrder}
@@ -10,6 +11,7 @@ use Rattle.monomial_order.specs.MonomialLaws.{product_comm, IsMonomial-product}
 use Rattle.monomial_order.specs.Comparing.{not_below_self}
 use Rattle.poly_core.specs.Poly.{same_monomial, coefficient, Same, term_times, scaled, times, constant, AllAt, IsPoly, IsLead}
 use Rattle.poly_core.specs.Value.{power, monomial_value}
+use Rattle.poly_core.specs.RingLaws.{coefficient_value}
 use Rattle.poly_core.specs.SameLaws.{same_refl, times_same}
 use Rattle.poly_core.specs.FallingLaws.{Falls_IsPoly, IsLead_first, IsLead_unique, coefficient_first}
 use Rattle.poly_core.specs.CanonicalLaws.{canonical, IsCanonical, IsLead_same}
@@ -30,46 +32,54 @@ module _ {E : Type 0} (K : FieldOps E) (F : IsField K) (O : MonomialOrder) (L : 
   pub monic_lead : (p : List (Term E)) (m : List ℕ) → IsMonic K O p m → IsLead K O p m
   monic_lead p m h = record { nonzero = λ z. F.one_not_zero (sym h.one ∙ z); greatest = h.greatest }
 
-  -- p is a term at m with the coefficient 1, and terms below it
+  -- p is a term at m, and terms below it
   record HasFirst (p : List (Term E)) (m : List ℕ) (t : Term E) (r : List (Term E)) : Type 0 where
     same : Same K (t ∷ r) p
     at : t.at ≡ m
-    by : t.by ≡ K.one
+    by : t.by ≡ coefficient K p m
     below : AllAt (λ n. IsTrimmed n × (O.compare n m ≡ Less)) r
 
-  first_term : (p : List (Term E)) (m : List ℕ) → IsMonic K O p m → (t : Term E) × (r : List (Term E)) × HasFirst p m t r
-  first_term p m h = let c = canonical K F O L p h.poly in cases c.0 c.1
+  first_term : (p : List (Term E)) (m : List ℕ) → IsPoly K O.places p → IsLead K O p m → (t : Term E) × (r : List (Term E)) × HasFirst p m t r
+  first_term p m hp h = let c = canonical K F O L p hp in cases c.0 c.1
     where
       cases : (q : List (Term E)) → IsCanonical K F O L p q → (t : Term E) × (r : List (Term E)) × HasFirst p m t r
-      cases [] c = absurd (F.one_not_zero (sym h.one ∙ (sym (c.same m) ∙ sym (nothing_at K m))))
+      cases [] c = absurd (h.nonzero (sym (c.same m) ∙ sym (nothing_at K m)))
       cases (t ∷ r) c =
-          let at : t.at ≡ m = IsLead_unique K F O L p t.at m (IsLead_same K F O L (t ∷ r) p t.at c.same (IsLead_first K F O L t r c.falls)) (monic_lead p m h) in (
+          let at : t.at ≡ m = IsLead_unique K F O L p t.at m (IsLead_same K F O L (t ∷ r) p t.at c.same (IsLead_first K F O L t r c.falls)) h in (
             t,
             r,
             record {
               same = c.same;
               at = at;
-              by = sym (coefficient_first K F O L t r c.falls.0) ∙ (ap (coefficient K (t ∷ r)) at ∙ (c.same m ∙ h.one));
+              by = sym (coefficient_first K F O L t r c.falls.0) ∙ (ap (coefficient K (t ∷ r)) at ∙ c.same m);
               below = falls_all K F O L (λ n. IsTrimmed n × (O.compare n m ≡ Less)) r c.falls.1
                   (λ n k. ((poly_monomial K F O L r n (Falls_IsPoly K O r c.falls.1) k).trimmed, subst (λ x. O.compare n x ≡ Less) at (below_found K F O L t.at r c.falls.0.above n k)));
             },
           )
 
-  pub monic_times : (p q : List (Term E)) (m k : List ℕ) → IsMonic K O p m → IsMonic K O q k → IsMonic K O (times K p q) (product m k)
+  pub times_lead : (p q : List (Term E)) (m k : List ℕ) → IsPoly K O.places p → IsPoly K O.places q → IsLead K O p m → IsLead K O q k →
+      IsLead K O (times K p q) (product m k) × (coefficient K (times K p q) (product m k) ≡ K.times (coefficient K p m) (coefficient K q k))
   unfolding coefficient
-  monic_times p q m k hp hq = joined (first_term p m hp) (first_term q k hq)
+  times_lead p q m k hp hq lp lq = joined (first_term p m hp lp) (first_term q k hq lq)
     where
+      tm : IsTrimmed m
+      tm = (poly_monomial K F O L p m hp lp.nonzero).trimmed
+
+      tk : IsTrimmed k
+      tk = (poly_monomial K F O L q k hq lq.nonzero).trimmed
+
       right : (b : List ℕ) → IsTrimmed b → O.compare b k ≡ Less → O.compare (product m b) (product m k) ≡ Less
-      right b hb lt = L.kept m b k hp.monomial.trimmed hb hq.monomial.trimmed ∙ lt
+      right b hb lt = L.kept m b k tm hb tk ∙ lt
 
       left : (a b : List ℕ) → IsTrimmed a → IsTrimmed b → O.compare a m ≡ Less → O.compare (product a b) (product m b) ≡ Less
-      left a b ha hb lt = ap (λ x. O.compare x (product m b)) (product_comm a b) ∙ (ap (O.compare (product b a)) (product_comm m b) ∙ (L.kept b a m hb ha hp.monomial.trimmed ∙ lt))
+      left a b ha hb lt = ap (λ x. O.compare x (product m b)) (product_comm a b) ∙ (ap (O.compare (product b a)) (product_comm m b) ∙ (L.kept b a m hb ha tm ∙ lt))
 
       both : (a b : List ℕ) → IsTrimmed a × (O.compare a m ≡ Less) → IsTrimmed b × ((b ≡ k) ⊎ (O.compare b k ≡ Less)) → O.compare (product a b) (product m k) ≡ Less
       both a b ha hb = ⊎_elim (λ e. subst (λ x. O.compare (product a b) (product m x) ≡ Less) e (left a b ha.0 hb.0 ha.1))
           (λ lt. L.total.trans (product a b) (product m b) (product m k) (left a b ha.0 hb.0 ha.1) (right b hb.0 lt)) hb.1
 
-      joined : (t : Term E) × (r : List (Term E)) × HasFirst p m t r → (u : Term E) × (s : List (Term E)) × HasFirst q k u s → IsMonic K O (times K p q) (product m k)
+      joined : (t : Term E) × (r : List (Term E)) × HasFirst p m t r → (u : Term E) × (s : List (Term E)) × HasFirst q k u s →
+          IsLead K O (times K p q) (product m k) × (coefficient K (times K p q) (product m k) ≡ K.times (coefficient K p m) (coefficient K q k))
       joined (t, r, a) (u, s, b) =
           let same : Same K (times K (t ∷ r) (u ∷ s)) (times K p q) = times_same K F (t ∷ r) p (u ∷ s) q a.same b.same in
           let rest = scaled K t s ++ times K r (u ∷ s) in
@@ -78,21 +88,31 @@ module _ {E : Type 0} (K : FieldOps E) (F : IsField K) (O : MonomialOrder) (L : 
           (AllAt-scaled K (λ n. O.compare n (product m k) ≡ Less) t s (AllAt-map (λ n. IsTrimmed n × (O.compare n k ≡ Less)) (λ n. O.compare (product t.at n) (product m k) ≡ Less)
           (λ n x. subst (λ y. O.compare (product y n) (product m k) ≡ Less) (sym a.at) (right n x.0 x.1)) s b.below))
           (AllAt-times K (λ n. IsTrimmed n × (O.compare n m ≡ Less)) (λ n. IsTrimmed n × ((n ≡ k) ⊎ (O.compare n k ≡ Less))) (λ n. O.compare n (product m k) ≡ Less) both r (u ∷ s) a.below
-          ((subst IsTrimmed (sym b.at) hq.monomial.trimmed, inl b.at), AllAt-map (λ n. IsTrimmed n × (O.compare n k ≡ Less)) (λ n. IsTrimmed n × ((n ≡ k) ⊎ (O.compare n k ≡ Less))) (λ n x. (x.0, inr x.1)) s b.below)) in
+          ((subst IsTrimmed (sym b.at) tk, inl b.at), AllAt-map (λ n. IsTrimmed n × (O.compare n k ≡ Less)) (λ n. IsTrimmed n × ((n ≡ k) ⊎ (O.compare n k ≡ Less))) (λ n x. (x.0, inr x.1)) s b.below)) in
           let at : product t.at u.at ≡ product m k = ap (λ x. product x u.at) a.at ∙ ap (product m) b.at in
-          let by : K.times t.by u.by ≡ K.one = ap (λ x. K.times x u.by) a.by ∙ (ap (K.times K.one) b.by ∙ (F.times_one K.one ∙ F.one_value)) in
           let none : coefficient K rest (product m k) ≡ K.zero =
           no_coefficient K F rest (product m k) (λ c. not_below_self O L (product m k) (all_found K F O L (λ n. O.compare n (product m k) ≡ Less) rest below (product m k) c)) in
-          record {
-            poly = IsPoly-times K F O.places p q hp.poly hq.poly;
-            monomial = IsMonomial-product O.places m k hp.monomial hq.monomial;
-            one = sym (same (product m k)) ∙
-                (ap (λ b. K.plus (cond b (K.times t.by u.by) K.zero) (coefficient K rest (product m k))) (ap (λ x. same_monomial x (product m k)) at ∙ same_refl (product m k)) ∙
-                (ap (K.plus (K.times t.by u.by)) none ∙ (F.plus_zero (K.times t.by u.by) ∙ (ap K.reduce by ∙ F.one_value))));
-            greatest = λ n h ne. ⊎_elim (λ e. absurd (ne e)) (λ lt. lt)
-                (all_found K F O L (λ x. (x ≡ product m k) ⊎ (O.compare x (product m k) ≡ Less)) (term_times K t u ∷ rest)
-                (inl at, AllAt-map (λ x. O.compare x (product m k) ≡ Less) (λ x. (x ≡ product m k) ⊎ (O.compare x (product m k) ≡ Less)) (λ x lt. inr lt) rest below) n (λ z. h (sym (same n) ∙ z)));
-          }
+          let one : coefficient K (times K p q) (product m k) ≡ K.times (coefficient K p m) (coefficient K q k) =
+          sym (same (product m k)) ∙ (ap (λ b. K.plus (cond b (K.times t.by u.by) K.zero) (coefficient K rest (product m k))) (ap (λ x. same_monomial x (product m k)) at ∙ same_refl (product m k)) ∙
+          (ap (K.plus (K.times t.by u.by)) none ∙ (F.plus_zero (K.times t.by u.by) ∙ (F.times_value t.by u.by ∙ (ap (λ x. K.times x u.by) a.by ∙ ap (K.times (coefficient K p m)) b.by))))) in (
+            record {
+              nonzero = λ z. times_not_zero K F (coefficient K p m) (coefficient K q k) (λ e. lp.nonzero (sym (coefficient_value K F p m) ∙ e)) (λ e. lq.nonzero (sym (coefficient_value K F q k) ∙ e)) (sym one ∙ z);
+              greatest = λ n h ne. ⊎_elim (λ e. absurd (ne e)) (λ lt. lt)
+                  (all_found K F O L (λ x. (x ≡ product m k) ⊎ (O.compare x (product m k) ≡ Less)) (term_times K t u ∷ rest)
+                  (inl at, AllAt-map (λ x. O.compare x (product m k) ≡ Less) (λ x. (x ≡ product m k) ⊎ (O.compare x (product m k) ≡ Less)) (λ x lt. inr lt) rest below) n (λ z. h (sym (same n) ∙ z)));
+            },
+            one,
+          )
+
+  pub monic_times : (p q : List (Term E)) (m k : List ℕ) → IsMonic K O p m → IsMonic K O q k → IsMonic K O (times K p q) (product m k)
+  monic_times p q m k hp hq =
+      let l = times_lead p q m k hp.poly hq.poly (monic_lead p m hp) (monic_lead q k hq) in
+      record {
+        poly = IsPoly-times K F O.places p q hp.poly hq.poly;
+        monomial = IsMonomial-product O.places m k hp.monomial hq.monomial;
+        one = l.1 ∙ (ap (λ x. K.times x (coefficient K q k)) hp.one ∙ (ap (K.times K.one) hq.one ∙ (F.times_one K.one ∙ F.one_value)));
+        greatest = l.0.greatest;
+      }
 
   pub monic_one : IsMonic K O (constant K K.one) []
   unfolding coefficient
