@@ -2,25 +2,25 @@
 use Rattle.std.proofs.Common.{◌≡◌, ◌≢◌, ℕ, ◌≤◌, refl, sym, ◌∙◌, ap, subst, List, [], ◌∷◌, ◌++◌, ◌⊎◌, inl, inr, ⊎_elim, append-nil, arith, cond}
 use Rattle.std.specs.declared.cmp.Ordering.TheVariants.{Less}
 use Rattle.word_field.specs.Field.{IsValue}
-use Rattle.word_field.specs.FieldLaws.{times-zero, zero-plus}
-use Rattle.monomial_order.specs.declared.Term.{Term}
+use Rattle.word_field.specs.laws.Field.{times-zero, zero-plus}
+use Rattle.monomial_order.specs.declared.terms.Term.{Term}
 use Rattle.monomial_order.specs.MonomialOrder.{MonomialOrder, IsMonomialOrder}
-use Rattle.monomial_order.specs.Words.{order_of, image_of, IsWord, IsSWord}
-use Rattle.monomial_order.specs.Comparing.{not_below_self, three_ways, equal_or_not, le_or_not, degree_falls}
-use Rattle.poly_core.specs.Poly.{share, coefficient, Same, term_of, times, scaled, negated, minus, constant, AllAt, IsPoly, Falls, IsLead}
-use Rattle.poly_core.specs.Ideal.{InIdeal, Congruent}
-use Rattle.poly_core.specs.Value.{value, monomial_value, term_value}
-use Rattle.poly_core.specs.Subalgebra.{Presented, IsPresentation, LeadsIdeal, IsNormalForm}
-use Rattle.poly_core.specs.RingLaws.{coefficient_value, coefficient-append}
-use Rattle.poly_core.specs.SameLaws.{same_refl, append_same, times_same_left}
-use Rattle.poly_core.specs.ValueLaws.{value_same, value-append, value-scaled, one_times, coefficient-constant_times, coefficient-scaled}
-use Rattle.poly_core.specs.FallingLaws.{Falls_IsPoly, Falls_unique, coefficient_first}
-use Rattle.poly_core.specs.LeadLaws.{tail_zero}
-use Rattle.poly_core.specs.CanonicalLaws.{canonical, IsCanonical, IsLead_same, zero_or_lead}
-use Rattle.poly_core.specs.DegreeLaws.{all_found, falls_all}
-use Rattle.poly_core.specs.IdealLaws.{IsPoly-append, IsPoly-scaled, InIdeal_same}
-use Rattle.poly_core.specs.CongruenceLaws.{congruent_same, congruent_refl, congruent_sym, congruent_trans, congruent_plus, congruent_times_left, minus_zero}
-use Rattle.poly_core.specs.SubalgebraLaws.{IsPoly-value, ArePolys, value-negated}
+use Rattle.word_laws.specs.Words.{word_order_of, image_of, IsWord, IsSWord}
+use Rattle.monomial_order.specs.laws.Comparing.{not_below_self, three_ways, equal_or_not, le_or_not, degree_falls}
+use Rattle.polynomials.specs.Polynomial.{Polynomial, share, coefficient, Same, term_of, times, scaled, negated, minus, constant, AllAt, IsPoly, IsDecreasing, IsLead}
+use Rattle.polynomials.specs.Ideal.{InIdeal, Congruent}
+use Rattle.polynomials.specs.Value.{value, monomial_value, term_value}
+use Rattle.polynomials.specs.Subalgebra.{Presented, IsPresentation, LeadsIdeal, IsNormalForm}
+use Rattle.polynomials.specs.laws.Ring.{coefficient_value, coefficient-append}
+use Rattle.polynomials.specs.laws.Same.{same_refl, append_same, times_same_left}
+use Rattle.polynomials.specs.laws.Value.{value_same, value-append, value-scaled, one_times, coefficient-constant_times, coefficient-scaled}
+use Rattle.polynomials.specs.laws.Decreasing.{IsDecreasing_IsPoly, IsDecreasing_unique, coefficient_first}
+use Rattle.polynomials.specs.laws.Leads.{tail_zero}
+use Rattle.polynomials.specs.laws.Canonical.{canonical, IsCanonicalForm, IsLead_same, zero_or_lead}
+use Rattle.polynomials.specs.laws.Degrees.{all_found, decreasing_all}
+use Rattle.polynomials.specs.laws.Ideal.{IsPoly-append, IsPoly-scaled, InIdeal_same}
+use Rattle.polynomials.specs.laws.Congruence.{congruent_same, congruent_refl, congruent_sym, congruent_trans, congruent_plus, congruent_times_left, minus_zero}
+use Rattle.polynomials.specs.laws.Membership.{IsPoly-value, ArePolys, value-negated}
 use Rattle.subalgebra_laws.specs.Words.{letters, letter_values, word_value, combination_value, IsReducibleWord, IsIrreducibleSum, IsTopWord, IsCombination}
 use Rattle.subalgebra_laws.specs.Bases.{AreMonicElements, HasDegreesTo}
 use Rattle.subalgebra_laws.specs.Statements.{SumsHaveTopWords, SumsAreUnique, SumsAreCombinations, MultiplesAreCombinations, CongruentAreCombinations, IrreducibleWordsAreCombinations}
@@ -28,17 +28,17 @@ use Rattle.subalgebra_laws.proofs.ToPolynomials.{same_false, nothing_at, AllAt-m
 use Rattle.subalgebra_laws.proofs.MonicProducts.{AreMonic, monic_lead}
 use Rattle.subalgebra_laws.proofs.Letters.{letter_images, values_monic, word_monic, letter_laws, word_degree}
 
-module _ {E : Type 0} (P : Presented E) (H : IsPresentation P) (S : List (List (Term E))) (HS : AreMonicElements P S) where
+module _ {E : Type 0} (P : Presented E) (H : IsPresentation P) (S : List (Polynomial E)) (HS : AreMonicElements P S) where
   open P use {field as K, order as O}
   open H use {field as F, order as L}
 
   abbrev W : MonomialOrder
-  W = order_of (letters P S)
+  W = word_order_of (letters P S)
 
-  abbrev LW : IsMonomialOrder (order_of (letters P S))
+  abbrev LW : IsMonomialOrder (word_order_of (letters P S))
   LW = letter_laws P H S HS
 
-  abbrev values : List (List (Term E))
+  abbrev values : List (Polynomial E)
   values = letter_values P S
 
   abbrev im : List ℕ → List ℕ
@@ -61,10 +61,10 @@ module _ {E : Type 0} (P : Presented E) (H : IsPresentation P) (S : List (List (
   less_after : (w v : List ℕ) (m : List ℕ) → O.compare (im w) m ≡ Less → IsAtMost w v → O.compare (im v) m ≡ Less
   less_after w v m lt h = ⊎_elim (λ same. subst (λ x. O.compare (im x) m ≡ Less) (sym same) lt) (λ less. L.total.trans (im v) (im w) m less lt) h
 
-  abbrev HasTop : List (Term E) → Type 0
+  abbrev HasTop : Polynomial E → Type 0
   HasTop e = (w : List ℕ) × (coefficient K e w ≢ K.zero) × IsIrreducible w × AllAt (IsAtMost w) e
 
-  top : (e : List (Term E)) → Falls K W e → AllAt IsIrreducible e → (e ≡ []) ⊎ HasTop e
+  top : (e : Polynomial E) → IsDecreasing K W e → AllAt IsIrreducible e → (e ≡ []) ⊎ HasTop e
   top [] f h = inl refl
   top (t ∷ e) f h = inr (⊎_elim (λ none. (t.at, first, h.0, (inl refl, subst (AllAt (IsAtMost t.at)) (sym none) tt))) (λ r. beside r.0 r.1 r.2 r.3) (top e f.1 h.1))
     where
@@ -84,13 +84,13 @@ module _ {E : Type 0} (P : Presented E) (H : IsPresentation P) (S : List (List (
   have_top_words e h =
       ⊎_elim (λ none. inl none)
       (λ r. inr (r.0, record { stands = r.1; greatest = λ v k ne. ⊎_elim (λ same. absurd (ne same)) (λ lt. lt) (all_found K F W LW (IsAtMost r.0) e r.3 v k) }))
-      (top e h.falls (falls_all K F W LW IsIrreducible e h.falls (λ w k. (h.words w k, h.irreducible w k))))
+      (top e h.decreasing (decreasing_all K F W LW IsIrreducible e h.decreasing (λ w k. (h.words w k, h.irreducible w k))))
 
-  pub some_top : (e : List (Term E)) → IsIrreducibleSum P S e → (v : List ℕ) → coefficient K e v ≢ K.zero → (w : List ℕ) × IsTopWord P S e w
+  pub some_top : (e : Polynomial E) → IsIrreducibleSum P S e → (v : List ℕ) → coefficient K e v ≢ K.zero → (w : List ℕ) × IsTopWord P S e w
   some_top e h v k = ⊎_elim (λ none. absurd (k (ap (λ x. coefficient K x v) none ∙ sym (nothing_at K v)))) (λ r. r) (have_top_words e h)
 
   -- the value has the coefficient of the word at its image, and no greater monomial
-  value_at : (w : List ℕ) (e : List (Term E)) → IsPoly K W.places e → AllAt (IsAtMost w) e → coefficient K (value K e values) (im w) ≡ coefficient K e w
+  value_at : (w : List ℕ) (e : Polynomial E) → IsPoly K W.places e → AllAt (IsAtMost w) e → coefficient K (value K e values) (im w) ≡ coefficient K e w
   unfolding coefficient
   value_at w [] hp u = refl
   value_at w (t ∷ e) hp u =
@@ -106,7 +106,7 @@ module _ {E : Type 0} (P : Presented E) (H : IsPresentation P) (S : List (List (
       less lt = ap (K.times t.by) (above_lead K F O L (word_value P S t.at) (im t.at) (im w) (monic_lead K F O L (word_value P S t.at) (im t.at) (word_monic P H S HS t.at)) lt) ∙
           (times-zero K F t.by ∙ sym (ap (λ b. cond b t.by K.zero) (same_false t.at w (λ e. not_below_self O L (im w) (subst (λ x. O.compare (im x) (im w) ≡ Less) e lt)))))
 
-  value_under : (w : List ℕ) (e : List (Term E)) → AllAt (IsAtMost w) e → (n : List ℕ) → coefficient K (value K e values) n ≢ K.zero → n ≢ im w → O.compare n (im w) ≡ Less
+  value_under : (w : List ℕ) (e : Polynomial E) → AllAt (IsAtMost w) e → (n : List ℕ) → coefficient K (value K e values) n ≢ K.zero → n ≢ im w → O.compare n (im w) ≡ Less
   value_under w [] u n k ne = absurd (k (sym (nothing_at K n)))
   value_under w (t ∷ e) u n k ne = ⊎_elim first (λ r. value_under w e u.1 n r ne) (append_nonzero K F (term_value K values t) (value K e values) n k)
     where
@@ -120,29 +120,29 @@ module _ {E : Type 0} (P : Presented E) (H : IsPresentation P) (S : List (List (
   polys : ArePolys K F O.places values
   polys = polys_of values (letter_images P S) (values_monic P H S HS)
     where
-      polys_of : (gs : List (List (Term E))) (ks : List (List ℕ)) → AreMonic K F O L gs ks → ArePolys K F O.places gs
+      polys_of : (gs : List (Polynomial E)) (ks : List (List ℕ)) → AreMonic K F O L gs ks → ArePolys K F O.places gs
       polys_of [] ks h = tt
       polys_of (f ∷ gs) [] h = absurd h
       polys_of (f ∷ gs) (k ∷ ks) h = (h.0.poly, polys_of gs ks h.1)
 
-  pub value_poly : (e : List (Term E)) → IsPoly K W.places e → IsPoly K O.places (value K e values)
+  pub value_poly : (e : Polynomial E) → IsPoly K W.places e → IsPoly K O.places (value K e values)
   value_poly e h = IsPoly-value K F O.places W.places e values h polys
 
-  pub sum_poly : (e : List (Term E)) → IsIrreducibleSum P S e → IsPoly K O.places (value K e values)
-  sum_poly e h = value_poly e (Falls_IsPoly K W e h.falls)
+  pub sum_poly : (e : Polynomial E) → IsIrreducibleSum P S e → IsPoly K O.places (value K e values)
+  sum_poly e h = value_poly e (IsDecreasing_IsPoly K W e h.decreasing)
 
-  module _ (e : List (Term E)) (w : List ℕ) (h : IsIrreducibleSum P S e) (t : IsTopWord P S e w) where
+  module _ (e : Polynomial E) (w : List ℕ) (h : IsIrreducibleSum P S e) (t : IsTopWord P S e w) where
     pub under_top : (v : List ℕ) → coefficient K e v ≢ K.zero → (v ≡ w) ⊎ (O.compare (im v) (im w) ≡ Less)
     under_top v k = ⊎_elim (λ same. inl same) (λ ne. inr (t.greatest v k ne)) (equal_or_not v w)
 
     pub top_leads : IsLead K O (value K e values) (im w) × (coefficient K (value K e values) (im w) ≡ coefficient K e w)
     top_leads =
-        let u = falls_all K F W LW (IsAtMost w) e h.falls under_top in
-        let c = value_at w e (Falls_IsPoly K W e h.falls) u in
+        let u = decreasing_all K F W LW (IsAtMost w) e h.decreasing under_top in
+        let c = value_at w e (IsDecreasing_IsPoly K W e h.decreasing) u in
         (record { nonzero = λ z. t.stands (sym c ∙ z); greatest = value_under w e u }, c)
 
     -- no polynomial that equals the value modulo the ideal has only monomials below the image
-    pub top_only : (a : List (Term E)) → IsPoly K O.places a → Congruent K O.places P.ideal a (value K e values) →
+    pub top_only : (a : Polynomial E) → IsPoly K O.places a → Congruent K O.places P.ideal a (value K e values) →
         ((n : List ℕ) → coefficient K a n ≢ K.zero → O.compare n (im w) ≡ Less) → ⊥
     top_only a ha c below = h.irreducible w t.stands (inl (record {
       member = minus K a (value K e values);
@@ -151,12 +151,12 @@ module _ {E : Type 0} (P : Presented E) (H : IsPresentation P) (S : List (List (
       leads = lead_sum_right K F O L a (negated K (value K e values)) (im w) (lead_negated K F O L (value K e values) (im w) top_leads.0) below;
     }))
 
-    pub top_least : (a : List (Term E)) (m : List ℕ) → IsPoly K O.places a → Congruent K O.places P.ideal a (value K e values) → IsLead K O a m → O.compare m (im w) ≢ Less
+    pub top_least : (a : Polynomial E) (m : List ℕ) → IsPoly K O.places a → Congruent K O.places P.ideal a (value K e values) → IsLead K O a m → O.compare m (im w) ≢ Less
     top_least a m ha c la lt = top_only a ha c (below_lead K F O L a m (im w) la lt)
 
     -- a normal form differs from the value below the image alone
-    module _ (b : List (Term E)) (n : IsNormalForm P (value K e values) b) where
-      abbrev rest : List (Term E)
+    module _ (b : Polynomial E) (n : IsNormalForm P (value K e values) b) where
+      abbrev rest : Polynomial E
       rest = minus K b (value K e values)
 
       below : (k : List ℕ) → coefficient K rest k ≢ K.zero → O.compare k (im w) ≡ Less
@@ -185,18 +185,18 @@ module _ {E : Type 0} (P : Presented E) (H : IsPresentation P) (S : List (List (
   -- sums of irreducible s-words with congruent values are equal
   pub sums_unique : SumsAreUnique P S
   sums_unique a e g he hg ea ga =
-      ⊎_elim (λ none. Falls_unique K F W LW e g he.falls hg.falls (minus_zero K F e g (λ m. sym (r.1.same m) ∙ ap (λ p. coefficient K p m) none)))
+      ⊎_elim (λ none. IsDecreasing_unique K F W LW e g he.decreasing hg.decreasing (minus_zero K F e g (λ m. sym (r.1.same m) ∙ ap (λ p. coefficient K p m) none)))
       (λ t. absurd (hr.irreducible t.0 t.1.stands (inl (record { member = value K r.0 values; poly = sum_poly r.0 hr; inside = inside; leads = (top_leads r.0 t.0 hr t.1).0 }))))
       (have_top_words r.0 hr)
     where
-      r : (q : List (Term E)) × IsCanonical K F W LW (minus K e g) q
-      r = canonical K F W LW (minus K e g) (minus_poly K F W.places e g (Falls_IsPoly K W e he.falls) (Falls_IsPoly K W g hg.falls))
+      r : (q : Polynomial E) × IsCanonicalForm K F W LW (minus K e g) q
+      r = canonical K F W LW (minus K e g) (minus_poly K F W.places e g (IsDecreasing_IsPoly K W e he.decreasing) (IsDecreasing_IsPoly K W g hg.decreasing))
 
       word : (w : List ℕ) → coefficient K r.0 w ≢ K.zero → IsIrreducible w
       word w k = ⊎_elim (λ x. (he.words w x, he.irreducible w x)) (λ y. (hg.words w y, hg.irreducible w y)) (minus_nonzero K F e g w (λ z. k (r.1.same w ∙ z)))
 
       hr : IsIrreducibleSum P S r.0
-      hr = record { falls = r.1.falls; words = λ w k. (word w k).0; irreducible = λ w k. (word w k).1 }
+      hr = record { decreasing = r.1.decreasing; words = λ w k. (word w k).0; irreducible = λ w k. (word w k).1 }
 
       inside : InIdeal K O.places P.ideal (value K r.0 values)
       inside = InIdeal_same K F O.places P.ideal (minus K (value K e values) (value K g values)) (value K r.0 values)
@@ -208,38 +208,38 @@ module _ {E : Type 0} (P : Presented E) (H : IsPresentation P) (S : List (List (
   pub combination_congruent : CongruentAreCombinations P S
   combination_congruent a b c h = record { sum = h.sum; irreducible = h.irreducible; equal = congruent_trans K F O.places P.ideal b a (value K h.sum values) c h.equal }
 
-  pub combination_same : (a b : List (Term E)) → Same K b a → IsCombination P S a → IsCombination P S b
+  pub combination_same : (a b : Polynomial E) → Same K b a → IsCombination P S a → IsCombination P S b
   combination_same a b s h = combination_congruent a b (congruent_same K F O.places P.ideal b a s) h
 
   pub combination_zero : IsCombination P S []
   unfolding coefficient
   combination_zero = record {
     sum = [];
-    irreducible = record { falls = tt; words = λ w k. absurd (k refl); irreducible = λ w k. absurd (k refl) };
+    irreducible = record { decreasing = tt; words = λ w k. absurd (k refl); irreducible = λ w k. absurd (k refl) };
     equal = congruent_refl K F O.places P.ideal [];
   }
 
   -- any sum of irreducible words may be brought into its canonical form
-  by_form : (a h : List (Term E)) → IsPoly K W.places h → ((w : List ℕ) → coefficient K h w ≢ K.zero → IsIrreducible w) → Congruent K O.places P.ideal a (value K h values) → IsCombination P S a
+  by_form : (a h : Polynomial E) → IsPoly K W.places h → ((w : List ℕ) → coefficient K h w ≢ K.zero → IsIrreducible w) → Congruent K O.places P.ideal a (value K h values) → IsCombination P S a
   by_form a h hp hi c =
       let r = canonical K F W LW h hp in
       record {
         sum = r.0;
-        irreducible = record { falls = r.1.falls; words = λ w k. (hi w (λ z. k (r.1.same w ∙ z))).0; irreducible = λ w k. (hi w (λ z. k (r.1.same w ∙ z))).1 };
+        irreducible = record { decreasing = r.1.decreasing; words = λ w k. (hi w (λ z. k (r.1.same w ∙ z))).0; irreducible = λ w k. (hi w (λ z. k (r.1.same w ∙ z))).1 };
         equal = congruent_trans K F O.places P.ideal a (value K h values) (value K r.0 values) c
             (congruent_same K F O.places P.ideal (value K h values) (value K r.0 values) (λ m. sym (value_same K F r.0 h values r.1.same m)));
       }
 
   pub combination_plus : SumsAreCombinations P S
   combination_plus a b h k =
-      by_form (a ++ b) (h.sum ++ k.sum) (IsPoly-append K F W.places h.sum k.sum (Falls_IsPoly K W h.sum h.irreducible.falls) (Falls_IsPoly K W k.sum k.irreducible.falls))
+      by_form (a ++ b) (h.sum ++ k.sum) (IsPoly-append K F W.places h.sum k.sum (IsDecreasing_IsPoly K W h.sum h.irreducible.decreasing) (IsDecreasing_IsPoly K W k.sum k.irreducible.decreasing))
       (λ w c. ⊎_elim (λ x. (h.irreducible.words w x, h.irreducible.irreducible w x)) (λ y. (k.irreducible.words w y, k.irreducible.irreducible w y)) (append_nonzero K F h.sum k.sum w c))
       (subst (Congruent K O.places P.ideal (a ++ b)) (sym (value-append K F h.sum k.sum values)) (congruent_plus K F O.places P.ideal a (value K h.sum values) b (value K k.sum values) h.equal k.equal))
 
   pub combination_multiple : MultiplesAreCombinations P S
   combination_multiple c a v h =
       by_form (times K (constant K c) a) (scaled K (term_of [] c) h.sum)
-      (IsPoly-scaled K F W.places (term_of [] c) h.sum (record { monomial = record { trimmed = tt; within = omega arith }; value = v }) (Falls_IsPoly K W h.sum h.irreducible.falls))
+      (IsPoly-scaled K F W.places (term_of [] c) h.sum (record { monomial = record { trimmed = tt; within = omega arith }; value = v }) (IsDecreasing_IsPoly K W h.sum h.irreducible.decreasing))
       (λ w k. let x : coefficient K h.sum w ≢ K.zero = λ z. k (coefficient-scaled K F c h.sum w ∙ (ap (K.times c) z ∙ times-zero K F c)) in (h.irreducible.words w x, h.irreducible.irreducible w x))
       (congruent_trans K F O.places P.ideal (times K (constant K c) a) (times K (constant K c) (value K h.sum values)) (value K (scaled K (term_of [] c) h.sum) values)
       (congruent_times_left K F O.places P.ideal (constant K c) a (value K h.sum values) (constant_poly K F O.places c v) h.equal)
@@ -255,13 +255,13 @@ module _ {E : Type 0} (P : Presented E) (H : IsPresentation P) (S : List (List (
       (λ m. sym (ap (λ p. coefficient K p m) (append-nil (times K (constant K K.one) (word_value P S w))) ∙ one_times K F (word_value P S w) m)))
 
   -- a sum of values that are combinations is one
-  pub combination_linear : (n : ℕ) (fs : List (List (Term E))) (h : List (Term E)) → IsPoly K n h → AllAt (λ w. IsCombination P S (monomial_value K w fs)) h → IsCombination P S (value K h fs)
+  pub combination_linear : (n : ℕ) (fs : List (Polynomial E)) (h : Polynomial E) → IsPoly K n h → AllAt (λ w. IsCombination P S (monomial_value K w fs)) h → IsCombination P S (value K h fs)
   combination_linear n fs [] hp k = combination_zero
   combination_linear n fs (t ∷ h) hp k =
       combination_plus (term_value K fs t) (value K h fs) (combination_multiple t.by (monomial_value K t.at fs) hp.0.value k.0) (combination_linear n fs h hp.1 k.1)
 
   -- the words of a combination have images of at most the degree of the polynomial
-  pub sum_low : (d : ℕ) (a : List (Term E)) → IsPoly K O.places a → HasDegreesTo P d a → (f : IsCombination P S a) → (w : List ℕ) → coefficient K f.sum w ≢ K.zero → W.degree w ≤ d
+  pub sum_low : (d : ℕ) (a : Polynomial E) → IsPoly K O.places a → HasDegreesTo P d a → (f : IsCombination P S a) → (w : List ℕ) → coefficient K f.sum w ≢ K.zero → W.degree w ≤ d
   sum_low d a ha low f w k =
       let r = some_top f.sum f.irreducible w k in
       let dw = word_degree P H S HS w in

@@ -4,29 +4,29 @@ use Rattle.std.specs.Prelude.{map, Contains, nat_eq}
 use Rattle.std.proofs.Math.Nat.{mul-le-mul_left}
 use Rattle.std.proofs.lemmas.Bool.{eqb-true, eq-eqb, true≢false}
 use Rattle.std.specs.declared.cmp.Ordering.TheVariants.{Less}
-use Rattle.monomial_order.specs.declared.Term.{Term}
+use Rattle.monomial_order.specs.declared.terms.Term.{Term}
 use Rattle.monomial_order.specs.Monomial.{product, weighted_degree, IsTrimmed, Divides}
 use Rattle.monomial_order.specs.MonomialOrder.{MonomialOrder, IsMonomialOrder}
-use Rattle.monomial_order.specs.MonomialLaws.{product_comm, IsMonomial-product}
-use Rattle.monomial_order.specs.Lists.{contains_here, contains_there}
-use Rattle.monomial_order.specs.Cofactors.{cofactor, length-product_right, Divides-product}
-use Rattle.monomial_order.specs.Comparing.{three_ways, degree_falls, degree_one, divisor_degree}
-use Rattle.monomial_order.specs.Rank.{IsWithin, below_induction}
-use Rattle.monomial_order.specs.Words.{order_of, image_of, IsWord, IsSWord}
-use Rattle.monomial_order.specs.WordLaws.{image_times, s_divisor}
-use Rattle.poly_core.specs.Poly.{coefficient, term_of, times, scaled, negated, minus, constant, component, AllAt, IsTerm, IsPoly, lead}
-use Rattle.poly_core.specs.Ideal.{InIdeal, Congruent}
-use Rattle.poly_core.specs.Value.{power, value, monomial_value, term_value}
-use Rattle.poly_core.specs.Subalgebra.{Presented, IsPresentation, AreGenerators, IsGenerated}
-use Rattle.poly_core.specs.SameLaws.{times_same_left}
-use Rattle.poly_core.specs.ValueLaws.{value-scaled, value-times, value-constant, one_times, monomial_value-product}
-use Rattle.poly_core.specs.FallingLaws.{Falls_IsPoly}
-use Rattle.poly_core.specs.IdealLaws.{IsPoly-times, IsPoly-scaled}
-use Rattle.poly_core.specs.CongruenceLaws.{congruent_same, congruent_trans, congruent_times_left, congruent_times}
-use Rattle.poly_core.specs.SubalgebraLaws.{IsPoly-power, IsPoly-monomial_value}
-use Rattle.poly_core.specs.DegreeLaws.{component-append, IsGraded, graded_component, graded_no_component, ideal_component, AreGraded, polys_graded, graded_value, falls_all}
-use Rattle.poly_core.specs.NormalFormLaws.{IsPoly-component}
-use Rattle.poly_core.specs.SubalgebraParts.{sub_component}
+use Rattle.monomial_order.specs.laws.Monomial.{product_comm, IsMonomial-product}
+use Rattle.monomial_order.specs.laws.Lists.{contains_here, contains_there}
+use Rattle.monomial_order.specs.laws.Cofactors.{cofactor, length-product_right, Divides-product}
+use Rattle.monomial_order.specs.laws.Comparing.{three_ways, degree_falls, degree_one, divisor_degree}
+use Rattle.monomial_order.specs.laws.Rank.{IsWithin, below_induction}
+use Rattle.word_laws.specs.Words.{word_order_of, image_of, IsWord, IsSWord}
+use Rattle.word_laws.specs.laws.Words.{image_times, s_divisor}
+use Rattle.polynomials.specs.Polynomial.{Polynomial, coefficient, term_of, times, scaled, negated, minus, constant, component, AllAt, IsTerm, IsPoly, lead_monomial}
+use Rattle.polynomials.specs.Ideal.{InIdeal, Congruent}
+use Rattle.polynomials.specs.Value.{power, value, monomial_value, term_value}
+use Rattle.polynomials.specs.Subalgebra.{Presented, IsPresentation, AreGenerators, IsGenerated}
+use Rattle.polynomials.specs.laws.Same.{times_same_left}
+use Rattle.polynomials.specs.laws.Value.{value-scaled, value-times, value-constant, one_times, monomial_value-product}
+use Rattle.polynomials.specs.laws.Decreasing.{IsDecreasing_IsPoly}
+use Rattle.polynomials.specs.laws.Ideal.{IsPoly-times, IsPoly-scaled}
+use Rattle.polynomials.specs.laws.Congruence.{congruent_same, congruent_trans, congruent_times_left, congruent_times}
+use Rattle.polynomials.specs.laws.Membership.{IsPoly-power, IsPoly-monomial_value}
+use Rattle.polynomials.specs.laws.Degrees.{component-append, IsGraded, graded_component, graded_no_component, ideal_component, AreGraded, polys_graded, graded_value, decreasing_all}
+use Rattle.polynomials.specs.laws.NormalForm.{IsPoly-component}
+use Rattle.polynomials.specs.laws.Components.{sub_component}
 use Rattle.subalgebra_laws.specs.Words.{letters, letter_values, word_value, IsReducibleWord, IsTopWord, IsCombination}
 use Rattle.subalgebra_laws.specs.Bases.{AreMonicElements, IsDecidedTo, HasCombinationsTo}
 use Rattle.subalgebra_laws.specs.Statements.{CombinationsHaveGeneratedLeads, MembersAreCombinations, LeadsAreGenerated}
@@ -36,17 +36,17 @@ use Rattle.subalgebra_laws.proofs.Combinations.{have_top_words, top_leads, top_l
 use Rattle.subalgebra_laws.proofs.Decisions.{words_decided, minimal_divisor}
 use Rattle.subalgebra_laws.proofs.Generated.{generated_images}
 
-module _ {E : Type 0} (P : Presented E) (H : IsPresentation P) (S : List (List (Term E))) (HS : AreMonicElements P S) where
+module _ {E : Type 0} (P : Presented E) (H : IsPresentation P) (S : List (Polynomial E)) (HS : AreMonicElements P S) where
   open P use {field as K, order as O}
   open H use {field as F, order as L}
 
   abbrev W : MonomialOrder
-  W = order_of (letters P S)
+  W = word_order_of (letters P S)
 
-  abbrev LW : IsMonomialOrder (order_of (letters P S))
+  abbrev LW : IsMonomialOrder (word_order_of (letters P S))
   LW = letter_laws P H S HS
 
-  abbrev values : List (List (Term E))
+  abbrev values : List (Polynomial E)
   values = letter_values P S
 
   abbrev im : List ℕ → List ℕ
@@ -64,10 +64,10 @@ module _ {E : Type 0} (P : Presented E) (H : IsPresentation P) (S : List (List (
         leads = lead_sum K F O L a (negated K (value K f.sum values)) m la below;
       })
 
-      none : f.sum ≡ [] → IsGenerated (map lead S) m
+      none : f.sum ≡ [] → IsGenerated (map lead_monomial S) m
       none e = absurd (only_lead (λ n k. absurd (k (ap (λ x. coefficient K (negated K (value K x values)) n) e ∙ sym (nothing_at K n)))))
 
-      by_top : (w : List ℕ) → IsTopWord P S f.sum w → IsGenerated (map lead S) m
+      by_top : (w : List ℕ) → IsTopWord P S f.sum w → IsGenerated (map lead_monomial S) m
       by_top w t =
           ⊎_elim (λ lt. absurd (top_least P H S HS f.sum w f.irreducible t a m ha f.equal la lt))
           (λ r. ⊎_elim (λ same. generated_images P H S HS m w (f.irreducible.words w t.stands) (sym same))
@@ -135,9 +135,9 @@ module _ {E : Type 0} (P : Presented E) (H : IsPresentation P) (S : List (List (
             (λ i. sym (value-scaled K F (term_of k.0 K.one) f.sum values i ∙
             times_same_left K F (term_value K values (term_of k.0 K.one)) (word_value P S k.0) (value K f.sum values) (one_times K F (word_value P S k.0)) i)))))
             (combination_linear P H S HS W.places values moved
-            (IsPoly-scaled K F W.places (term_of k.0 K.one) f.sum (record { monomial = sv.0; value = F.one_value }) (Falls_IsPoly K W f.sum f.irreducible.falls))
+            (IsPoly-scaled K F W.places (term_of k.0 K.one) f.sum (record { monomial = sv.0; value = F.one_value }) (IsDecreasing_IsPoly K W f.sum f.irreducible.decreasing))
             (AllAt-scaled K (λ x. IsCombination P S (word_value P S x)) (term_of k.0 K.one) f.sum
-            (falls_all K F W LW (λ x. IsCombination P S (word_value P S (product k.0 x))) f.sum f.irreducible.falls
+            (decreasing_all K F W LW (λ x. IsCombination P S (word_value P S (product k.0 x))) f.sum f.irreducible.decreasing
             (λ x n.
             let hx = f.irreducible.words x n in
             let b = words_before P H S HS m.0 m.1.word m.1.reducible f x n in
@@ -161,8 +161,8 @@ module _ {E : Type 0} (P : Presented E) (H : IsPresentation P) (S : List (List (
     abbrev IsLow : ℕ → List ℕ → Type 0
     IsLow D w = IsSWord (letters P S) w × (W.degree w ≤ D)
 
-    record IsReached (D : ℕ) (a : List (Term E)) : Type 0 where
-      form : List (Term E)
+    record IsReached (D : ℕ) (a : Polynomial E) : Type 0 where
+      form : Polynomial E
       poly : IsPoly K W.places form
       words : AllAt (IsLow D) form
       congruent : Congruent K O.places P.ideal a (value K form values)
@@ -175,7 +175,7 @@ module _ {E : Type 0} (P : Presented E) (H : IsPresentation P) (S : List (List (
       congruent = congruent_same K F O.places P.ideal (constant K K.one) (value K (constant K K.one) values) (λ m. sym (value-constant K F K.one values m));
     }
 
-    reached_times : (D G : ℕ) (a b : List (Term E)) → IsPoly K O.places a → IsReached D a → IsReached G b → IsReached (D + G) (times K a b)
+    reached_times : (D G : ℕ) (a b : Polynomial E) → IsPoly K O.places a → IsReached D a → IsReached G b → IsReached (D + G) (times K a b)
     reached_times D G a b ha h k = record {
       form = times K h.form k.form;
       poly = IsPoly-times K F W.places h.form k.form h.poly k.poly;
@@ -186,35 +186,35 @@ module _ {E : Type 0} (P : Presented E) (H : IsPresentation P) (S : List (List (
           (congruent_same K F O.places P.ideal (times K (value K h.form values) (value K k.form values)) (value K (times K h.form k.form) values) (λ m. sym (value-times K F h.form k.form values m)));
     }
 
-    reached_power : (d : ℕ) (f : List (Term E)) (e : ℕ) → IsPoly K O.places f → (1 ≤ e → IsReached d f) → IsReached (d * e) (power K f e)
+    reached_power : (d : ℕ) (f : Polynomial E) (e : ℕ) → IsPoly K O.places f → (1 ≤ e → IsReached d f) → IsReached (d * e) (power K f e)
     reached_power d f zero hf h = subst (λ x. IsReached x (constant K K.one)) (let z : 0 ≡ d * 0 = omega arith in z) reached_one
     reached_power d f (suc e) hf h =
         subst (λ x. IsReached x (times K f (power K f e))) (let z : d + d * e ≡ d * suc e = omega arith in z)
         (reached_times d (d * e) f (power K f e) hf (h (omega arith)) (reached_power d f e hf (λ n. h (omega arith))))
 
     -- what is reached in degree at most c is a combination, and a graded combination is reached
-    reached_combination : (D : ℕ) (a : List (Term E)) → D ≤ c → IsReached D a → IsCombination P S a
+    reached_combination : (D : ℕ) (a : Polynomial E) → D ≤ c → IsReached D a → IsCombination P S a
     reached_combination D a le h = combination_congruent P H S HS (value K h.form values) a h.congruent (combination_linear P H S HS W.places values h.form h.poly
         (AllAt-map (IsLow D) (λ w. IsCombination P S (word_value P S w)) (λ w x. word_combination w (record { monomial = x.0.0; degree = let d = x.1 in omega arith }) x.0) h.form h.words))
 
-    combination_reached : (d : ℕ) (f : List (Term E)) → IsPoly K O.places f → IsGraded K F O L d f → IsCombination P S f → IsReached d f
+    combination_reached : (d : ℕ) (f : Polynomial E) → IsPoly K O.places f → IsGraded K F O L d f → IsCombination P S f → IsReached d f
     combination_reached d f hf gf h = record {
       form = h.sum;
-      poly = Falls_IsPoly K W h.sum h.irreducible.falls;
-      words = falls_all K F W LW (IsLow d) h.sum h.irreducible.falls (λ w k. (h.irreducible.words w k, sum_low P H S HS d f hf (λ m n. let e = gf m n in omega arith) h w k));
+      poly = IsDecreasing_IsPoly K W h.sum h.irreducible.decreasing;
+      words = decreasing_all K F W LW (IsLow d) h.sum h.irreducible.decreasing (λ w k. (h.irreducible.words w k, sum_low P H S HS d f hf (λ m n. let e = gf m n in omega arith) h w k));
       congruent = h.equal;
     }
 
     -- generators with their degrees, 1 for a zero one: those of degree at most c are combinations
-    abbrev AreCombinations : List ℕ → List (List (Term E)) → Type 0
+    abbrev AreCombinations : List ℕ → List (Polynomial E) → Type 0
     AreCombinations ds [] = Unit {0}
     AreCombinations [] (f ∷ gs) = ⊥
     AreCombinations (d ∷ ds) (f ∷ gs) = (d ≤ c → IsCombination P S f) × AreCombinations ds gs
 
-    abbrev HasDegrees : List (List (Term E)) → Type 0
+    abbrev HasDegrees : List (Polynomial E) → Type 0
     HasDegrees gs = (ds : List ℕ) × (length ds ≡ length gs) × AreGraded K F O L ds gs × AreCombinations ds gs
 
-    degrees : (gs : List (List (Term E))) → AreGenerators K O gs → ((g : List (Term E)) → Contains gs g → Contains P.generators g) → HasDegrees gs
+    degrees : (gs : List (Polynomial E)) → AreGenerators K O gs → ((g : Polynomial E) → Contains gs g → Contains P.generators g) → HasDegrees gs
     degrees [] h all = ([], refl, tt, tt)
     degrees (g ∷ gs) h all = more (degrees gs h.1 (λ x k. all x (contains_there g gs x k)))
       where
@@ -224,7 +224,7 @@ module _ {E : Type 0} (P : Presented E) (H : IsPresentation P) (S : List (List (
             (λ k. (k.0 ∷ rest.0, omega arith, (h.0.poly, k.2.each, rest.2), ((λ le. comb.generators g k.0 (all g (contains_here g gs)) k.2 le), rest.3)))
             h.0.homogeneous
 
-    product_reached : (m ds : List ℕ) (gs : List (List (Term E))) → length ds ≡ length gs → AreGraded K F O L ds gs → AreCombinations ds gs → weighted_degree ds m ≤ c →
+    product_reached : (m ds : List ℕ) (gs : List (Polynomial E)) → length ds ≡ length gs → AreGraded K F O L ds gs → AreCombinations ds gs → weighted_degree ds m ≤ c →
         IsReached (weighted_degree ds m) (monomial_value K m gs)
     product_reached [] [] gs l g h le = reached_one
     product_reached [] (d ∷ ds) gs l g h le = reached_one
@@ -236,14 +236,14 @@ module _ {E : Type 0} (P : Presented E) (H : IsPresentation P) (S : List (List (
         (reached_power d f e g.0 (λ n. combination_reached d f g.0 g.1 (h.0 (let part = mul-le-mul_left d n in omega arith)))) (product_reached m ds gs (omega arith) g.2 h.1 (omega arith))
 
     -- the component of a value is a combination
-    module _ (gs : List (List (Term E))) (D : HasDegrees gs) (k d : ℕ) (low : d ≤ c) where
+    module _ (gs : List (Polynomial E)) (D : HasDegrees gs) (k d : ℕ) (low : d ≤ c) where
       term_graded : (t : Term E) → IsGraded K F O L (weighted_degree D.0 t.at) (term_value K gs t)
       term_graded t m n = graded_value K F O L t.at D.0 gs D.1 D.2 m (multiple_nonzero K F t.by (monomial_value K t.at gs) m n)
 
       term_poly : (t : Term E) → IsTerm K k t → IsPoly K O.places (term_value K gs t)
       term_poly t h = IsPoly-times K F O.places (constant K t.by) (monomial_value K t.at gs) (constant_poly K F O.places t.by h.value) (IsPoly-monomial_value K F O.places t.at gs (polys_graded K F O L D.0 gs D.2))
 
-      part_combination : (h : List (Term E)) → IsPoly K k h → IsCombination P S (component O d (value K h gs))
+      part_combination : (h : Polynomial E) → IsPoly K k h → IsCombination P S (component O d (value K h gs))
       part_combination [] hp = combination_zero P H S HS
       part_combination (t ∷ h) hp =
           subst (IsCombination P S) (sym (component-append O d (term_value K gs t) (value K h gs)))

@@ -5,25 +5,25 @@ use Rattle.std.proofs.lemmas.List.{get_or_default}
 use Rattle.std.proofs.lemmas.List.Elements.{Contains-get_or}
 use Rattle.std.proofs.lemmas.List.Sums.{sum_by-cons}
 use Rattle.word_field.specs.Field.{IsValue}
-use Rattle.monomial_order.specs.declared.Term.{Term}
+use Rattle.monomial_order.specs.declared.terms.Term.{Term}
 use Rattle.monomial_order.specs.Monomial.{product, exponent, variable, Divides}
-use Rattle.monomial_order.specs.Lists.{contains_cases, contains_none, contains_map}
-use Rattle.monomial_order.specs.MonomialLaws.{product_comm, product-one}
-use Rattle.monomial_order.specs.Cofactors.{cofactor, Divides-product, length-product_right}
-use Rattle.monomial_order.specs.Comparing.{le_or_not, equal_or_not, some_exponent}
-use Rattle.monomial_order.specs.Words.{order_of, image_of, IsWord, IsSWord}
-use Rattle.monomial_order.specs.ImageLaws.{variable_trimmed, variable_length}
-use Rattle.monomial_order.specs.WordLaws.{image_times, s_divisor}
-use Rattle.poly_core.specs.Poly.{coefficient, Same, term_of, times, constant, AllAt, IsPoly, IsLead, lead}
-use Rattle.poly_core.specs.Value.{value, monomial_value, term_value}
-use Rattle.poly_core.specs.Subalgebra.{Presented, IsPresentation, IsGenerator, AreGenerators, InSubalgebra, LeadsSubalgebra, IsStandard, IsGenerated, AllIn, product_of}
-use Rattle.poly_core.specs.ReducedBasisLaws.{map_contains, generated_times}
-use Rattle.poly_core.specs.ValueLaws.{one_times, value_same, value-constant, monomial_value-product}
-use Rattle.poly_core.specs.FallingLaws.{Falls_IsPoly}
-use Rattle.poly_core.specs.CanonicalLaws.{canonical}
-use Rattle.poly_core.specs.DegreeLaws.{falls_all}
-use Rattle.poly_core.specs.CongruenceLaws.{congruent_same}
-use Rattle.poly_core.specs.SubalgebraLaws.{sub_plus, sub_times, sub_congruent}
+use Rattle.monomial_order.specs.laws.Lists.{contains_cases, contains_none, contains_map}
+use Rattle.monomial_order.specs.laws.Monomial.{product_comm, product-one}
+use Rattle.monomial_order.specs.laws.Cofactors.{cofactor, Divides-product, length-product_right}
+use Rattle.monomial_order.specs.laws.Comparing.{le_or_not, equal_or_not, some_exponent}
+use Rattle.word_laws.specs.Words.{word_order_of, image_of, IsWord, IsSWord}
+use Rattle.word_laws.specs.laws.Images.{variable_trimmed, variable_length}
+use Rattle.word_laws.specs.laws.Words.{image_times, s_divisor}
+use Rattle.polynomials.specs.Polynomial.{Polynomial, coefficient, Same, term_of, times, constant, AllAt, IsPoly, IsLead, lead_monomial}
+use Rattle.polynomials.specs.Value.{value, monomial_value, term_value}
+use Rattle.polynomials.specs.Subalgebra.{Presented, IsPresentation, IsGenerator, AreGenerators, InSubalgebra, LeadsSubalgebra, IsStandard, IsGenerated, AllIn, product_of}
+use Rattle.polynomials.specs.laws.ReducedBasis.{map_contains, generated_times}
+use Rattle.polynomials.specs.laws.Value.{one_times, value_same, value-constant, monomial_value-product}
+use Rattle.polynomials.specs.laws.Decreasing.{IsDecreasing_IsPoly}
+use Rattle.polynomials.specs.laws.Canonical.{canonical}
+use Rattle.polynomials.specs.laws.Degrees.{decreasing_all}
+use Rattle.polynomials.specs.laws.Congruence.{congruent_same}
+use Rattle.polynomials.specs.laws.Membership.{sub_plus, sub_times, sub_congruent}
 use Rattle.subalgebra_laws.specs.Words.{letters, letter_values, word_value}
 use Rattle.subalgebra_laws.specs.Bases.{AreMonicElements, AreMembers}
 use Rattle.subalgebra_laws.specs.Statements.{SWordsAreMembers, SumsOfSWordsAreMembers, StandardProductsLead}
@@ -59,7 +59,7 @@ module _ {E : Type 0} (P : Presented E) (H : IsPresentation P) where
   sub_zero = record { witness = []; poly = tt; inside = congruent_same P.field H.field P.order.places P.ideal [] [] (λ m. refl) }
 
   -- a generator is a member of the subalgebra
-  pub generator_sub : (f : List (Term E)) → Contains P.generators f → InSubalgebra P f
+  pub generator_sub : (f : Polynomial E) → Contains P.generators f → InSubalgebra P f
   generator_sub f h =
       let l = h.1 in
       record {
@@ -71,24 +71,24 @@ module _ {E : Type 0} (P : Presented E) (H : IsPresentation P) where
             (value_variable P.field H.field P.generators h.0 l m ∙ ap (λ p. coefficient P.field p m) (get_or_default P.generators h.0 [] f l ∙ h.2)))));
       }
 
-  pub generator_poly : (f : List (Term E)) → Contains P.generators f → IsPoly P.field P.order.places f
+  pub generator_poly : (f : Polynomial E) → Contains P.generators f → IsPoly P.field P.order.places f
   generator_poly f h = among P.generators H.generators f h
     where
-      among : (gs : List (List (Term E))) → AreGenerators P.field P.order gs → (f : List (Term E)) → Contains gs f → IsPoly P.field P.order.places f
+      among : (gs : List (Polynomial E)) → AreGenerators P.field P.order gs → (f : Polynomial E) → Contains gs f → IsPoly P.field P.order.places f
       among [] h f k = absurd (contains_none f k)
       among (g ∷ gs) h f k = ⊎_elim (λ e. subst (IsPoly P.field P.order.places) e h.0.poly) (λ i. among gs h.1 f i) (contains_cases g gs f k)
 
-  module _ (S : List (List (Term E))) (HS : AreMonicElements P S) where
+  module _ (S : List (Polynomial E)) (HS : AreMonicElements P S) where
     abbrev im : List ℕ → List ℕ
     im w = image_of (letters P S) w
 
     -- s-words are products of letters
     pub by_letters : (Q : List ℕ → Type 0) → Q [] → ((j : ℕ) (v : List ℕ) → j < length S → Q v → Q (product (letter P S j) v)) → (w : List ℕ) → IsSWord (letters P S) w → Q w
-    by_letters Q one more w hw = below ((order_of (letters P S)).degree w) w hw (omega arith)
+    by_letters Q one more w hw = below ((word_order_of (letters P S)).degree w) w hw (omega arith)
       where
         -- an s-word other than 1 is a letter times an s-word of less degree
         part : (w : List ℕ) → IsSWord (letters P S) w → w ≢ [] →
-            (j : ℕ) × (j < length S) × (v : List ℕ) × IsSWord (letters P S) v × ((order_of (letters P S)).degree v < (order_of (letters P S)).degree w) × (product (letter P S j) v ≡ w)
+            (j : ℕ) × (j < length S) × (v : List ℕ) × IsSWord (letters P S) v × ((word_order_of (letters P S)).degree v < (word_order_of (letters P S)).degree w) × (product (letter P S j) v ≡ w)
         part w hw ne =
             let x = some_exponent w hw.0.trimmed ne in
             let x1 = x.1 in
@@ -101,7 +101,7 @@ module _ {E : Type 0} (P : Presented E) (H : IsPresentation P) where
             let most = hw.0.within in
             let p = places_letters P S in
             let d = (letter_laws P H S HS).degree_product (variable x.0) k.0 in
-            let dw : (order_of (letters P S)).degree (product (variable x.0) k.0) ≡ (order_of (letters P S)).degree w = ap (order_of (letters P S)).degree k.2 in
+            let dw : (word_order_of (letters P S)).degree (product (variable x.0) k.0) ≡ (word_order_of (letters P S)).degree w = ap (word_order_of (letters P S)).degree k.2 in
             let pos = (letter_laws P H S HS).degree_positive x.0 (omega arith) in (
               x.0 - length (letter_degrees P S),
               omega arith,
@@ -111,28 +111,28 @@ module _ {E : Type 0} (P : Presented E) (H : IsPresentation P) where
               ap (λ i. product (variable i) k.0) at ∙ k.2,
             )
 
-        below : (n : ℕ) (w : List ℕ) → IsSWord (letters P S) w → (order_of (letters P S)).degree w ≤ n → Q w
+        below : (n : ℕ) (w : List ℕ) → IsSWord (letters P S) w → (word_order_of (letters P S)).degree w ≤ n → Q w
         below zero w hw le = ⊎_elim (λ e. subst Q (sym e) one) (λ ne. absurd (let r = part w hw ne in let l = r.4 in omega arith)) (equal_or_not w [])
         below (suc n) w hw le = ⊎_elim (λ e. subst Q (sym e) one)
             (λ ne. let r = part w hw ne in let l = r.4 in subst Q r.5 (more r.0 r.2 r.1 (below n r.2 r.3 (omega arith)))) (equal_or_not w [])
 
     -- the images of s-words are the products of leads
-    pub generated_images : (m w : List ℕ) → IsSWord (letters P S) w → im w ≡ m → IsGenerated (map lead S) m
-    generated_images m w h e = subst (IsGenerated (map lead S)) e (by_letters (λ v. IsGenerated (map lead S) (im v)) (record { factors = []; members = tt; product = refl })
-        (λ j v l g. subst (IsGenerated (map lead S)) (sym (image_times (letters P S) (are_letters P H S HS) (letter P S j) v ∙ ap (λ x. product x (im v)) (letter_image P S j l)))
-        (generated_times (map lead S) (lead (get_or S j [])) (im v)
-        (record { factors = lead (get_or S j []) ∷ []; members = (contains_map lead S (get_or S j []) (Contains-get_or S j [] l), tt); product = product-one (lead (get_or S j [])) }) g)) w h)
+    pub generated_images : (m w : List ℕ) → IsSWord (letters P S) w → im w ≡ m → IsGenerated (map lead_monomial S) m
+    generated_images m w h e = subst (IsGenerated (map lead_monomial S)) e (by_letters (λ v. IsGenerated (map lead_monomial S) (im v)) (record { factors = []; members = tt; product = refl })
+        (λ j v l g. subst (IsGenerated (map lead_monomial S)) (sym (image_times (letters P S) (are_letters P H S HS) (letter P S j) v ∙ ap (λ x. product x (im v)) (letter_image P S j l)))
+        (generated_times (map lead_monomial S) (lead_monomial (get_or S j [])) (im v)
+        (record { factors = lead_monomial (get_or S j []) ∷ []; members = (contains_map lead_monomial S (get_or S j []) (Contains-get_or S j [] l), tt); product = product-one (lead_monomial (get_or S j [])) }) g)) w h)
 
-    pub images_generated : (m : List ℕ) → IsGenerated (map lead S) m → (w : List ℕ) × IsSWord (letters P S) w × (im w ≡ m)
+    pub images_generated : (m : List ℕ) → IsGenerated (map lead_monomial S) m → (w : List ℕ) × IsSWord (letters P S) w × (im w ≡ m)
     images_generated m g = let w = of_factors g.factors g.members in (w.0, w.1, w.2 ∙ g.product)
       where
-        of_factors : (ms : List (List ℕ)) → AllIn (map lead S) ms → (w : List ℕ) × IsSWord (letters P S) w × (im w ≡ product_of ms)
+        of_factors : (ms : List (List ℕ)) → AllIn (map lead_monomial S) ms → (w : List ℕ) × IsSWord (letters P S) w × (im w ≡ product_of ms)
         of_factors [] h = ([], s_one P S, refl)
         of_factors (k ∷ ms) h =
             let b = of_factors ms h.1 in
-            let s = map_contains lead S k h.0 in
+            let s = map_contains lead_monomial S k h.0 in
             let l = s.1.1 in
-            let e : lead (get_or S s.1.0 []) ≡ k = ap lead (get_or_default S s.1.0 [] s.0 l ∙ s.1.2) ∙ s.2 in (
+            let e : lead_monomial (get_or S s.1.0 []) ≡ k = ap lead_monomial (get_or_default S s.1.0 [] s.0 l ∙ s.1.2) ∙ s.2 in (
               product (letter P S s.1.0) b.0,
               s_product P S (letter P S s.1.0) b.0 (letter_word P S s.1.0 l) b.1,
               image_times (letters P S) (are_letters P H S HS) (letter P S s.1.0) b.0 ∙ (ap (λ x. product x (im b.0)) (letter_image P S s.1.0 l ∙ e) ∙ ap (product k) b.2),
@@ -151,7 +151,7 @@ module _ {E : Type 0} (P : Presented E) (H : IsPresentation P) where
           (congruent_same P.field H.field P.order.places P.ideal (word_value P S (product (letter P S j) v)) (times P.field (word_value P S (letter P S j)) (word_value P S v))
           (monomial_value-product P.field H.field (letter P S j) v (letter_values P S))))
 
-      terms_sub : (e : List (Term E)) → IsPoly P.field (order_of (letters P S)).places e → AllAt (IsSWord (letters P S)) e → InSubalgebra P (value P.field e (letter_values P S))
+      terms_sub : (e : Polynomial E) → IsPoly P.field (word_order_of (letters P S)).places e → AllAt (IsSWord (letters P S)) e → InSubalgebra P (value P.field e (letter_values P S))
       terms_sub [] hp h = sub_zero
       terms_sub (t ∷ e) hp h =
           sub_plus P H (term_value P.field (letter_values P S) t) (value P.field e (letter_values P S))
@@ -161,10 +161,10 @@ module _ {E : Type 0} (P : Presented E) (H : IsPresentation P) where
       -- the value of a sum of s-words is a member: that of its canonical form is
       pub value_sub : SumsOfSWordsAreMembers P S
       value_sub e hp h =
-          let q = canonical P.field H.field (order_of (letters P S)) (letter_laws P H S HS) e hp in
+          let q = canonical P.field H.field (word_order_of (letters P S)) (letter_laws P H S HS) e hp in
           sub_congruent P H (value P.field q.0 (letter_values P S)) (value P.field e (letter_values P S))
-          (terms_sub q.0 (Falls_IsPoly P.field (order_of (letters P S)) q.0 q.1.falls)
-          (falls_all P.field H.field (order_of (letters P S)) (letter_laws P H S HS) (IsSWord (letters P S)) q.0 q.1.falls (λ w k. h w (λ z. k (q.1.same w ∙ z)))))
+          (terms_sub q.0 (IsDecreasing_IsPoly P.field (word_order_of (letters P S)) q.0 q.1.decreasing)
+          (decreasing_all P.field H.field (word_order_of (letters P S)) (letter_laws P H S HS) (IsSWord (letters P S)) q.0 q.1.decreasing (λ w k. h w (λ z. k (q.1.same w ∙ z)))))
           (congruent_same P.field H.field P.order.places P.ideal (value P.field e (letter_values P S)) (value P.field q.0 (letter_values P S))
           (λ m. sym (value_same P.field H.field q.0 e (letter_values P S) q.1.same m)))
 

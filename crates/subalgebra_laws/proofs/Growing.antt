@@ -7,23 +7,24 @@ use Rattle.std.specs.Ordering.{nat_cmp, ordering_then, on, then_cmp}
 use Rattle.std.specs.declared.cmp.Ordering.{Ordering}
 use Rattle.std.specs.declared.cmp.Ordering.TheVariants.{Less}
 use Rattle.word_field.specs.Field.{FieldOps}
-use Rattle.monomial_order.specs.declared.Term.{Term}
+use Rattle.monomial_order.specs.declared.terms.Term.{Term}
 use Rattle.monomial_order.specs.Monomial.{product, exponent, variable, IsTrimmed, weighted_degree}
 use Rattle.monomial_order.specs.MonomialOrder.{MonomialOrder}
 use Rattle.monomial_order.specs.Orders.{lex}
-use Rattle.monomial_order.specs.Lists.{contains_none, contains_cases, contains_left}
-use Rattle.monomial_order.specs.MonomialLaws.{product-one, length-product}
-use Rattle.monomial_order.specs.Cofactors.{cofactor, length-product_right}
-use Rattle.monomial_order.specs.Comparing.{le_or_not, equal_or_not, some_exponent, not_below_self, divisor_degree}
-use Rattle.monomial_order.specs.Words.{order_of, image_of, image, variables, lead_degrees, IsWord, IsSWord, IsSmaller}
-use Rattle.monomial_order.specs.WordLaws.{degree_same, s_smaller, s_divisor}
-use Rattle.monomial_order.specs.ImageLaws.{weighted_front, image_front, variable_trimmed, variable_length, length-variables}
-use Rattle.poly_core.specs.Poly.{coefficient, Same, term_of, times, constant, IsPoly, IsBelow, Falls, IsHomogeneous, lead}
-use Rattle.poly_core.specs.Ideal.{Congruent}
-use Rattle.poly_core.specs.Value.{power, monomial_value, value, term_value}
-use Rattle.poly_core.specs.Subalgebra.{Presented, IsPresentation, LeadsIdeal, IsStandard, IsGenerated, Rise}
-use Rattle.poly_core.specs.FallingLaws.{Falls_IsPoly}
-use Rattle.poly_core.specs.DegreeLaws.{falls_all}
+use Rattle.monomial_order.specs.laws.Lists.{contains_none, contains_cases, contains_left}
+use Rattle.monomial_order.specs.laws.Monomial.{product-one, length-product}
+use Rattle.monomial_order.specs.laws.Cofactors.{cofactor, length-product_right}
+use Rattle.monomial_order.specs.laws.Comparing.{le_or_not, equal_or_not, some_exponent, not_below_self, divisor_degree}
+use Rattle.word_laws.specs.Words.{word_order_of, image_of, image, variables, lead_degrees, IsWord, IsSWord, IsSmaller}
+use Rattle.word_laws.specs.laws.Words.{degree_same, s_smaller, s_divisor}
+use Rattle.word_laws.specs.laws.Images.{weighted_front, image_front, variable_trimmed, variable_length, length-variables}
+use Rattle.polynomials.specs.Polynomial.{Polynomial, coefficient, Same, term_of, times, constant, IsPoly, IsBelow, IsDecreasing, IsHomogeneous, lead_monomial}
+use Rattle.polynomials.specs.Ideal.{Congruent}
+use Rattle.polynomials.specs.Value.{power, monomial_value, value, term_value}
+use Rattle.polynomials.specs.Subalgebra.{Presented, IsPresentation, LeadsIdeal, IsStandard, IsGenerated}
+use Rattle.monomial_order.specs.MonomialOrder.{IsIncreasing}
+use Rattle.polynomials.specs.laws.Decreasing.{IsDecreasing_IsPoly}
+use Rattle.polynomials.specs.laws.Degrees.{decreasing_all}
 use Rattle.subalgebra_laws.specs.Words.{letters, letter_values, word_value, combination_value, IsReducibleWord, IsMinimalWord, IsIrreducibleSum, IsCombination}
 use Rattle.subalgebra_laws.specs.Bases.{AreMonicElements, HasDegreesTo, HaveLeadsFrom, HasCombinationsTo, AreAfter, AreStandardAfter}
 use Rattle.subalgebra_laws.specs.Statements.{ValuesStay, CombinationsStay, ElementsAreCombinations, MinimalWordsStay}
@@ -39,31 +40,31 @@ last_exponent (a ∷ []) h n = (0, refl, omega (arith, h))
 last_exponent (a ∷ (b ∷ u)) h n = let r = last_exponent (b ∷ u) h (λ e. cc) in (suc r.0, ap suc r.1, r.2)
 
 -- the value of a word over the first members of a list
-monomial_value_front : {E : Type 0} (K : FieldOps E) (w : List ℕ) (fs gs : List (List (Term E))) → length w ≤ length fs → monomial_value K w (fs ++ gs) ≡ monomial_value K w fs
+monomial_value_front : {E : Type 0} (K : FieldOps E) (w : List ℕ) (fs gs : List (Polynomial E)) → length w ≤ length fs → monomial_value K w (fs ++ gs) ≡ monomial_value K w fs
 monomial_value_front K [] fs gs l = refl
 monomial_value_front K (e ∷ w) [] gs l = absurd (omega arith)
 monomial_value_front K (e ∷ w) (f ∷ fs) gs l = ap (times K (power K f e)) (monomial_value_front K w fs gs (omega arith))
 
-module _ {E : Type 0} (P : Presented E) (S T : List (List (Term E))) where
+module _ {E : Type 0} (P : Presented E) (S T : List (Polynomial E)) where
   -- a word over S is one over S and T
   pub word_grows : (w : List ℕ) → IsWord (letters P S) w → IsWord (letters P (S ++ T)) w
   word_grows w h = record { trimmed = h.trimmed; within = let l = h.within in let a = places_letters P S in let b = places_letters P (S ++ T) in let c = length-append S T in omega arith }
 
-  degrees_split : letter_degrees P (S ++ T) ++ lead_degrees (letters P (S ++ T)) ≡ (letter_degrees P S ++ lead_degrees (letters P S)) ++ map (weighted_degree (letter_degrees P S)) (map lead T)
+  degrees_split : letter_degrees P (S ++ T) ++ lead_degrees (letters P (S ++ T)) ≡ (letter_degrees P S ++ lead_degrees (letters P S)) ++ map (weighted_degree (letter_degrees P S)) (map lead_monomial T)
   degrees_split =
-      ap (λ ds. letter_degrees P S ++ ds) (ap (map (weighted_degree (letter_degrees P S))) (map-append lead S T) ∙ map-append (weighted_degree (letter_degrees P S)) (map lead S) (map lead T)) ∙
-      sym (append_assoc (letter_degrees P S) (lead_degrees (letters P S)) (map (weighted_degree (letter_degrees P S)) (map lead T)))
+      ap (λ ds. letter_degrees P S ++ ds) (ap (map (weighted_degree (letter_degrees P S))) (map-append lead_monomial S T) ∙ map-append (weighted_degree (letter_degrees P S)) (map lead_monomial S) (map lead_monomial T)) ∙
+      sym (append_assoc (letter_degrees P S) (lead_degrees (letters P S)) (map (weighted_degree (letter_degrees P S)) (map lead_monomial T)))
 
   module _ (w : List ℕ) (h : length w ≤ (order_over P S).places) where
     pub degree_stays : (order_over P (S ++ T)).degree w ≡ (order_over P S).degree w
-    degree_stays = ap (λ ws. weighted_degree ws w) degrees_split ∙ weighted_front (letter_degrees P S ++ lead_degrees (letters P S)) (map (weighted_degree (letter_degrees P S)) (map lead T)) w h
+    degree_stays = ap (λ ws. weighted_degree ws w) degrees_split ∙ weighted_front (letter_degrees P S ++ lead_degrees (letters P S)) (map (weighted_degree (letter_degrees P S)) (map lead_monomial T)) w h
 
     pub image_stays : image_of (letters P (S ++ T)) w ≡ image_of (letters P S) w
     image_stays =
         let xs = variables 0 (length (letter_degrees P S)) in
-        ap (image w) (ap (λ ms. xs ++ ms) (map-append lead S T) ∙ sym (append_assoc xs (map lead S) (map lead T))) ∙
-        image_front w (xs ++ map lead S) (map lead T)
-        (let a = length-append xs (map lead S) in let b = length-variables 0 (length (letter_degrees P S)) in let c : length (map lead S) ≡ length S = length-map S lead in let p = places_letters P S in omega arith)
+        ap (image w) (ap (λ ms. xs ++ ms) (map-append lead_monomial S T) ∙ sym (append_assoc xs (map lead_monomial S) (map lead_monomial T))) ∙
+        image_front w (xs ++ map lead_monomial S) (map lead_monomial T)
+        (let a = length-append xs (map lead_monomial S) in let b = length-variables 0 (length (letter_degrees P S)) in let c : length (map lead_monomial S) ≡ length S = length-map S lead_monomial in let p = places_letters P S in omega arith)
 
     value_front : word_value P (S ++ T) w ≡ word_value P S w
     value_front =
@@ -83,7 +84,7 @@ module _ {E : Type 0} (P : Presented E) (S T : List (List (Term E))) where
   compare_stays v w hv hw =
       ap (λ d. ordering_then (nat_cmp d ((order_over P (S ++ T)).degree w)) (rest v w)) (degree_stays v hv) ∙ ap (λ d. ordering_then (nat_cmp ((order_over P S).degree v) d) (rest v w)) (degree_stays w hw)
 
-module _ {E : Type 0} (P : Presented E) (H : IsPresentation P) (S T : List (List (Term E))) (HT : AreMonicElements P (S ++ T)) where
+module _ {E : Type 0} (P : Presented E) (H : IsPresentation P) (S T : List (Polynomial E)) (HT : AreMonicElements P (S ++ T)) where
   open P use {field as K, order as O}
 
   abbrev im : List ℕ → List ℕ
@@ -99,13 +100,13 @@ module _ {E : Type 0} (P : Presented E) (H : IsPresentation P) (S T : List (List
   in_both : (j : ℕ) → j < length T → length S + j < length (S ++ T)
   in_both j l = let a = length-append S T in omega arith
 
-  new_image : (j : ℕ) → j < length T → im (new_letter j) ≡ lead (get_or T j [])
-  new_image j l = letter_image P (S ++ T) (length S + j) (in_both j l) ∙ ap lead (get_or-append-add S T j [])
+  new_image : (j : ℕ) → j < length T → im (new_letter j) ≡ lead_monomial (get_or T j [])
+  new_image j l = letter_image P (S ++ T) (length S + j) (in_both j l) ∙ ap lead_monomial (get_or-append-add S T j [])
 
   new_value : (j : ℕ) → j < length T → Same K (word_value P (S ++ T) (new_letter j)) (get_or T j [])
   new_value j l m = letter_value P (S ++ T) (length S + j) (in_both j l) H.field m ∙ ap (λ p. coefficient K p m) (get_or-append-add S T j [])
 
-  new_degree : (j : ℕ) → j < length T → (order_over P (S ++ T)).degree (new_letter j) ≡ O.degree (lead (get_or T j []))
+  new_degree : (j : ℕ) → j < length T → (order_over P (S ++ T)).degree (new_letter j) ≡ O.degree (lead_monomial (get_or T j []))
   new_degree j l = word_degree P H (S ++ T) HT (new_letter j) ∙ ap O.degree (new_image j l)
 
   smaller_grows : (w v : List ℕ) → IsWord (letters P S) w → IsSmaller (letters P S) w v → IsSmaller (letters P (S ++ T)) w v
@@ -152,11 +153,11 @@ module _ {E : Type 0} (P : Presented E) (H : IsPresentation P) (S T : List (List
       (j, l, sym whole ∙ (ap (product (new_letter j)) none ∙ product-one (new_letter j)))
 
   -- the leads of T are no products of leads of S, so no s-word over S has the image of a new letter
-  module _ (d : ℕ) (high : HaveLeadsFrom P d T) (new : (t : List (Term E)) → Contains T t → ¬ IsGenerated (map lead S) (lead t)) where
+  module _ (d : ℕ) (high : HaveLeadsFrom P d T) (new : (t : Polynomial E) → Contains T t → ¬ IsGenerated (map lead_monomial S) (lead_monomial t)) where
     not_long : (w v : List ℕ) → IsSWord (letters P S) w → (order_over P (S ++ T)).degree v ≤ d → IsWord (letters P (S ++ T)) v → im v ≡ im w → (length v ≤ (order_over P S).places → ⊥) → ⊥
     not_long w v hw le hv same n =
         let j = long_word d high v hv le n in
-        new (get_or T j.0 []) (Contains-get_or T j.0 [] j.1) (generated_images P H S front_monic (lead (get_or T j.0 [])) w hw
+        new (get_or T j.0 []) (Contains-get_or T j.0 [] j.1) (generated_images P H S front_monic (lead_monomial (get_or T j.0 [])) w hw
         (sym (image_stays P S T w hw.0.within) ∙ (sym same ∙ (ap im j.2 ∙ new_image j.0 j.1))))
 
     -- an s-word of degree at most d that is reducible over S and T is so over S
@@ -197,18 +198,18 @@ module _ {E : Type 0} (P : Presented E) (H : IsPresentation P) (S T : List (List
     )
 
     -- a combination of degree at most d stays one
-    falls_grows : (p : List (Term E)) → Falls K (order_over P S) p → Falls K (order_over P (S ++ T)) p
+    falls_grows : (p : Polynomial E) → IsDecreasing K (order_over P S) p → IsDecreasing K (order_over P (S ++ T)) p
     falls_grows [] f = tt
     falls_grows (t ∷ p) f = (
-      record { term = record { monomial = word_grows P S T t.at f.0.term.monomial; value = f.0.term.value }; nonzero = f.0.nonzero; above = below_grows p (Falls_IsPoly K (order_over P S) p f.1) f.0.above },
+      record { term = record { monomial = word_grows P S T t.at f.0.term.monomial; value = f.0.term.value }; nonzero = f.0.nonzero; above = below_grows p (IsDecreasing_IsPoly K (order_over P S) p f.1) f.0.above },
       falls_grows p f.1,
     )
       where
-        below_grows : (p : List (Term E)) → IsPoly K (order_over P S).places p → IsBelow K (order_over P S) t.at p → IsBelow K (order_over P (S ++ T)) t.at p
+        below_grows : (p : Polynomial E) → IsPoly K (order_over P S).places p → IsBelow K (order_over P S) t.at p → IsBelow K (order_over P (S ++ T)) t.at p
         below_grows [] hp b = tt
         below_grows (u ∷ p) hp b = (compare_stays P S T u.at t.at hp.0.monomial.within f.0.term.monomial.within ∙ b.0, below_grows p hp.1 b.1)
 
-    value_grows : (p : List (Term E)) → IsPoly K (order_over P S).places p → value K p (letter_values P (S ++ T)) ≡ value K p (letter_values P S)
+    value_grows : (p : Polynomial E) → IsPoly K (order_over P S).places p → value K p (letter_values P (S ++ T)) ≡ value K p (letter_values P S)
     value_grows [] hp = refl
     value_grows (t ∷ p) hp =
         ap (λ x. times K (constant K t.by) x ++ value K p (letter_values P (S ++ T))) (value_stays P S T t.at hp.0.monomial) ∙ ap (λ x. term_value K (letter_values P S) t ++ x) (value_grows p hp.1)
@@ -219,15 +220,15 @@ module _ {E : Type 0} (P : Presented E) (H : IsPresentation P) (S T : List (List
         record {
           sum = h.sum;
           irreducible = record {
-            falls = falls_grows h.sum he.falls;
+            decreasing = falls_grows h.sum he.decreasing;
             words = λ w k. (word_grows P S T w (he.words w k).0, (he.words w k).1);
             irreducible = λ w k r. he.irreducible w k (reducible_back w (he.words w k) (sum_low P H S front_monic d a ha low h w k) r);
           };
-          equal = subst (Congruent K O.places P.ideal a) (sym (value_grows h.sum (Falls_IsPoly K (order_over P S) h.sum he.falls))) h.equal;
+          equal = subst (Congruent K O.places P.ideal a) (sym (value_grows h.sum (IsDecreasing_IsPoly K (order_over P S) h.sum he.decreasing))) h.equal;
         }
 
 -- elements that come after S, with standard leads that differ
-module _ {E : Type 0} (P : Presented E) (H : IsPresentation P) (d : ℕ) (S T : List (List (Term E))) (A : AreStandardAfter P d S T) where
+module _ {E : Type 0} (P : Presented E) (H : IsPresentation P) (d : ℕ) (S T : List (Polynomial E)) (A : AreStandardAfter P d S T) where
   open P use {field as K, order as O}
 
   abbrev HT : AreMonicElements P (S ++ T)
@@ -262,7 +263,7 @@ module _ {E : Type 0} (P : Presented E) (H : IsPresentation P) (d : ℕ) (S T : 
       let l = k.1 in
       let at : get_or T k.0 [] ≡ t = get_or_default T k.0 [] t l ∙ k.2 in
       let e = new_degree P H S T HT k.0 l in
-      let f : O.degree (lead (get_or T k.0 [])) ≡ O.degree (lead t) = ap (λ x. O.degree (lead x)) at in
+      let f : O.degree (lead_monomial (get_or T k.0 [])) ≡ O.degree (lead_monomial t) = ap (λ x. O.degree (lead_monomial x)) at in
       combination_same P H (S ++ T) HT (word_value P (S ++ T) (new_letter P H S T HT k.0)) t
       (λ m. sym (new_value P H S T HT k.0 l m ∙ ap (λ p. coefficient K p m) at))
       (combination_word P H (S ++ T) HT (new_letter P H S T HT k.0) (letter_word P (S ++ T) (length S + k.0) (in_both P H S T HT k.0 l)) (letter_irreducible k.0 l (omega arith)))
@@ -293,7 +294,7 @@ module _ {E : Type 0} (P : Presented E) (H : IsPresentation P) (d : ℕ) (S T : 
   )
 
   -- the combinations to the next degree
-  pub next_combinations : (c : ℕ) → suc c ≡ d → HasCombinationsTo P c S → ((f : List (Term E)) → Contains P.generators f → IsHomogeneous K O d f → IsCombination P (S ++ T) f) →
+  pub next_combinations : (c : ℕ) → suc c ≡ d → HasCombinationsTo P c S → ((f : Polynomial E) → Contains P.generators f → IsHomogeneous K O d f → IsCombination P (S ++ T) f) →
       ((u : List ℕ) → IsMinimalWord P S u → (order_over P S).degree u ≡ d → IsCombination P (S ++ T) (word_value P S u)) → HasCombinationsTo P d (S ++ T)
   next_combinations c next comb generators words = record {
     generators = λ f e k h le. ⊎_elim
@@ -310,8 +311,8 @@ module _ {E : Type 0} (P : Presented E) (H : IsPresentation P) (d : ℕ) (S T : 
   }
 
 -- the elements at the end may be exchanged
-module _ {E : Type 0} (P : Presented E) (H : IsPresentation P) (d : ℕ) (S T U : List (List (Term E))) (A : AreAfter P d S T) (HU : AreMonicElements P (S ++ U))
-    (above : HaveLeadsFrom P d U) (each : (u : List (Term E)) → Contains U u → IsCombination P (S ++ T) u) where
+module _ {E : Type 0} (P : Presented E) (H : IsPresentation P) (d : ℕ) (S T U : List (Polynomial E)) (A : AreAfter P d S T) (HU : AreMonicElements P (S ++ U))
+    (above : HaveLeadsFrom P d U) (each : (u : Polynomial E) → Contains U u → IsCombination P (S ++ T) u) where
   -- an irreducible word over S and U of degree at most d
   word_exchange : (w : List ℕ) → IsSWord (letters P (S ++ U)) w → (IsReducibleWord P (S ++ U) w → ⊥) → (order_over P (S ++ U)).degree w ≤ d → IsCombination P (S ++ T) (word_value P (S ++ U) w)
   word_exchange w hw irr le = ⊎_elim by_short
@@ -329,9 +330,9 @@ module _ {E : Type 0} (P : Presented E) (H : IsPresentation P) (d : ℕ) (S T U 
           (combination_word P H (S ++ T) A.monic w (word_grows P S T w v, hw.1)
           (λ r. irr (reducible_grows P H S U HU w v (reducible_back P H S T A.monic d A.degree A.new w (v, hw.1) (omega arith) r))))
 
-  pub ends_exchange : (a : List (Term E)) → IsPoly P.field P.order.places a → HasDegreesTo P d a → IsCombination P (S ++ U) a → IsCombination P (S ++ T) a
+  pub ends_exchange : (a : Polynomial E) → IsPoly P.field P.order.places a → HasDegreesTo P d a → IsCombination P (S ++ U) a → IsCombination P (S ++ T) a
   ends_exchange a ha low h =
       combination_congruent P H (S ++ T) A.monic (value P.field h.sum (letter_values P (S ++ U))) a h.equal
-      (combination_linear P H (S ++ T) A.monic (order_over P (S ++ U)).places (letter_values P (S ++ U)) h.sum (Falls_IsPoly P.field (order_over P (S ++ U)) h.sum h.irreducible.falls)
-      (falls_all P.field H.field (order_over P (S ++ U)) (letter_laws P H (S ++ U) HU) (λ w. IsCombination P (S ++ T) (word_value P (S ++ U) w)) h.sum h.irreducible.falls
+      (combination_linear P H (S ++ T) A.monic (order_over P (S ++ U)).places (letter_values P (S ++ U)) h.sum (IsDecreasing_IsPoly P.field (order_over P (S ++ U)) h.sum h.irreducible.decreasing)
+      (decreasing_all P.field H.field (order_over P (S ++ U)) (letter_laws P H (S ++ U) HU) (λ w. IsCombination P (S ++ T) (word_value P (S ++ U) w)) h.sum h.irreducible.decreasing
       (λ w k. word_exchange w (h.irreducible.words w k) (h.irreducible.irreducible w k) (sum_low P H (S ++ U) HU d a ha low h w k))))

@@ -5,23 +5,23 @@ use Rattle.std.proofs.lemmas.List.{length-map, get_or-append-add, get_or-map}
 use Rattle.std.proofs.lemmas.List.Sums.{sum_by-cons}
 use Rattle.std.proofs.Math.Seq.{take-nil}
 use Rattle.word_field.specs.Field.{FieldOps, IsField}
-use Rattle.monomial_order.specs.declared.Term.{Term}
+use Rattle.monomial_order.specs.declared.terms.Term.{Term}
 use Rattle.monomial_order.specs.Monomial.{product, variable, IsMonomial, weighted_degree}
 use Rattle.monomial_order.specs.MonomialOrder.{MonomialOrder, IsMonomialOrder}
-use Rattle.monomial_order.specs.Lists.{contains_cases, contains_here, contains_none, contains_there}
-use Rattle.monomial_order.specs.MonomialLaws.{product-one, IsMonomial-product}
-use Rattle.monomial_order.specs.OrderLaws.{take-product, sum-product}
-use Rattle.monomial_order.specs.Words.{AreLetters, order_of, image_of, image, variables, lead_degrees, IsSWord}
-use Rattle.monomial_order.specs.ImageLaws.{length-variables, variable_monomial, degree_weighted}
-use Rattle.monomial_order.specs.WordLaws.{word_laws, degree_image, degree_x, image_x}
-use Rattle.monomial_order.specs.Comparing.{degree_one}
-use Rattle.poly_core.specs.Poly.{coefficient, Same, term_of, times, constant, lead}
-use Rattle.poly_core.specs.Value.{monomial_value}
-use Rattle.poly_core.specs.Subalgebra.{Presented, IsPresentation}
-use Rattle.poly_core.specs.ReducedBasisLaws.{map_contains}
-use Rattle.poly_core.specs.SameLaws.{same_refl}
-use Rattle.poly_core.specs.ValueLaws.{one_times}
-use Rattle.poly_core.specs.FallingLaws.{Falls_IsPoly, IsLead_first}
+use Rattle.monomial_order.specs.laws.Lists.{contains_cases, contains_here, contains_none, contains_there}
+use Rattle.monomial_order.specs.laws.Monomial.{product-one, IsMonomial-product}
+use Rattle.monomial_order.specs.laws.Orders.{take-product, sum-product}
+use Rattle.word_laws.specs.Words.{AreLetters, word_order_of, image_of, image, variables, lead_degrees, IsSWord}
+use Rattle.word_laws.specs.laws.Images.{length-variables, variable_monomial, degree_weighted}
+use Rattle.word_laws.specs.laws.Words.{word_laws, degree_image, degree_x, image_x}
+use Rattle.monomial_order.specs.laws.Comparing.{degree_one}
+use Rattle.polynomials.specs.Polynomial.{Polynomial, coefficient, Same, term_of, times, constant, lead_monomial}
+use Rattle.polynomials.specs.Value.{monomial_value}
+use Rattle.polynomials.specs.Subalgebra.{Presented, IsPresentation}
+use Rattle.polynomials.specs.laws.ReducedBasis.{map_contains}
+use Rattle.polynomials.specs.laws.Same.{same_refl}
+use Rattle.polynomials.specs.laws.Value.{one_times}
+use Rattle.polynomials.specs.laws.Decreasing.{IsDecreasing_IsPoly, IsLead_first}
 use Rattle.subalgebra_laws.specs.Words.{letters, letter_values, word_value}
 use Rattle.subalgebra_laws.specs.Bases.{IsMonicElement, AreMonicElements}
 use Rattle.subalgebra_laws.proofs.ToPolynomials.{single_term, one_right}
@@ -33,7 +33,7 @@ image_variable [] j l = absurd (omega arith)
 image_variable (m ∷ ms) zero l = product-one (product m []) ∙ product-one m
 image_variable (m ∷ ms) (suc j) l = image_variable ms j (omega arith)
 
-pub value_variable : {E : Type 0} (K : FieldOps E) (F : IsField K) (fs : List (List (Term E))) (j : ℕ) → j < length fs → Same K (monomial_value K (variable j) fs) (get_or fs j [])
+pub value_variable : {E : Type 0} (K : FieldOps E) (F : IsField K) (fs : List (Polynomial E)) (j : ℕ) → j < length fs → Same K (monomial_value K (variable j) fs) (get_or fs j [])
 value_variable K F [] j l = absurd (omega arith)
 value_variable K F (f ∷ fs) zero l = λ m. one_right K F (times K f (constant K K.one)) m ∙ one_right K F f m
 value_variable K F (f ∷ fs) (suc j) l = λ m. one_times K F (monomial_value K (variable j) fs) m ∙ value_variable K F fs j (omega arith) m
@@ -44,27 +44,27 @@ no_x_variable (suc n) j =
     ap (λ k. sum (take (suc n) (variable k))) (let e : suc n + j ≡ suc (n + j) = omega arith in e) ∙
     (sum_by-cons (λ (y : ℕ). y) 0 (take n (variable (n + j))) ∙ (let r = no_x_variable n j in omega arith))
 
-module _ {E : Type 0} (P : Presented E) (S : List (List (Term E))) where
+module _ {E : Type 0} (P : Presented E) (S : List (Polynomial E)) where
   abbrev pub letter_degrees : List ℕ
   letter_degrees = map P.order.degree (variables 0 P.order.places)
 
   abbrev pub letter_images : List (List ℕ)
-  letter_images = variables 0 P.order.places ++ map lead S
+  letter_images = variables 0 P.order.places ++ map lead_monomial S
 
   abbrev pub order_over : MonomialOrder
-  order_over = order_of (letters P S)
+  order_over = word_order_of (letters P S)
 
   -- how many x there are, and how many letters
   pub places_x : length letter_degrees ≡ P.order.places
   places_x = length-map (variables 0 P.order.places) P.order.degree ∙ length-variables 0 P.order.places
 
-  pub places_letters : (order_of (letters P S)).places ≡ length letter_degrees + length S
+  pub places_letters : (word_order_of (letters P S)).places ≡ length letter_degrees + length S
   places_letters =
       length-append letter_degrees (lead_degrees (letters P S)) ∙
-      ap (λ n. length letter_degrees + n) (length-map (map lead S) (weighted_degree letter_degrees) ∙ length-map S lead)
+      ap (λ n. length letter_degrees + n) (length-map (map lead_monomial S) (weighted_degree letter_degrees) ∙ length-map S lead_monomial)
 
   pub image_is : (w : List ℕ) → image_of (letters P S) w ≡ image w letter_images
-  image_is w = ap (λ k. image w (variables 0 k ++ map lead S)) places_x
+  image_is w = ap (λ k. image w (variables 0 k ++ map lead_monomial S)) places_x
 
   -- 1 and products of s-words are s-words
   pub s_one : IsSWord (letters P S) []
@@ -72,7 +72,7 @@ module _ {E : Type 0} (P : Presented E) (S : List (List (Term E))) where
 
   pub s_product : (u v : List ℕ) → IsSWord (letters P S) u → IsSWord (letters P S) v → IsSWord (letters P S) (product u v)
   s_product u v h k = (
-    IsMonomial-product (order_of (letters P S)).places u v h.0 k.0,
+    IsMonomial-product (word_order_of (letters P S)).places u v h.0 k.0,
     ap sum (take-product (length letter_degrees) u v) ∙ (sum-product (take (length letter_degrees) u) (take (length letter_degrees) v) ∙ (let a = h.1 in let b = k.1 in omega arith)),
   )
 
@@ -82,14 +82,14 @@ module _ {E : Type 0} (P : Presented E) (S : List (List (Term E))) where
 
   module _ (j : ℕ) (l : j < length S) where
     pub letter_word : IsSWord (letters P S) (letter j)
-    letter_word = (variable_monomial (order_of (letters P S)).places (length letter_degrees + j) (let p = places_letters in omega arith), no_x_variable (length letter_degrees) j)
+    letter_word = (variable_monomial (word_order_of (letters P S)).places (length letter_degrees + j) (let p = places_letters in omega arith), no_x_variable (length letter_degrees) j)
 
-    pub letter_image : image_of (letters P S) (letter j) ≡ lead (get_or S j [])
+    pub letter_image : image_of (letters P S) (letter j) ≡ lead_monomial (get_or S j [])
     letter_image =
         image_is (letter j) ∙ (ap (λ n. image (variable (n + j)) letter_images) (places_x ∙ sym (length-variables 0 P.order.places)) ∙
         (image_variable letter_images (length (variables 0 P.order.places) + j)
-        (let a = length-append (variables 0 P.order.places) (map lead S) in let b : length (map lead S) ≡ length S = length-map S lead in omega arith) ∙
-        (get_or-append-add (variables 0 P.order.places) (map lead S) j [] ∙ get_or-map lead S j [] [] l)))
+        (let a = length-append (variables 0 P.order.places) (map lead_monomial S) in let b : length (map lead_monomial S) ≡ length S = length-map S lead_monomial in omega arith) ∙
+        (get_or-append-add (variables 0 P.order.places) (map lead_monomial S) j [] ∙ get_or-map lead_monomial S j [] [] l)))
 
     pub letter_value : IsField P.field → Same P.field (word_value P S (letter j)) (get_or S j [])
     letter_value F m =
@@ -109,22 +109,22 @@ module _ {E : Type 0} (P : Presented E) (H : IsPresentation P) where
     greatest = λ n k ne. absurd (ne (sym (single_term P.field H.field m P.field.one n k)));
   }
 
-  variables_monic : (i k : ℕ) → i + k ≤ P.order.places → (fs : List (List (Term E))) (ms : List (List ℕ)) → AreMonic P.field H.field P.order H.order fs ms →
+  variables_monic : (i k : ℕ) → i + k ≤ P.order.places → (fs : List (Polynomial E)) (ms : List (List ℕ)) → AreMonic P.field H.field P.order H.order fs ms →
       AreMonic P.field H.field P.order H.order (map (λ m. term_of m P.field.one ∷ []) (variables i k) ++ fs) (variables i k ++ ms)
   variables_monic i zero le fs ms h = h
   variables_monic i (suc k) le fs ms h = (single_monic (variable i) (variable_monomial P.order.places i (omega arith)), variables_monic (suc i) k (omega arith) fs ms h)
 
-  pub element_monic : (s : List (Term E)) → IsMonicElement P s → IsMonic P.field P.order s (lead s)
+  pub element_monic : (s : Polynomial E) → IsMonicElement P s → IsMonic P.field P.order s (lead_monomial s)
   unfolding coefficient
   element_monic [] h = absurd (H.field.one_not_zero (sym h.monic))
   element_monic (t ∷ p) h = record {
-    poly = Falls_IsPoly P.field P.order (t ∷ p) h.falls;
-    monomial = h.falls.0.term.monomial;
+    poly = IsDecreasing_IsPoly P.field P.order (t ∷ p) h.decreasing;
+    monomial = h.decreasing.0.term.monomial;
     one = h.monic;
-    greatest = (IsLead_first P.field H.field P.order H.order t p h.falls).greatest;
+    greatest = (IsLead_first P.field H.field P.order H.order t p h.decreasing).greatest;
   }
 
-  elements_monic : (T : List (List (Term E))) → AreMonicElements P T → AreMonic P.field H.field P.order H.order T (map lead T)
+  elements_monic : (T : List (Polynomial E)) → AreMonicElements P T → AreMonic P.field H.field P.order H.order T (map lead_monomial T)
   elements_monic [] h = tt
   elements_monic (s ∷ T) h = (element_monic s (h s (contains_here s T)), elements_monic T (λ x k. h x (contains_there s T x k)))
 
@@ -134,18 +134,18 @@ module _ {E : Type 0} (P : Presented E) (H : IsPresentation P) where
       ⊎_elim (λ e. subst (λ x. 1 ≤ x) e (H.order.degree_positive i (omega arith))) (λ r. variable_degrees (suc i) k (omega arith) d r)
       (contains_cases (P.order.degree (variable i)) (map P.order.degree (variables (suc i) k)) d h)
 
-  module _ (S : List (List (Term E))) (HS : AreMonicElements P S) where
+  module _ (S : List (Polynomial E)) (HS : AreMonicElements P S) where
     pub values_monic : AreMonic P.field H.field P.order H.order (letter_values P S) (letter_images P S)
-    values_monic = variables_monic 0 P.order.places (omega arith) S (map lead S) (elements_monic S HS)
+    values_monic = variables_monic 0 P.order.places (omega arith) S (map lead_monomial S) (elements_monic S HS)
 
     -- the value of a word is monic, and its lead is the image
     pub word_monic : (w : List ℕ) → IsMonic P.field P.order (word_value P S w) (image_of (letters P S) w)
     word_monic w =
         subst (IsMonic P.field P.order (word_value P S w)) (sym (image_is P S w)) (monic_value P.field H.field P.order H.order w (letter_values P S) (letter_images P S) values_monic)
 
-    lead_of_element : (m : List ℕ) → Contains (map lead S) m → IsMonomial P.order.places m × (1 ≤ P.order.degree m)
+    lead_of_element : (m : List ℕ) → Contains (map lead_monomial S) m → IsMonomial P.order.places m × (1 ≤ P.order.degree m)
     lead_of_element m h =
-        let r = map_contains lead S m h in
+        let r = map_contains lead_monomial S m h in
         subst (λ k. IsMonomial P.order.places k × (1 ≤ P.order.degree k)) r.2 ((element_monic r.0 (HS r.0 r.1)).monomial, (HS r.0 r.1).positive)
 
     pub are_letters : AreLetters (letters P S)
@@ -155,11 +155,11 @@ module _ {E : Type 0} (P : Presented E) (H : IsPresentation P) where
       not_one = λ m h e. let d = (lead_of_element m h).1 in let z : P.order.degree m ≡ P.order.degree [] = ap P.order.degree e in let o = degree_one P.order H.order in absurd (omega arith);
     }
 
-    pub letter_laws : IsMonomialOrder (order_of (letters P S))
+    pub letter_laws : IsMonomialOrder (word_order_of (letters P S))
     letter_laws = word_laws (letters P S) are_letters
 
     -- a word has the degree of its image
-    pub word_degree : (w : List ℕ) → (order_of (letters P S)).degree w ≡ P.order.degree (image_of (letters P S) w)
+    pub word_degree : (w : List ℕ) → (word_order_of (letters P S)).degree w ≡ P.order.degree (image_of (letters P S) w)
     word_degree w =
         sym (degree_image (letters P S) are_letters w) ∙ (degree_x (letters P S) are_letters (image_of (letters P S) w) (image_x (letters P S) are_letters w) ∙
         degree_weighted P.order H.order (image_of (letters P S) w) (word_monic w).monomial)

@@ -2,62 +2,62 @@
 use Rattle.std.proofs.Common.{◌≡◌, ◌≢◌, ℕ, zero, suc, refl, sym, ◌∙◌, ap, subst, List, [], ◌∷◌, ◌++◌, ◌⊎◌, inl, inr, ⊎_elim, cond, arith}
 use Rattle.std.specs.declared.cmp.Ordering.TheVariants.{Less}
 use Rattle.word_field.specs.Field.{FieldOps, IsField}
-use Rattle.word_field.specs.FieldLaws.{times_not_zero}
-use Rattle.monomial_order.specs.declared.Term.{Term}
+use Rattle.word_field.specs.laws.Field.{times_not_zero}
+use Rattle.monomial_order.specs.declared.terms.Term.{Term}
 use Rattle.monomial_order.specs.Monomial.{product, IsMonomial, IsTrimmed}
 use Rattle.monomial_order.specs.MonomialOrder.{MonomialOrder, IsMonomialOrder}
-use Rattle.monomial_order.specs.Words.{monomial_power, image}
-use Rattle.monomial_order.specs.MonomialLaws.{product_comm, IsMonomial-product}
-use Rattle.monomial_order.specs.Comparing.{not_below_self}
-use Rattle.poly_core.specs.Poly.{same_monomial, coefficient, Same, term_times, scaled, times, constant, AllAt, IsPoly, IsLead}
-use Rattle.poly_core.specs.Value.{power, monomial_value}
-use Rattle.poly_core.specs.RingLaws.{coefficient_value}
-use Rattle.poly_core.specs.SameLaws.{same_refl, times_same}
-use Rattle.poly_core.specs.FallingLaws.{Falls_IsPoly, IsLead_first, IsLead_unique, coefficient_first}
-use Rattle.poly_core.specs.CanonicalLaws.{canonical, IsCanonical, IsLead_same}
-use Rattle.poly_core.specs.DegreeLaws.{all_found, falls_all}
-use Rattle.poly_core.specs.IdealLaws.{IsPoly-times}
-use Rattle.poly_core.specs.LeadLaws.{below_found}
-use Rattle.poly_core.specs.SubalgebraLaws.{IsPoly-one}
+use Rattle.word_laws.specs.Words.{monomial_power, image}
+use Rattle.monomial_order.specs.laws.Monomial.{product_comm, IsMonomial-product}
+use Rattle.monomial_order.specs.laws.Comparing.{not_below_self}
+use Rattle.polynomials.specs.Polynomial.{Polynomial, same_monomial, coefficient, Same, term_times, scaled, times, constant, AllAt, IsPoly, IsLead}
+use Rattle.polynomials.specs.Value.{power, monomial_value}
+use Rattle.polynomials.specs.laws.Ring.{coefficient_value}
+use Rattle.polynomials.specs.laws.Same.{same_refl, times_same}
+use Rattle.polynomials.specs.laws.Decreasing.{IsDecreasing_IsPoly, IsLead_first, IsLead_unique, coefficient_first}
+use Rattle.polynomials.specs.laws.Canonical.{canonical, IsCanonicalForm, IsLead_same}
+use Rattle.polynomials.specs.laws.Degrees.{all_found, decreasing_all}
+use Rattle.polynomials.specs.laws.Ideal.{IsPoly-times}
+use Rattle.polynomials.specs.laws.Leads.{below_found}
+use Rattle.polynomials.specs.laws.Membership.{IsPoly-one}
 use Rattle.subalgebra_laws.proofs.ToPolynomials.{nothing_at, AllAt-map, AllAt-append, AllAt-scaled, AllAt-times, single_term, no_coefficient, poly_monomial}
 
 -- a monic polynomial with the lead m
-pub record IsMonic {E : Type 0} (K : FieldOps E) (O : MonomialOrder) (p : List (Term E)) (m : List ℕ) : Type 0 where
+pub record IsMonic {E : Type 0} (K : FieldOps E) (O : MonomialOrder) (p : Polynomial E) (m : List ℕ) : Type 0 where
   pub poly : IsPoly K O.places p
   pub monomial : IsMonomial O.places m
   pub one : coefficient K p m ≡ K.one
   pub greatest : (n : List ℕ) → coefficient K p n ≢ K.zero → n ≢ m → O.compare n m ≡ Less
 
 module _ {E : Type 0} (K : FieldOps E) (F : IsField K) (O : MonomialOrder) (L : IsMonomialOrder O) where
-  pub monic_lead : (p : List (Term E)) (m : List ℕ) → IsMonic K O p m → IsLead K O p m
+  pub monic_lead : (p : Polynomial E) (m : List ℕ) → IsMonic K O p m → IsLead K O p m
   monic_lead p m h = record { nonzero = λ z. F.one_not_zero (sym h.one ∙ z); greatest = h.greatest }
 
   -- p is a term at m, and terms below it
-  record HasFirst (p : List (Term E)) (m : List ℕ) (t : Term E) (r : List (Term E)) : Type 0 where
+  record HasFirst (p : Polynomial E) (m : List ℕ) (t : Term E) (r : Polynomial E) : Type 0 where
     same : Same K (t ∷ r) p
     at : t.at ≡ m
     by : t.by ≡ coefficient K p m
     below : AllAt (λ n. IsTrimmed n × (O.compare n m ≡ Less)) r
 
-  first_term : (p : List (Term E)) (m : List ℕ) → IsPoly K O.places p → IsLead K O p m → (t : Term E) × (r : List (Term E)) × HasFirst p m t r
+  first_term : (p : Polynomial E) (m : List ℕ) → IsPoly K O.places p → IsLead K O p m → (t : Term E) × (r : Polynomial E) × HasFirst p m t r
   first_term p m hp h = let c = canonical K F O L p hp in cases c.0 c.1
     where
-      cases : (q : List (Term E)) → IsCanonical K F O L p q → (t : Term E) × (r : List (Term E)) × HasFirst p m t r
+      cases : (q : Polynomial E) → IsCanonicalForm K F O L p q → (t : Term E) × (r : Polynomial E) × HasFirst p m t r
       cases [] c = absurd (h.nonzero (sym (c.same m) ∙ sym (nothing_at K m)))
       cases (t ∷ r) c =
-          let at : t.at ≡ m = IsLead_unique K F O L p t.at m (IsLead_same K F O L (t ∷ r) p t.at c.same (IsLead_first K F O L t r c.falls)) h in (
+          let at : t.at ≡ m = IsLead_unique K F O L p t.at m (IsLead_same K F O L (t ∷ r) p t.at c.same (IsLead_first K F O L t r c.decreasing)) h in (
             t,
             r,
             record {
               same = c.same;
               at = at;
-              by = sym (coefficient_first K F O L t r c.falls.0) ∙ (ap (coefficient K (t ∷ r)) at ∙ c.same m);
-              below = falls_all K F O L (λ n. IsTrimmed n × (O.compare n m ≡ Less)) r c.falls.1
-                  (λ n k. ((poly_monomial K F O L r n (Falls_IsPoly K O r c.falls.1) k).trimmed, subst (λ x. O.compare n x ≡ Less) at (below_found K F O L t.at r c.falls.0.above n k)));
+              by = sym (coefficient_first K F O L t r c.decreasing.0) ∙ (ap (coefficient K (t ∷ r)) at ∙ c.same m);
+              below = decreasing_all K F O L (λ n. IsTrimmed n × (O.compare n m ≡ Less)) r c.decreasing.1
+                  (λ n k. ((poly_monomial K F O L r n (IsDecreasing_IsPoly K O r c.decreasing.1) k).trimmed, subst (λ x. O.compare n x ≡ Less) at (below_found K F O L t.at r c.decreasing.0.above n k)));
             },
           )
 
-  pub times_lead : (p q : List (Term E)) (m k : List ℕ) → IsPoly K O.places p → IsPoly K O.places q → IsLead K O p m → IsLead K O q k →
+  pub times_lead : (p q : Polynomial E) (m k : List ℕ) → IsPoly K O.places p → IsPoly K O.places q → IsLead K O p m → IsLead K O q k →
       IsLead K O (times K p q) (product m k) × (coefficient K (times K p q) (product m k) ≡ K.times (coefficient K p m) (coefficient K q k))
   unfolding coefficient
   times_lead p q m k hp hq lp lq = joined (first_term p m hp lp) (first_term q k hq lq)
@@ -78,7 +78,7 @@ module _ {E : Type 0} (K : FieldOps E) (F : IsField K) (O : MonomialOrder) (L : 
       both a b ha hb = ⊎_elim (λ e. subst (λ x. O.compare (product a b) (product m x) ≡ Less) e (left a b ha.0 hb.0 ha.1))
           (λ lt. L.total.trans (product a b) (product m b) (product m k) (left a b ha.0 hb.0 ha.1) (right b hb.0 lt)) hb.1
 
-      joined : (t : Term E) × (r : List (Term E)) × HasFirst p m t r → (u : Term E) × (s : List (Term E)) × HasFirst q k u s →
+      joined : (t : Term E) × (r : Polynomial E) × HasFirst p m t r → (u : Term E) × (s : Polynomial E) × HasFirst q k u s →
           IsLead K O (times K p q) (product m k) × (coefficient K (times K p q) (product m k) ≡ K.times (coefficient K p m) (coefficient K q k))
       joined (t, r, a) (u, s, b) =
           let same : Same K (times K (t ∷ r) (u ∷ s)) (times K p q) = times_same K F (t ∷ r) p (u ∷ s) q a.same b.same in
@@ -104,7 +104,7 @@ module _ {E : Type 0} (K : FieldOps E) (F : IsField K) (O : MonomialOrder) (L : 
             one,
           )
 
-  pub monic_times : (p q : List (Term E)) (m k : List ℕ) → IsMonic K O p m → IsMonic K O q k → IsMonic K O (times K p q) (product m k)
+  pub monic_times : (p q : Polynomial E) (m k : List ℕ) → IsMonic K O p m → IsMonic K O q k → IsMonic K O (times K p q) (product m k)
   monic_times p q m k hp hq =
       let l = times_lead p q m k hp.poly hq.poly (monic_lead p m hp) (monic_lead q k hq) in
       record {
@@ -123,19 +123,19 @@ module _ {E : Type 0} (K : FieldOps E) (F : IsField K) (O : MonomialOrder) (L : 
     greatest = λ n h ne. absurd (ne (sym (single_term K F [] K.one n h)));
   }
 
-  pub monic_power : (p : List (Term E)) (m : List ℕ) (e : ℕ) → IsMonic K O p m → IsMonic K O (power K p e) (monomial_power m e)
+  pub monic_power : (p : Polynomial E) (m : List ℕ) (e : ℕ) → IsMonic K O p m → IsMonic K O (power K p e) (monomial_power m e)
   monic_power p m zero h = monic_one
   monic_power p m (suc e) h = monic_times p (power K p e) m (monomial_power m e) h (monic_power p m e h)
 
   -- monic polynomials with the leads ms
-  abbrev pub AreMonic : List (List (Term E)) → List (List ℕ) → Type 0
+  abbrev pub AreMonic : List (Polynomial E) → List (List ℕ) → Type 0
   AreMonic [] [] = Unit {0}
   AreMonic [] (m ∷ ms) = ⊥
   AreMonic (f ∷ fs) [] = ⊥
   AreMonic (f ∷ fs) (m ∷ ms) = IsMonic K O f m × AreMonic fs ms
 
   -- the value of a word has the word's image as its lead
-  pub monic_value : (w : List ℕ) (fs : List (List (Term E))) (ms : List (List ℕ)) → AreMonic fs ms → IsMonic K O (monomial_value K w fs) (image w ms)
+  pub monic_value : (w : List ℕ) (fs : List (Polynomial E)) (ms : List (List ℕ)) → AreMonic fs ms → IsMonic K O (monomial_value K w fs) (image w ms)
   monic_value [] fs ms h = monic_one
   monic_value (e ∷ w) [] [] h = monic_one
   monic_value (e ∷ w) [] (m ∷ ms) h = absurd h

@@ -4,14 +4,15 @@ use Rattle.std.specs.Prelude.{map, Contains}
 use Rattle.std.proofs.lemmas.List.{map-append, get_or-map, length-map}
 use Rattle.std.proofs.lemmas.List.Elements.{Contains-append_cases, Contains-get_or}
 use Rattle.std.specs.declared.cmp.Ordering.TheVariants.{Less}
-use Rattle.monomial_order.specs.declared.Term.{Term}
+use Rattle.monomial_order.specs.declared.terms.Term.{Term}
 use Rattle.monomial_order.specs.Monomial.{product}
-use Rattle.monomial_order.specs.Lists.{contains_cases, contains_here, contains_there, contains_none, contains_map, contains_left, contains_right}
-use Rattle.monomial_order.specs.MonomialLaws.{product-one}
-use Rattle.monomial_order.specs.Comparing.{not_below_self}
-use Rattle.poly_core.specs.Poly.{lead}
-use Rattle.poly_core.specs.Subalgebra.{Presented, IsPresentation, AllIn, product_of, IsGenerated, IsReducedBasis, Rise}
-use Rattle.poly_core.specs.ReducedBasisLaws.{map_contains}
+use Rattle.monomial_order.specs.laws.Lists.{contains_cases, contains_here, contains_there, contains_none, contains_map, contains_left, contains_right}
+use Rattle.monomial_order.specs.laws.Monomial.{product-one}
+use Rattle.monomial_order.specs.laws.Comparing.{not_below_self}
+use Rattle.polynomials.specs.Polynomial.{Polynomial, lead_monomial}
+use Rattle.polynomials.specs.Subalgebra.{Presented, IsPresentation, AllIn, product_of, IsGenerated, IsReducedBasis}
+use Rattle.monomial_order.specs.MonomialOrder.{IsIncreasing}
+use Rattle.polynomials.specs.laws.ReducedBasis.{map_contains}
 use Rattle.subalgebra_laws.specs.Bases.{IsDecidedTo, HaveLeadsFrom, AreStandardAfter, AreNextTo, IsCheckedElement, IsCheckedBasis}
 use Rattle.subalgebra_laws.specs.Statements.{ProductsSplit, NextBasisIsReduced}
 use Rattle.subalgebra_laws.proofs.Generated.{generated_leads}
@@ -43,112 +44,112 @@ module _ {E : Type 0} (P : Presented E) (H : IsPresentation P) where
   open P use {field as K, order as O}
   open H use {order as L}
 
-  rise_rest : (m : List ℕ) (M : List (List ℕ)) → Rise P (m ∷ M) → Rise P M
+  rise_rest : (m : List ℕ) (M : List (List ℕ)) → IsIncreasing P.order (m ∷ M) → IsIncreasing P.order M
   rise_rest m [] r = tt
   rise_rest m (n ∷ M) r = r.1
 
-  rise_all : (m : List ℕ) (M : List (List ℕ)) → Rise P (m ∷ M) → (n : List ℕ) → Contains M n → O.compare m n ≡ Less
+  rise_all : (m : List ℕ) (M : List (List ℕ)) → IsIncreasing P.order (m ∷ M) → (n : List ℕ) → Contains M n → O.compare m n ≡ Less
   rise_all m [] r n k = absurd (contains_none n k)
   rise_all m (l ∷ M) r n k = ⊎_elim (λ e. subst (λ x. O.compare m x ≡ Less) e r.0) (λ i. L.total.trans m l n r.0 (rise_all l M r.1 n i)) (contains_cases l M n k)
 
   -- in an increasing list no other member has the lead
-  rise_other : (front : List (List (Term E))) (t : List (Term E)) (after : List (List (Term E))) → Rise P (map lead (front ++ (t ∷ after))) → Contains (map lead (front ++ after)) (lead t) → ⊥
-  rise_other [] t after r k = not_below_self O L (lead t) (rise_all (lead t) (map lead after) r (lead t) k)
+  rise_other : (front : List (Polynomial E)) (t : Polynomial E) (after : List (Polynomial E)) → IsIncreasing P.order (map lead_monomial (front ++ (t ∷ after))) → Contains (map lead_monomial (front ++ after)) (lead_monomial t) → ⊥
+  rise_other [] t after r k = not_below_self O L (lead_monomial t) (rise_all (lead_monomial t) (map lead_monomial after) r (lead_monomial t) k)
   rise_other (x ∷ front) t after r k =
       ⊎_elim
-      (λ e. not_below_self O L (lead t) (subst (λ y. O.compare y (lead t) ≡ Less) e
-      (rise_all (lead x) (map lead (front ++ (t ∷ after))) r (lead t) (contains_map lead (front ++ (t ∷ after)) t (contains_right front (t ∷ after) t (contains_here t after))))))
-      (λ i. rise_other front t after (rise_rest (lead x) (map lead (front ++ (t ∷ after))) r) i) (contains_cases (lead x) (map lead (front ++ after)) (lead t) k)
+      (λ e. not_below_self O L (lead_monomial t) (subst (λ y. O.compare y (lead_monomial t) ≡ Less) e
+      (rise_all (lead_monomial x) (map lead_monomial (front ++ (t ∷ after))) r (lead_monomial t) (contains_map lead_monomial (front ++ (t ∷ after)) t (contains_right front (t ∷ after) t (contains_here t after))))))
+      (λ i. rise_other front t after (rise_rest (lead_monomial x) (map lead_monomial (front ++ (t ∷ after))) r) i) (contains_cases (lead_monomial x) (map lead_monomial (front ++ after)) (lead_monomial t) k)
 
   -- members at different indices differ
-  rise_differ : (T : List (List (Term E))) → Rise P (map lead T) → (i j : ℕ) → i < length T → j < length T → lead (get_or T i []) ≡ lead (get_or T j []) → i ≡ j
+  rise_differ : (T : List (Polynomial E)) → IsIncreasing P.order (map lead_monomial T) → (i j : ℕ) → i < length T → j < length T → lead_monomial (get_or T i []) ≡ lead_monomial (get_or T j []) → i ≡ j
   rise_differ [] r i j li lj e = absurd (omega arith)
   rise_differ (t ∷ T) r zero zero li lj e = refl
-  rise_differ (t ∷ T) r zero (suc j) li lj e = absurd (rise_other [] t T r (subst (Contains (map lead T)) (sym e) (contains_map lead T (get_or T j []) (Contains-get_or T j [] (omega arith)))))
-  rise_differ (t ∷ T) r (suc i) zero li lj e = absurd (rise_other [] t T r (subst (Contains (map lead T)) e (contains_map lead T (get_or T i []) (Contains-get_or T i [] (omega arith)))))
-  rise_differ (t ∷ T) r (suc i) (suc j) li lj e = ap suc (rise_differ T (rise_rest (lead t) (map lead T) r) i j (omega arith) (omega arith) e)
+  rise_differ (t ∷ T) r zero (suc j) li lj e = absurd (rise_other [] t T r (subst (Contains (map lead_monomial T)) (sym e) (contains_map lead_monomial T (get_or T j []) (Contains-get_or T j [] (omega arith)))))
+  rise_differ (t ∷ T) r (suc i) zero li lj e = absurd (rise_other [] t T r (subst (Contains (map lead_monomial T)) e (contains_map lead_monomial T (get_or T i []) (Contains-get_or T i [] (omega arith)))))
+  rise_differ (t ∷ T) r (suc i) (suc j) li lj e = ap suc (rise_differ T (rise_rest (lead_monomial t) (map lead_monomial T) r) i j (omega arith) (omega arith) e)
 
-  pub next_standard : (d : ℕ) (S T : List (List (Term E))) → AreNextTo P d S T → AreStandardAfter P d S T
-  next_standard d S T n = record { after = n.after; standard = n.standard; differ = rise_differ T n.rise }
+  pub next_standard : (d : ℕ) (S T : List (Polynomial E)) → AreNextTo P d S T → AreStandardAfter P d S T
+  next_standard d S T n = record { after = n.after; standard = n.standard; differ = rise_differ T n.increasing }
 
-  rise_append : (M N : List (List ℕ)) → Rise P M → Rise P N → ((m n : List ℕ) → Contains M m → Contains N n → O.compare m n ≡ Less) → Rise P (M ++ N)
+  rise_append : (M N : List (List ℕ)) → IsIncreasing P.order M → IsIncreasing P.order N → ((m n : List ℕ) → Contains M m → Contains N n → O.compare m n ≡ Less) → IsIncreasing P.order (M ++ N)
   rise_append [] N rm rn h = rn
   rise_append (m ∷ []) [] rm rn h = tt
   rise_append (m ∷ []) (n ∷ N) rm rn h = (h m n (contains_here m []) (contains_here n N), rn)
   rise_append (m ∷ (l ∷ M)) N rm rn h = (rm.0, rise_append (l ∷ M) N rm.1 rn (λ a b ka kb. h a b (contains_there m (l ∷ M) a ka) kb))
 
   -- the lead of an element has what each element's lead has
-  of_lead : (Q : List ℕ → Type 0) (S : List (List (Term E))) → ((s : List (Term E)) → Contains S s → Q (lead s)) → (m : List ℕ) → Contains (map lead S) m → Q m
-  of_lead Q S h m k = let r = map_contains lead S m k in subst Q r.2 (h r.0 r.1)
+  of_lead : (Q : List ℕ → Type 0) (S : List (Polynomial E)) → ((s : Polynomial E) → Contains S s → Q (lead_monomial s)) → (m : List ℕ) → Contains (map lead_monomial S) m → Q m
+  of_lead Q S h m k = let r = map_contains lead_monomial S m k in subst Q r.2 (h r.0 r.1)
 
   -- a product of leads of at most the degree of the leads of T has none of them as a factor, or is one
-  module _ (S T : List (List (Term E))) (d : ℕ) (positive : HaveLeadsFrom P 1 (S ++ T)) (high : HaveLeadsFrom P d T) where
-    no_factors : (ms : List (List ℕ)) → AllIn (map lead (S ++ T)) ms → O.degree (product_of ms) ≡ 0 → ms ≡ []
+  module _ (S T : List (Polynomial E)) (d : ℕ) (positive : HaveLeadsFrom P 1 (S ++ T)) (high : HaveLeadsFrom P d T) where
+    no_factors : (ms : List (List ℕ)) → AllIn (map lead_monomial (S ++ T)) ms → O.degree (product_of ms) ≡ 0 → ms ≡ []
     no_factors [] h e = refl
     no_factors (m ∷ ms) h e = let p = L.degree_product m (product_of ms) in let q = of_lead (λ x. 1 ≤ O.degree x) (S ++ T) positive m h.0 in absurd (omega arith)
 
-    split_factors : (ms : List (List ℕ)) → AllIn (map lead (S ++ T)) ms → O.degree (product_of ms) ≤ d → AllIn (map lead S) ms ⊎ Contains (map lead T) (product_of ms)
+    split_factors : (ms : List (List ℕ)) → AllIn (map lead_monomial (S ++ T)) ms → O.degree (product_of ms) ≤ d → AllIn (map lead_monomial S) ms ⊎ Contains (map lead_monomial T) (product_of ms)
     split_factors [] h l = inl tt
     split_factors (m ∷ ms) h l =
         let p = L.degree_product m (product_of ms) in
         let q = of_lead (λ x. 1 ≤ O.degree x) (S ++ T) positive m h.0 in
-        let r = map_contains lead (S ++ T) m h.0 in
+        let r = map_contains lead_monomial (S ++ T) m h.0 in
         ⊎_elim
-        (λ a. ⊎_elim (λ rest. inl (subst (Contains (map lead S)) r.2 (contains_map lead S r.0 a), rest))
+        (λ a. ⊎_elim (λ rest. inl (subst (Contains (map lead_monomial S)) r.2 (contains_map lead_monomial S r.0 a), rest))
         (λ c. absurd (let z = of_lead (λ x. d ≤ O.degree x) T high (product_of ms) c in omega arith)) (split_factors ms h.1 (omega arith)))
         (λ b.
-        let e : O.degree (lead r.0) ≡ O.degree m = ap O.degree r.2 in
+        let e : O.degree (lead_monomial r.0) ≡ O.degree m = ap O.degree r.2 in
         let z = high r.0 b in
         let none : ms ≡ [] = no_factors ms h.1 (omega arith) in
-        inr (subst (Contains (map lead T)) (r.2 ∙ (sym (product-one m) ∙ ap (λ x. product m (product_of x)) (sym none))) (contains_map lead T r.0 b)))
+        inr (subst (Contains (map lead_monomial T)) (r.2 ∙ (sym (product-one m) ∙ ap (λ x. product m (product_of x)) (sym none))) (contains_map lead_monomial T r.0 b)))
         (Contains-append_cases S T r.0 r.1)
 
     pub products_split : ProductsSplit P S T d
     products_split m l g =
-        ⊎_elim (λ a. inl (record { factors = g.factors; members = a; product = g.product })) (λ b. inr (subst (Contains (map lead T)) g.product b))
+        ⊎_elim (λ a. inl (record { factors = g.factors; members = a; product = g.product })) (λ b. inr (subst (Contains (map lead_monomial T)) g.product b))
         (split_factors g.factors g.members (let e : O.degree (product_of g.factors) ≡ O.degree m = ap O.degree g.product in omega arith))
 
-  module _ (S T : List (List (Term E))) (c d : ℕ) (next : suc c ≡ d) (red : IsReducedBasis P c S) (N : AreNextTo P d S T) (elements : (t : List (Term E)) → Contains T t → IsCheckedElement P d (S ++ T) t) where
+  module _ (S T : List (Polynomial E)) (c d : ℕ) (next : suc c ≡ d) (red : IsReducedBasis P c S) (N : AreNextTo P d S T) (elements : (t : Polynomial E) → Contains T t → IsCheckedElement P d (S ++ T) t) where
     -- of two parts of S and T
-    positive : (R U : List (List (Term E))) → ((s : List (Term E)) → Contains R s → Contains S s) → ((t : List (Term E)) → Contains U t → Contains T t) → HaveLeadsFrom P 1 (R ++ U)
+    positive : (R U : List (Polynomial E)) → ((s : Polynomial E) → Contains R s → Contains S s) → ((t : Polynomial E) → Contains U t → Contains T t) → HaveLeadsFrom P 1 (R ++ U)
     positive R U r u x k = ⊎_elim (λ a. (red.elements x (r x a)).at_least) (λ b. let e = N.after.degree x (u x b) in omega arith) (Contains-append_cases R U x k)
 
     -- below the degree d the new leads have no products
-    old_product : (R : List (List (Term E))) → ((s : List (Term E)) → Contains R s → Contains S s) → (m : List ℕ) → O.degree m ≤ c → IsGenerated (map lead (R ++ T)) m → IsGenerated (map lead R) m
+    old_product : (R : List (Polynomial E)) → ((s : Polynomial E) → Contains R s → Contains S s) → (m : List ℕ) → O.degree m ≤ c → IsGenerated (map lead_monomial (R ++ T)) m → IsGenerated (map lead_monomial R) m
     old_product R r m l g =
         ⊎_elim (λ a. a) (λ b. absurd (let z = of_lead (λ x. d ≤ O.degree x) T N.after.degree m b in omega arith))
         (products_split R T d (positive R T r (λ t k. k)) N.after.degree m (omega arith) g)
 
-    old_element : (s : List (Term E)) → Contains S s → IsCheckedElement P d (S ++ T) s
+    old_element : (s : Polynomial E) → Contains S s → IsCheckedElement P d (S ++ T) s
     old_element s k =
         let e = red.elements s k in
         element_checked P H c d (S ++ T) s (omega arith) e (λ m z ne g. e.tail m z ne (generated_leads P H S (basis_monic P H c S red) (λ x i. (red.elements x i).inside) m (e.standard m z)
         (old_product S (λ x i. i) m (let q = e.homogeneous.each m z in let a = e.at_most in omega arith) g)))
 
-    old_minimal : (before rest : List (List (Term E))) (s : List (Term E)) → S ≡ before ++ (s ∷ rest) → IsGenerated (map lead (before ++ (rest ++ T))) (lead s) → ⊥
+    old_minimal : (before rest : List (Polynomial E)) (s : Polynomial E) → S ≡ before ++ (s ∷ rest) → IsGenerated (map lead_monomial (before ++ (rest ++ T))) (lead_monomial s) → ⊥
     old_minimal before rest s e g =
-        red.minimal before rest s e (old_product (before ++ rest) (without_middle S before s rest e) (lead s) (red.elements s (the_middle S before s rest e)).at_most
-        (subst (λ X. IsGenerated (map lead X) (lead s)) (sym (append_assoc before rest T)) g))
+        red.minimal before rest s e (old_product (before ++ rest) (without_middle S before s rest e) (lead_monomial s) (red.elements s (the_middle S before s rest e)).at_most
+        (subst (λ X. IsGenerated (map lead_monomial X) (lead_monomial s)) (sym (append_assoc before rest T)) g))
 
-    new_minimal : (front rest : List (List (Term E))) (t : List (Term E)) → T ≡ front ++ (t ∷ rest) → IsGenerated (map lead (S ++ (front ++ rest))) (lead t) → ⊥
+    new_minimal : (front rest : List (Polynomial E)) (t : Polynomial E) → T ≡ front ++ (t ∷ rest) → IsGenerated (map lead_monomial (S ++ (front ++ rest))) (lead_monomial t) → ⊥
     new_minimal front rest t e g =
         let inner = the_middle T front t rest e in
         let part = without_middle T front t rest e in
-        ⊎_elim (λ a. N.after.new t inner a) (λ b. rise_other front t rest (subst (λ X. Rise P (map lead X)) e N.rise) b)
-        (products_split S (front ++ rest) d (positive S (front ++ rest) (λ s k. k) part) (λ x k. N.after.degree x (part x k)) (lead t) (elements t inner).at_most g)
+        ⊎_elim (λ a. N.after.new t inner a) (λ b. rise_other front t rest (subst (λ X. IsIncreasing P.order (map lead_monomial X)) e N.increasing) b)
+        (products_split S (front ++ rest) d (positive S (front ++ rest) (λ s k. k) part) (λ x k. N.after.degree x (part x k)) (lead_monomial t) (elements t inner).at_most g)
 
-  pub next_reduced : (S T : List (List (Term E))) (d : ℕ) → AreNextTo P d S T → NextBasisIsReduced P S T d
+  pub next_reduced : (S T : List (Polynomial E)) (d : ℕ) → AreNextTo P d S T → NextBasisIsReduced P S T d
   next_reduced S T d N c next dec red elements generators words = checked_reduced P H d (S ++ T) dec (record {
-    rise = subst (Rise P) (sym (map-append lead S T)) (rise_append (map lead S) (map lead T) red.rise N.rise
+    increasing = subst (IsIncreasing P.order) (sym (map-append lead_monomial S T)) (rise_append (map lead_monomial S) (map lead_monomial T) red.increasing N.increasing
         (λ m n km kn.
         let p = of_lead (λ x. O.degree x ≤ c) S (λ s k. (red.elements s k).at_most) m km in
         let q = of_lead (λ x. d ≤ O.degree x) T N.after.degree n kn in
         L.degree_first m n (omega arith)));
     elements = λ s k. ⊎_elim (λ a. old_element S T c d next red N elements s a) (λ b. elements s b) (Contains-append_cases S T s k);
     minimal = λ before rest s e.
-        ⊎_elim (λ r. λ g. old_minimal S T c d next red N elements before r.0 s r.1 (subst (λ X. IsGenerated (map lead (before ++ X)) (lead s)) r.2 g))
+        ⊎_elim (λ r. λ g. old_minimal S T c d next red N elements before r.0 s r.1 (subst (λ X. IsGenerated (map lead_monomial (before ++ X)) (lead_monomial s)) r.2 g))
         (λ r. λ g. new_minimal S T c d next red N elements r.0 rest s r.2
-        (subst (λ X. IsGenerated (map lead X) (lead s)) (append_assoc S r.0 rest) (subst (λ X. IsGenerated (map lead (X ++ rest)) (lead s)) r.1 g)))
+        (subst (λ X. IsGenerated (map lead_monomial X) (lead_monomial s)) (append_assoc S r.0 rest) (subst (λ X. IsGenerated (map lead_monomial (X ++ rest)) (lead_monomial s)) r.1 g)))
         (split_append S T before s rest e);
     combinations = next_combinations P H d S T (next_standard d S T N) c next (basis_combinations P H c S (λ m hm l. dec m hm (omega arith)) red) generators words;
   })

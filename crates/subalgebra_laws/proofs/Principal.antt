@@ -1,22 +1,22 @@
 -- The leads of an ideal that one polynomial generates are the multiples of its lead.
 use Rattle.std.proofs.Common.{◌≡◌, ℕ, refl, sym, ◌∙◌, ap, subst, List, [], ◌∷◌, ◌++◌, ⊎_elim, append-nil}
 use Rattle.std.specs.Prelude.{Contains}
-use Rattle.monomial_order.specs.declared.Term.{Term}
+use Rattle.monomial_order.specs.declared.terms.Term.{Term}
 use Rattle.monomial_order.specs.Monomial.{product}
-use Rattle.monomial_order.specs.Lists.{contains_cases, contains_here, contains_none}
-use Rattle.poly_core.specs.Poly.{coefficient, Same, times, constant, IsPoly, IsLead}
-use Rattle.poly_core.specs.Ideal.{Multiple, AreMultiples, sum_of}
-use Rattle.poly_core.specs.Subalgebra.{Presented, IsPresentation, LeadsIdeal}
-use Rattle.poly_core.specs.SameLaws.{append_same, times_same_left}
-use Rattle.poly_core.specs.ValueLaws.{times-append, one_times}
-use Rattle.poly_core.specs.FallingLaws.{IsLead_unique}
-use Rattle.poly_core.specs.CanonicalLaws.{IsLead_same, zero_or_lead}
-use Rattle.poly_core.specs.IdealLaws.{IsPoly-append}
-use Rattle.poly_core.specs.SubalgebraLaws.{IsPoly-one}
+use Rattle.monomial_order.specs.laws.Lists.{contains_cases, contains_here, contains_none}
+use Rattle.polynomials.specs.Polynomial.{Polynomial, coefficient, Same, times, constant, IsPoly, IsLead}
+use Rattle.polynomials.specs.Ideal.{Multiple, AreMultiples, sum_of}
+use Rattle.polynomials.specs.Subalgebra.{Presented, IsPresentation, LeadsIdeal}
+use Rattle.polynomials.specs.laws.Same.{append_same, times_same_left}
+use Rattle.polynomials.specs.laws.Value.{times-append, one_times}
+use Rattle.polynomials.specs.laws.Decreasing.{IsLead_unique}
+use Rattle.polynomials.specs.laws.Canonical.{IsLead_same, zero_or_lead}
+use Rattle.polynomials.specs.laws.Ideal.{IsPoly-append}
+use Rattle.polynomials.specs.laws.Membership.{IsPoly-one}
 use Rattle.subalgebra_laws.proofs.ToPolynomials.{nothing_at}
 use Rattle.subalgebra_laws.proofs.MonicProducts.{times_lead}
 
-module _ {E : Type 0} (P : Presented E) (H : IsPresentation P) (r : List (Term E)) (x : List ℕ) (alone : P.ideal ≡ r ∷ []) (poly : IsPoly P.field P.order.places r) (leads : IsLead P.field P.order r x) where
+module _ {E : Type 0} (P : Presented E) (H : IsPresentation P) (r : Polynomial E) (x : List ℕ) (alone : P.ideal ≡ r ∷ []) (poly : IsPoly P.field P.order.places r) (leads : IsLead P.field P.order r x) where
   open P use {field as K, order as O}
   open H use {field as F, order as L}
 
@@ -33,7 +33,7 @@ module _ {E : Type 0} (P : Presented E) (H : IsPresentation P) (r : List (Term E
   }
 
   -- a sum of multiples of r is one multiple
-  collected : (parts : List (Multiple E)) → AreMultiples K O.places P.ideal parts → (q : List (Term E)) × IsPoly K O.places q × Same K (sum_of K parts) (times K q r)
+  collected : (parts : List (Multiple E)) → AreMultiples K O.places P.ideal parts → (q : Polynomial E) × IsPoly K O.places q × Same K (sum_of K parts) (times K q r)
   collected [] h = ([], tt, λ m. refl)
   collected (w ∷ ws) h =
       let k = collected ws h.2 in

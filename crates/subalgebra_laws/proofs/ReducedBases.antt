@@ -3,18 +3,18 @@
 use Rattle.std.proofs.Common.{◌≡◌, ◌≢◌, ℕ, ◌≤◌, ◌↔◌, refl, sym, ◌∙◌, ap, subst, List, [], ◌++◌, ⊎_elim, arith}
 use Rattle.std.specs.Prelude.{map}
 use Rattle.std.specs.declared.cmp.Ordering.TheVariants.{Less}
-use Rattle.monomial_order.specs.declared.Term.{Term}
-use Rattle.monomial_order.specs.Comparing.{degree_falls, equal_or_not}
-use Rattle.monomial_order.specs.Rank.{IsWithin, below_induction}
-use Rattle.monomial_order.specs.Words.{order_of, image_of}
-use Rattle.monomial_order.specs.ReducibleLaws.{least_word, least_s_word}
-use Rattle.poly_core.specs.Poly.{coefficient, times, minus, constant, IsPoly, IsLead, lead}
-use Rattle.poly_core.specs.Subalgebra.{Presented, IsPresentation, InSubalgebra, LeadsIdeal, LeadsSubalgebra, IsStandard, IsElement, IsGenerated, IsReducedBasis}
-use Rattle.poly_core.specs.RingLaws.{coefficient_value}
-use Rattle.poly_core.specs.CanonicalLaws.{zero_or_lead}
-use Rattle.poly_core.specs.IdealLaws.{IsPoly-times}
-use Rattle.poly_core.specs.CongruenceLaws.{congruent_member}
-use Rattle.poly_core.specs.SubalgebraLaws.{sub_times, sub_congruent, sub_minus}
+use Rattle.monomial_order.specs.declared.terms.Term.{Term}
+use Rattle.monomial_order.specs.laws.Comparing.{degree_falls, equal_or_not}
+use Rattle.monomial_order.specs.laws.Rank.{IsWithin, below_induction}
+use Rattle.word_laws.specs.Words.{word_order_of, image_of}
+use Rattle.word_laws.specs.laws.Reducible.{least_word, least_s_word}
+use Rattle.polynomials.specs.Polynomial.{Polynomial, coefficient, times, minus, constant, IsPoly, IsLead, lead_monomial}
+use Rattle.polynomials.specs.Subalgebra.{Presented, IsPresentation, InSubalgebra, LeadsIdeal, LeadsSubalgebra, IsStandard, IsElement, IsGenerated, IsReducedBasis}
+use Rattle.polynomials.specs.laws.Ring.{coefficient_value}
+use Rattle.polynomials.specs.laws.Canonical.{zero_or_lead}
+use Rattle.polynomials.specs.laws.Ideal.{IsPoly-times}
+use Rattle.polynomials.specs.laws.Congruence.{congruent_member}
+use Rattle.polynomials.specs.laws.Membership.{sub_times, sub_congruent, sub_minus}
 use Rattle.subalgebra_laws.specs.Words.{letters, word_value, IsMinimalWord, IsCombination}
 use Rattle.subalgebra_laws.specs.Bases.{AreMonicElements, HasDegreesTo, IsDecidedTo, HasCombinationsTo, IsClosedAt, IsCheckedElement, IsCheckedBasis}
 use Rattle.subalgebra_laws.specs.Statements.{LowMembersAreCombinations}
@@ -30,11 +30,11 @@ module _ {E : Type 0} (P : Presented E) (H : IsPresentation P) where
   open P use {field as K, order as O}
   open H use {field as F, order as L}
 
-  pub basis_monic : (c : ℕ) (S : List (List (Term E))) → IsReducedBasis P c S → AreMonicElements P S
-  basis_monic c S red s k = let e = red.elements s k in record { falls = e.falls; monic = e.monic; positive = e.at_least }
+  pub basis_monic : (c : ℕ) (S : List (Polynomial E)) → IsReducedBasis P c S → AreMonicElements P S
+  basis_monic c S red s k = let e = red.elements s k in record { decreasing = e.decreasing; monic = e.monic; positive = e.at_least }
 
   -- a monomial of the value of a word has at most its degree
-  pub word_low : (S : List (List (Term E))) → AreMonicElements P S → (c : ℕ) (u : List ℕ) → (order_of (letters P S)).degree u ≤ c → HasDegreesTo P c (word_value P S u)
+  pub word_low : (S : List (Polynomial E)) → AreMonicElements P S → (c : ℕ) (u : List ℕ) → (word_order_of (letters P S)).degree u ≤ c → HasDegreesTo P c (word_value P S u)
   word_low S HS c u le n k =
       let m = image_of (letters P S) u in
       let e = word_degree P H S HS u in
@@ -42,14 +42,14 @@ module _ {E : Type 0} (P : Presented E) (H : IsPresentation P) where
       (λ ne. let z = degree_falls O L n m ((word_monic P H S HS u).greatest n k ne) in omega arith) (equal_or_not n m)
 
   -- the leads of the subalgebra that S generates are exactly the standard products of leads of S
-  pub leads_exactly : (c : ℕ) (S : List (List (Term E))) → IsReducedBasis P c S → (m : List ℕ) → (LeadsSubalgebra P m → IsGenerated (map lead S) m) → LeadsSubalgebra P m ↔ (IsStandard P m × IsGenerated (map lead S) m)
+  pub leads_exactly : (c : ℕ) (S : List (Polynomial E)) → IsReducedBasis P c S → (m : List ℕ) → (LeadsSubalgebra P m → IsGenerated (map lead_monomial S) m) → LeadsSubalgebra P m ↔ (IsStandard P m × IsGenerated (map lead_monomial S) m)
   leads_exactly c S red m generated = ((λ h. (h.standard, generated h)), (λ k. generated_leads P H S (basis_monic c S red) (λ s i. (red.elements s i).inside) m k.0 k.1))
 
   -- what is checked of an element, but for its tail
-  pub element_checked : (c d : ℕ) (S : List (List (Term E))) (s : List (Term E)) → c ≤ d → IsElement P c s →
-      ((m : List ℕ) → coefficient K s m ≢ K.zero → m ≢ lead s → ¬ IsGenerated (map lead S) m) → IsCheckedElement P d S s
+  pub element_checked : (c d : ℕ) (S : List (Polynomial E)) (s : Polynomial E) → c ≤ d → IsElement P c s →
+      ((m : List ℕ) → coefficient K s m ≢ K.zero → m ≢ lead_monomial s → ¬ IsGenerated (map lead_monomial S) m) → IsCheckedElement P d S s
   element_checked c d S s le e tail = record {
-    falls = e.falls;
+    decreasing = e.decreasing;
     inside = e.inside;
     monic = e.monic;
     homogeneous = e.homogeneous;
@@ -59,12 +59,12 @@ module _ {E : Type 0} (P : Presented E) (H : IsPresentation P) where
     tail = tail;
   }
 
-  module _ (c : ℕ) (S : List (List (Term E))) (dec : IsDecidedTo P c) (red : IsReducedBasis P c S) where
+  module _ (c : ℕ) (S : List (Polynomial E)) (dec : IsDecidedTo P c) (red : IsReducedBasis P c S) where
     HS : AreMonicElements P S
     HS = basis_monic c S red
 
     -- a combination in the subalgebra with the lead m
-    record HasLeadAt (m : List ℕ) (b : List (Term E)) : Type 0 where
+    record HasLeadAt (m : List ℕ) (b : Polynomial E) : Type 0 where
       poly : IsPoly K O.places b
       inside : InSubalgebra P b
       combination : IsCombination P S b
@@ -76,7 +76,7 @@ module _ {E : Type 0} (P : Presented E) (H : IsPresentation P) where
         record { poly = l.poly; inside = sub_congruent P H [] l.member (sub_zero P H) zero; combination = combination_congruent P H S HS [] l.member zero (combination_zero P H S HS); leads = l.leads }
 
     -- the value of the least word of a standard lead
-    of_word : (m : List ℕ) → LeadsSubalgebra P m → O.degree m ≤ c → (b : List (Term E)) × HasLeadAt m b
+    of_word : (m : List ℕ) → LeadsSubalgebra P m → O.degree m ≤ c → (b : Polynomial E) × HasLeadAt m b
     of_word m h le =
         let w = images_generated P H S HS m (red.generates m h le) in
         let v = least_word (letters P S) (are_letters P H S HS) w.0 w.1.0 in
@@ -93,15 +93,15 @@ module _ {E : Type 0} (P : Presented E) (H : IsPresentation P) where
         )
 
     -- a member with the lead m: a multiple of such a combination is taken away
-    member_combination : (m : List ℕ) → IsWithin O L c m → (a : List (Term E)) → IsPoly K O.places a → InSubalgebra P a → IsLead K O a m → IsCombination P S a
-    member_combination = below_induction O L c (λ m. (a : List (Term E)) → IsPoly K O.places a → InSubalgebra P a → IsLead K O a m → IsCombination P S a)
+    member_combination : (m : List ℕ) → IsWithin O L c m → (a : Polynomial E) → IsPoly K O.places a → InSubalgebra P a → IsLead K O a m → IsCombination P S a
+    member_combination = below_induction O L c (λ m. (a : Polynomial E) → IsPoly K O.places a → InSubalgebra P a → IsLead K O a m → IsCombination P S a)
         (λ m hm ih a hp hs la. ⊎_elim (λ l. reduced m hm ih a hp hs la l.member (of_ideal m l))
         (λ st. let b = of_word m (record { standard = record { monomial = hm.monomial; no_lead = st }; member = a; poly = hp; inside = hs; leads = la }) hm.degree in reduced m hm ih a hp hs la b.0 b.1)
         (dec m hm.monomial hm.degree))
       where
         reduced : (m : List ℕ) → IsWithin O L c m →
-            ((k : List ℕ) → IsWithin O L c k → O.compare k m ≡ Less → (a : List (Term E)) → IsPoly K O.places a → InSubalgebra P a → IsLead K O a k → IsCombination P S a) →
-            (a : List (Term E)) → IsPoly K O.places a → InSubalgebra P a → IsLead K O a m → (b : List (Term E)) → HasLeadAt m b → IsCombination P S a
+            ((k : List ℕ) → IsWithin O L c k → O.compare k m ≡ Less → (a : Polynomial E) → IsPoly K O.places a → InSubalgebra P a → IsLead K O a k → IsCombination P S a) →
+            (a : Polynomial E) → IsPoly K O.places a → InSubalgebra P a → IsLead K O a m → (b : Polynomial E) → HasLeadAt m b → IsCombination P S a
         reduced m hm ih a hp hs la b h =
             let f = cancelling K F (coefficient K a m) (coefficient K b m) (coefficient_value K F a m) h.leads.nonzero (coefficient_value K F b m) in
             let cp = constant_poly K F O.places f.0 f.1 in
@@ -133,7 +133,7 @@ module _ {E : Type 0} (P : Presented E) (H : IsPresentation P) where
 
     pub reduced_checked : IsCheckedBasis P c S
     reduced_checked = record {
-      rise = red.rise;
+      increasing = red.increasing;
       elements = λ s k. element_checked c c S s (omega arith) (red.elements s k)
           (λ m z ne g. (red.elements s k).tail m z ne (generated_leads P H S HS (λ x i. (red.elements x i).inside) m ((red.elements s k).standard m z) g));
       minimal = red.minimal;
@@ -141,10 +141,10 @@ module _ {E : Type 0} (P : Presented E) (H : IsPresentation P) where
     }
 
     module _ (closed : IsClosedAt P c S) where
-      minimal_low : (u : List ℕ) → IsMinimalWord P S u → (order_of (letters P S)).degree u ≤ c
+      minimal_low : (u : List ℕ) → IsMinimalWord P S u → (word_order_of (letters P S)).degree u ≤ c
       minimal_low u h =
           let v = closed.words u h.0.word h.0.reducible in
-          subst (λ x. (order_of (letters P S)).degree x ≤ c) (h.0.minimal v.0 v.1 v.2 v.3) v.4
+          subst (λ x. (word_order_of (letters P S)).degree x ≤ c) (h.0.minimal v.0 v.1 v.2 v.3) v.4
 
       closed_combinations : (d : ℕ) → HasCombinationsTo P d S
       closed_combinations d = record {
@@ -152,12 +152,12 @@ module _ {E : Type 0} (P : Presented E) (H : IsPresentation P) where
         words = λ u h le. basis_combinations.words u h (minimal_low u h);
       }
 
-      pub closed_leads : (m : List ℕ) → LeadsSubalgebra P m → IsGenerated (map lead S) m
+      pub closed_leads : (m : List ℕ) → LeadsSubalgebra P m → IsGenerated (map lead_monomial S) m
       closed_leads m h = leads_generated P H S HS (O.degree m) (closed_decided P H c (O.degree m) closed.leads dec) (closed_combinations (O.degree m)) m h (omega arith)
 
-      raised : (d : ℕ) → c ≤ d → (s : List (Term E)) → IsElement P c s → IsElement P d s
+      raised : (d : ℕ) → c ≤ d → (s : Polynomial E) → IsElement P c s → IsElement P d s
       raised d le s h = record {
-        falls = h.falls;
+        decreasing = h.decreasing;
         inside = h.inside;
         monic = h.monic;
         homogeneous = h.homogeneous;
@@ -169,22 +169,22 @@ module _ {E : Type 0} (P : Presented E) (H : IsPresentation P) where
 
       pub closed_basis : (d : ℕ) → c ≤ d → IsReducedBasis P d S
       closed_basis d le = record {
-        rise = red.rise;
+        increasing = red.increasing;
         elements = λ s k. raised d le s (red.elements s k);
         minimal = red.minimal;
         generates = λ m h l. closed_leads m h;
       }
 
   -- a basis that is checked element by element is the reduced basis
-  pub checked_reduced : (c : ℕ) (S : List (List (Term E))) → IsDecidedTo P c → IsCheckedBasis P c S → IsReducedBasis P c S
-  checked_reduced c S dec h = record { rise = h.rise; elements = λ s k. element s (h.elements s k); minimal = h.minimal; generates = generates }
+  pub checked_reduced : (c : ℕ) (S : List (Polynomial E)) → IsDecidedTo P c → IsCheckedBasis P c S → IsReducedBasis P c S
+  checked_reduced c S dec h = record { increasing = h.increasing; elements = λ s k. element s (h.elements s k); minimal = h.minimal; generates = generates }
     where
-      generates : (m : List ℕ) → LeadsSubalgebra P m → O.degree m ≤ c → IsGenerated (map lead S) m
-      generates = leads_generated P H S (λ s k. let e = h.elements s k in record { falls = e.falls; monic = e.monic; positive = e.at_least }) c dec h.combinations
+      generates : (m : List ℕ) → LeadsSubalgebra P m → O.degree m ≤ c → IsGenerated (map lead_monomial S) m
+      generates = leads_generated P H S (λ s k. let e = h.elements s k in record { decreasing = e.decreasing; monic = e.monic; positive = e.at_least }) c dec h.combinations
 
-      element : (s : List (Term E)) → IsCheckedElement P c S s → IsElement P c s
+      element : (s : Polynomial E) → IsCheckedElement P c S s → IsElement P c s
       element s e = record {
-        falls = e.falls;
+        decreasing = e.decreasing;
         inside = e.inside;
         monic = e.monic;
         homogeneous = e.homogeneous;

@@ -9,20 +9,20 @@ use Rattle.std.proofs.lemmas.List.Sums.{sum_by-cons}
 use Rattle.std.specs.declared.cmp.Ordering.{Ordering}
 use Rattle.std.specs.declared.cmp.Ordering.TheVariants.{Less, Equal, Greater}
 use Rattle.word_field.specs.Field.{FieldOps, IsField}
-use Rattle.monomial_order.specs.declared.Term.{Term}
+use Rattle.monomial_order.specs.declared.terms.Term.{Term}
 use Rattle.monomial_order.specs.Monomial.{exponent, IsTrimmed, weighted_degree}
 use Rattle.monomial_order.specs.MonomialOrder.{MonomialOrder, IsMonomialOrder}
-use Rattle.monomial_order.specs.Comparing.{le_or_not}
-use Rattle.monomial_order.specs.Lists.{contains_none, contains_cases, contains_here, contains_there, contains_map, contains_left, contains_right}
-use Rattle.monomial_order.specs.MonomialLaws.{exponent-product, product-one}
-use Rattle.monomial_order.specs.Words.{order_of, image_of, lead_degrees, IsSWord, IsSmaller}
-use Rattle.monomial_order.specs.WordLaws.{degree_same, s_smaller}
-use Rattle.poly_core.specs.Poly.{same_monomial, coefficient, Same, AllAt, Falls, IsHomogeneous, lead}
-use Rattle.poly_core.specs.Ideal.{Multiple, AreMultiples, sum_of}
-use Rattle.poly_core.specs.Subalgebra.{Presented, IsPresentation, InSubalgebra, LeadsIdeal, IsStandard, IsGenerated, AllIn, product_of}
-use Rattle.poly_core.specs.FallingLaws.{coefficient_first}
-use Rattle.poly_core.specs.SameLaws.{same_refl}
-use Rattle.poly_core.specs.DegreeLaws.{all_found}
+use Rattle.monomial_order.specs.laws.Comparing.{le_or_not}
+use Rattle.monomial_order.specs.laws.Lists.{contains_none, contains_cases, contains_here, contains_there, contains_map, contains_left, contains_right}
+use Rattle.monomial_order.specs.laws.Monomial.{exponent-product, product-one}
+use Rattle.word_laws.specs.Words.{word_order_of, image_of, lead_degrees, IsSWord, IsSmaller}
+use Rattle.word_laws.specs.laws.Words.{degree_same, s_smaller}
+use Rattle.polynomials.specs.Polynomial.{Polynomial, same_monomial, coefficient, Same, AllAt, IsDecreasing, IsHomogeneous, lead_monomial}
+use Rattle.polynomials.specs.Ideal.{Multiple, AreMultiples, sum_of}
+use Rattle.polynomials.specs.Subalgebra.{Presented, IsPresentation, InSubalgebra, LeadsIdeal, IsStandard, IsGenerated, AllIn, product_of}
+use Rattle.polynomials.specs.laws.Decreasing.{coefficient_first}
+use Rattle.polynomials.specs.laws.Same.{same_refl}
+use Rattle.polynomials.specs.laws.Degrees.{all_found}
 use Rattle.subalgebra_laws.specs.Words.{letters, IsReducibleWord}
 use Rattle.subalgebra_laws.specs.Bases.{IsMonicElement, AreMonicElements, IsCheckedElement}
 use Rattle.subalgebra_laws.proofs.ToPolynomials.{nothing_at, AllAt-map}
@@ -166,16 +166,16 @@ is_less Equal = false
 is_less Greater = false
 
 -- the reducible s-words of degree at most c, by a test of what leads the ideal
-module _ {E : Type 0} (P : Presented E) (H : IsPresentation P) (S : List (List (Term E))) (HS : AreMonicElements P S) (leads : List ℕ → Bool) (c : ℕ) where
+module _ {E : Type 0} (P : Presented E) (H : IsPresentation P) (S : List (Polynomial E)) (HS : AreMonicElements P S) (leads : List ℕ → Bool) (c : ℕ) where
   abbrev reduces : List ℕ → Bool
   reduces u = leads (image_of (letters P S) u) ||
-      any (λ v. same_monomial (image_of (letters P S) v) (image_of (letters P S) u) && is_less ((order_of (letters P S)).compare v u)) (s_words_to (length (letter_degrees P S)) (lead_degrees (letters P S)) c)
+      any (λ v. same_monomial (image_of (letters P S) v) (image_of (letters P S) u) && is_less ((word_order_of (letters P S)).compare v u)) (s_words_to (length (letter_degrees P S)) (lead_degrees (letters P S)) c)
 
   abbrev pub reducible_words : List (List ℕ)
   reducible_words = kept reduces (s_words_to (length (letter_degrees P S)) (lead_degrees (letters P S)) c)
 
   pub reducible_listed : EachOf (λ d. 1 ≤ d) (lead_degrees (letters P S)) → ((m : List ℕ) → LeadsIdeal P m → leads m ≡ true) →
-      (u : List ℕ) → IsSWord (letters P S) u → (order_of (letters P S)).degree u ≤ c → IsReducibleWord P S u → Contains reducible_words u
+      (u : List ℕ) → IsSWord (letters P S) u → (word_order_of (letters P S)).degree u ≤ c → IsReducibleWord P S u → Contains reducible_words u
   reducible_listed pos sees u hu le r = kept_has reduces (s_words_to (length (letter_degrees P S)) (lead_degrees (letters P S)) c) u (listed u hu le)
       (⊎_elim (λ l. ap (λ b. b || any smaller words) (sees (image_of (letters P S) u) l)) (λ s. ap (λ b. leads (image_of (letters P S) u) || b) (by_smaller s.0 s.1) ∙ or_true (leads (image_of (letters P S) u))) r)
     where
@@ -183,28 +183,28 @@ module _ {E : Type 0} (P : Presented E) (H : IsPresentation P) (S : List (List (
       words = s_words_to (length (letter_degrees P S)) (lead_degrees (letters P S)) c
 
       smaller : List ℕ → Bool
-      smaller v = same_monomial (image_of (letters P S) v) (image_of (letters P S) u) && is_less ((order_of (letters P S)).compare v u)
+      smaller v = same_monomial (image_of (letters P S) v) (image_of (letters P S) u) && is_less ((word_order_of (letters P S)).compare v u)
 
       or_true : (b : Bool) → b || true ≡ true
       or_true true = refl
       or_true false = refl
 
-      listed : (w : List ℕ) → IsSWord (letters P S) w → (order_of (letters P S)).degree w ≤ c → Contains words w
+      listed : (w : List ℕ) → IsSWord (letters P S) w → (word_order_of (letters P S)).degree w ≤ c → Contains words w
       listed w hw l = s_words_all (letter_degrees P S) (lead_degrees (letters P S)) c w pos (let a = hw.0.within in let b = length-append (letter_degrees P S) (lead_degrees (letters P S)) in omega arith) hw.0.trimmed hw.1 l
 
       by_smaller : (v : List ℕ) → IsSmaller (letters P S) u v → any smaller words ≡ true
       by_smaller v s = any_true smaller words v
           (listed v (s_smaller (letters P S) (are_letters P H S HS) v u hu s) (let d = degree_same (letters P S) (are_letters P H S HS) v u s.image in omega arith))
-          (ap (λ m. same_monomial m (image_of (letters P S) u) && is_less ((order_of (letters P S)).compare v u)) s.image ∙
-          (ap (λ b. b && is_less ((order_of (letters P S)).compare v u)) (same_refl (image_of (letters P S) u)) ∙ ap is_less s.less))
+          (ap (λ m. same_monomial m (image_of (letters P S) u) && is_less ((word_order_of (letters P S)).compare v u)) s.image ∙
+          (ap (λ b. b && is_less ((word_order_of (letters P S)).compare v u)) (same_refl (image_of (letters P S) u)) ∙ ap is_less s.less))
 
 -- polynomials with the same coefficient at the monomial of each of their terms are the same
 module _ (K : FieldOps ℕ) (F : IsField K) (O : MonomialOrder) (L : IsMonomialOrder O) where
-  abbrev agree : List (Term ℕ) → List (Term ℕ) → List (Term ℕ) → Bool
+  abbrev agree : Polynomial ℕ → Polynomial ℕ → Polynomial ℕ → Bool
   agree p q [] = true
   agree p q (t ∷ r) = nat_eq (coefficient K p t.at) (coefficient K q t.at) && agree p q r
 
-  agree_all : (p q r : List (Term ℕ)) → agree p q r ≡ true → AllAt (λ m. coefficient K p m ≡ coefficient K q m) r
+  agree_all : (p q r : Polynomial ℕ) → agree p q r ≡ true → AllAt (λ m. coefficient K p m ≡ coefficient K q m) r
   agree_all p q [] h = tt
   agree_all p q (t ∷ r) h = both (nat_eq (coefficient K p t.at) (coefficient K q t.at)) refl h (agree_all p q r)
     where
@@ -213,7 +213,7 @@ module _ (K : FieldOps ℕ) (F : IsField K) (O : MonomialOrder) (L : IsMonomialO
       both true e h rest = (eqb-true (coefficient K p t.at) (coefficient K q t.at) e, rest h)
       both false e h rest = cc
 
-  pub same_checked : (p q : List (Term ℕ)) → agree p q p && agree p q q ≡ true → Same K p q
+  pub same_checked : (p q : Polynomial ℕ) → agree p q p && agree p q q ≡ true → Same K p q
   same_checked p q h m = both (agree p q p) (agree p q q) refl refl h
     where
       both : (a b : Bool) → agree p q p ≡ a → agree p q q ≡ b → a && b ≡ true → coefficient K p m ≡ coefficient K q m
@@ -228,28 +228,28 @@ module _ {E : Type 0} (P : Presented E) (H : IsPresentation P) where
   open P use {field as K, order as O}
   open H use {field as F, order as L}
 
-  pub at_monomials : (Q : List ℕ → Type 0) (p : List (Term E)) → AllAt Q p → (m : List ℕ) → coefficient K p m ≢ K.zero → Q m
+  pub at_monomials : (Q : List ℕ → Type 0) (p : Polynomial E) → AllAt Q p → (m : List ℕ) → coefficient K p m ≢ K.zero → Q m
   at_monomials Q p h m k = all_found K F O L Q p h m k
 
-  module _ (t : Term E) (p : List (Term E)) (f : Falls K O (t ∷ p)) where
+  module _ (t : Term E) (p : Polynomial E) (f : IsDecreasing K O (t ∷ p)) where
     pub first_homogeneous : (d : ℕ) → AllAt (λ m. O.degree m ≡ d) (t ∷ p) → IsHomogeneous K O d (t ∷ p)
     first_homogeneous d h = record { some = (t.at, λ z. f.0.nonzero (sym (coefficient_first K F O L t p f.0) ∙ z)); each = at_monomials (λ m. O.degree m ≡ d) (t ∷ p) h }
 
     pub first_monic : t.by ≡ K.one → 1 ≤ O.degree t.at → IsMonicElement P (t ∷ p)
-    first_monic e le = record { falls = f; monic = coefficient_first K F O L t p f.0 ∙ e; positive = le }
+    first_monic e le = record { decreasing = f; monic = coefficient_first K F O L t p f.0 ∙ e; positive = le }
 
-    pub first_checked : (c : ℕ) (S : List (List (Term E))) → t.by ≡ K.one → InSubalgebra P (t ∷ p) → AllAt (λ m. O.degree m ≡ O.degree t.at) (t ∷ p) → 1 ≤ O.degree t.at → O.degree t.at ≤ c →
-        AllAt (IsStandard P) (t ∷ p) → AllAt (λ m. ¬ IsGenerated (map lead S) m) p → IsCheckedElement P c S (t ∷ p)
+    pub first_checked : (c : ℕ) (S : List (Polynomial E)) → t.by ≡ K.one → InSubalgebra P (t ∷ p) → AllAt (λ m. O.degree m ≡ O.degree t.at) (t ∷ p) → 1 ≤ O.degree t.at → O.degree t.at ≤ c →
+        AllAt (IsStandard P) (t ∷ p) → AllAt (λ m. ¬ IsGenerated (map lead_monomial S) m) p → IsCheckedElement P c S (t ∷ p)
     first_checked c S e inside same low high st tail = record {
-      falls = f;
+      decreasing = f;
       inside = inside;
       monic = coefficient_first K F O L t p f.0 ∙ e;
       homogeneous = first_homogeneous (O.degree t.at) same;
       at_least = low;
       at_most = high;
       standard = at_monomials (IsStandard P) (t ∷ p) st;
-      tail = λ m k ne. ⊎_elim (λ same. absurd (ne same)) (λ n. n) (at_monomials (λ m. (m ≡ t.at) ⊎ (¬ IsGenerated (map lead S) m)) (t ∷ p)
-          (inl refl, AllAt-map (λ m. ¬ IsGenerated (map lead S) m) (λ m. (m ≡ t.at) ⊎ (¬ IsGenerated (map lead S) m)) (λ m n. inr n) p tail) m k);
+      tail = λ m k ne. ⊎_elim (λ same. absurd (ne same)) (λ n. n) (at_monomials (λ m. (m ≡ t.at) ⊎ (¬ IsGenerated (map lead_monomial S) m)) (t ∷ p)
+          (inl refl, AllAt-map (λ m. ¬ IsGenerated (map lead_monomial S) m) (λ m. (m ≡ t.at) ⊎ (¬ IsGenerated (map lead_monomial S) m)) (λ m n. inr n) p tail) m k);
     }
 
 -- a product of monomials that have x once is 1, or one of them, or has x more than once

@@ -4,20 +4,20 @@ use Rattle.std.specs.Prelude.{nat_eq}
 use Rattle.std.proofs.lemmas.Bool.{eqb-true, eq-eqb}
 use Rattle.std.specs.declared.cmp.Ordering.TheVariants.{Less}
 use Rattle.word_field.specs.Field.{FieldOps, IsField, IsValue}
-use Rattle.word_field.specs.FieldLaws.{zero-plus-zero, times-zero, negate-zero}
-use Rattle.monomial_order.specs.declared.Term.{Term}
+use Rattle.word_field.specs.laws.Field.{zero-plus-zero, times-zero, negate-zero}
+use Rattle.monomial_order.specs.declared.terms.Term.{Term}
 use Rattle.monomial_order.specs.Monomial.{product, IsMonomial}
 use Rattle.monomial_order.specs.MonomialOrder.{MonomialOrder, IsMonomialOrder}
-use Rattle.monomial_order.specs.Comparing.{not_below_self, equal_or_not}
-use Rattle.poly_core.specs.Poly.{same_monomial, coefficient, Same, term_of, scaled, times, negated, minus, constant, component, AllAt, IsPoly, IsLead, IsHomogeneous}
-use Rattle.poly_core.specs.Ideal.{InIdeal, Congruent}
-use Rattle.poly_core.specs.RingLaws.{coefficient_value, coefficient-append, times_comm}
-use Rattle.poly_core.specs.SameLaws.{same_true, append_comm, coefficient-negated}
-use Rattle.poly_core.specs.ValueLaws.{one_times, coefficient-constant_times}
-use Rattle.poly_core.specs.CanonicalLaws.{IsLead_same}
-use Rattle.poly_core.specs.DegreeLaws.{all_found, component-append, coefficient-component}
-use Rattle.poly_core.specs.IdealLaws.{IsPoly-append, IsPoly-negated}
-use Rattle.poly_core.specs.CongruenceLaws.{coefficient-minus, negate_negate, congruent_refl, congruent_plus, congruent_negated, congruent_member}
+use Rattle.monomial_order.specs.laws.Comparing.{not_below_self, equal_or_not}
+use Rattle.polynomials.specs.Polynomial.{Polynomial, same_monomial, coefficient, Same, term_of, scaled, times, negated, minus, constant, component, AllAt, IsPoly, IsLead, IsHomogeneous}
+use Rattle.polynomials.specs.Ideal.{InIdeal, Congruent}
+use Rattle.polynomials.specs.laws.Ring.{coefficient_value, coefficient-append, times_comm}
+use Rattle.polynomials.specs.laws.Same.{same_true, append_comm, coefficient-negated}
+use Rattle.polynomials.specs.laws.Value.{one_times, coefficient-constant_times}
+use Rattle.polynomials.specs.laws.Canonical.{IsLead_same}
+use Rattle.polynomials.specs.laws.Degrees.{all_found, component-append, coefficient-component}
+use Rattle.polynomials.specs.laws.Ideal.{IsPoly-append, IsPoly-negated}
+use Rattle.polynomials.specs.laws.Congruence.{coefficient-minus, negate_negate, congruent_refl, congruent_plus, congruent_negated, congruent_member}
 
 -- different monomials are told apart
 pub same_false : (m n : List ℕ) → m ≢ n → same_monomial m n ≡ false
@@ -28,34 +28,34 @@ pub nothing_at : {E : Type 0} (K : FieldOps E) (m : List ℕ) → K.zero ≡ coe
 unfolding coefficient
 nothing_at K m = refl
 
-pub AllAt-map : {E : Type 0} (Q R : List ℕ → Type 0) → ((m : List ℕ) → Q m → R m) → (p : List (Term E)) → AllAt Q p → AllAt R p
+pub AllAt-map : {E : Type 0} (Q R : List ℕ → Type 0) → ((m : List ℕ) → Q m → R m) → (p : Polynomial E) → AllAt Q p → AllAt R p
 AllAt-map Q R f [] h = tt
 AllAt-map Q R f (t ∷ p) h = (f t.at h.0, AllAt-map Q R f p h.1)
 
-pub AllAt-append : {E : Type 0} (Q : List ℕ → Type 0) (p q : List (Term E)) → AllAt Q p → AllAt Q q → AllAt Q (p ++ q)
+pub AllAt-append : {E : Type 0} (Q : List ℕ → Type 0) (p q : Polynomial E) → AllAt Q p → AllAt Q q → AllAt Q (p ++ q)
 AllAt-append Q [] q h k = k
 AllAt-append Q (t ∷ p) q h k = (h.0, AllAt-append Q p q h.1 k)
 
 module _ {E : Type 0} (K : FieldOps E) where
-  pub AllAt-scaled : (Q : List ℕ → Type 0) (t : Term E) (p : List (Term E)) → AllAt (λ m. Q (product t.at m)) p → AllAt Q (scaled K t p)
+  pub AllAt-scaled : (Q : List ℕ → Type 0) (t : Term E) (p : Polynomial E) → AllAt (λ m. Q (product t.at m)) p → AllAt Q (scaled K t p)
   AllAt-scaled Q t [] h = tt
   AllAt-scaled Q t (u ∷ p) h = (h.0, AllAt-scaled Q t p h.1)
 
   -- what holds of the products of the monomials holds of the product
-  pub AllAt-times : (A B Q : List ℕ → Type 0) → ((m n : List ℕ) → A m → B n → Q (product m n)) → (p q : List (Term E)) → AllAt A p → AllAt B q → AllAt Q (times K p q)
+  pub AllAt-times : (A B Q : List ℕ → Type 0) → ((m n : List ℕ) → A m → B n → Q (product m n)) → (p q : Polynomial E) → AllAt A p → AllAt B q → AllAt Q (times K p q)
   AllAt-times A B Q f [] q h k = tt
   AllAt-times A B Q f (t ∷ p) q h k =
       AllAt-append Q (scaled K t q) (times K p q) (AllAt-scaled Q t q (AllAt-map B (λ n. Q (product t.at n)) (λ n. f t.at n h.0) q k)) (AllAt-times A B Q f p q h.1 k)
 
-  pub poly_monomials : (n : ℕ) (p : List (Term E)) → IsPoly K n p → AllAt (IsMonomial n) p
+  pub poly_monomials : (n : ℕ) (p : Polynomial E) → IsPoly K n p → AllAt (IsMonomial n) p
   poly_monomials n [] h = tt
   poly_monomials n (t ∷ p) h = (h.0.monomial, poly_monomials n p h.1)
 
   -- the component of a difference
-  pub component-minus : (O : MonomialOrder) (d : ℕ) (p q : List (Term E)) → component O d (minus K p q) ≡ minus K (component O d p) (component O d q)
+  pub component-minus : (O : MonomialOrder) (d : ℕ) (p q : Polynomial E) → component O d (minus K p q) ≡ minus K (component O d p) (component O d q)
   component-minus O d p q = component-append O d p (negated K q) ∙ ap (λ x. component O d p ++ x) (negated_part q)
     where
-      negated_part : (q : List (Term E)) → component O d (negated K q) ≡ negated K (component O d q)
+      negated_part : (q : Polynomial E) → component O d (negated K q) ≡ negated K (component O d q)
       negated_part [] = refl
       negated_part (t ∷ q) =
           ap (λ x. cond (nat_eq (O.degree t.at) d) (term_of t.at (K.negate t.by) ∷ x) x) (negated_part q) ∙
@@ -68,42 +68,42 @@ module _ {E : Type 0} (K : FieldOps E) (F : IsField K) where
   single_term w c v k =
       ⊎_elim (λ e. e) (λ n. absurd (k (ap (λ b. K.plus (cond b c K.zero) K.zero) (same_false w v n) ∙ zero-plus-zero K F))) (equal_or_not w v)
 
-  pub one_right : (p : List (Term E)) → Same K (times K p (constant K K.one)) p
+  pub one_right : (p : Polynomial E) → Same K (times K p (constant K K.one)) p
   one_right p m = times_comm K F p (constant K K.one) m ∙ one_times K F p m
 
   pub constant_poly : (n : ℕ) (f : E) → IsValue K f → IsPoly K n (constant K f)
   constant_poly n f v = (record { monomial = record { trimmed = tt; within = omega arith }; value = v }, tt)
 
-  pub minus_poly : (n : ℕ) (a b : List (Term E)) → IsPoly K n a → IsPoly K n b → IsPoly K n (minus K a b)
+  pub minus_poly : (n : ℕ) (a b : Polynomial E) → IsPoly K n a → IsPoly K n b → IsPoly K n (minus K a b)
   minus_poly n a b h k = IsPoly-append K F n a (negated K b) h (IsPoly-negated K F n b k)
 
   -- where a coefficient is zero
-  pub no_coefficient : (p : List (Term E)) (m : List ℕ) → (coefficient K p m ≢ K.zero → ⊥) → coefficient K p m ≡ K.zero
+  pub no_coefficient : (p : Polynomial E) (m : List ℕ) → (coefficient K p m ≢ K.zero → ⊥) → coefficient K p m ≡ K.zero
   no_coefficient p m h = ⊎_elim (λ z. z) (λ n. absurd (h n)) (F.equal_or_not (coefficient K p m) K.zero)
 
   pub sum_nonzero : (a b : E) → K.plus a b ≢ K.zero → (a ≢ K.zero) ⊎ (b ≢ K.zero)
   sum_nonzero a b h = ⊎_elim (λ z. inr (λ w. h (ap (λ x. K.plus x b) z ∙ (ap (K.plus K.zero) w ∙ zero-plus-zero K F)))) (λ n. inl n) (F.equal_or_not a K.zero)
 
-  pub append_nonzero : (p q : List (Term E)) (m : List ℕ) → coefficient K (p ++ q) m ≢ K.zero → (coefficient K p m ≢ K.zero) ⊎ (coefficient K q m ≢ K.zero)
+  pub append_nonzero : (p q : Polynomial E) (m : List ℕ) → coefficient K (p ++ q) m ≢ K.zero → (coefficient K p m ≢ K.zero) ⊎ (coefficient K q m ≢ K.zero)
   append_nonzero p q m h = sum_nonzero (coefficient K p m) (coefficient K q m) (λ z. h (coefficient-append K F p q m ∙ z))
 
-  pub negated_nonzero : (p : List (Term E)) (m : List ℕ) → coefficient K (negated K p) m ≢ K.zero → coefficient K p m ≢ K.zero
+  pub negated_nonzero : (p : Polynomial E) (m : List ℕ) → coefficient K (negated K p) m ≢ K.zero → coefficient K p m ≢ K.zero
   negated_nonzero p m h z = h (coefficient-negated K F p m ∙ (ap K.negate z ∙ negate-zero K F))
 
-  pub minus_nonzero : (p q : List (Term E)) (m : List ℕ) → coefficient K (minus K p q) m ≢ K.zero → (coefficient K p m ≢ K.zero) ⊎ (coefficient K q m ≢ K.zero)
+  pub minus_nonzero : (p q : Polynomial E) (m : List ℕ) → coefficient K (minus K p q) m ≢ K.zero → (coefficient K p m ≢ K.zero) ⊎ (coefficient K q m ≢ K.zero)
   minus_nonzero p q m h = ⊎_elim (λ a. inl a) (λ b. inr (negated_nonzero q m b)) (append_nonzero p (negated K q) m h)
 
-  pub multiple_nonzero : (c : E) (p : List (Term E)) (m : List ℕ) → coefficient K (times K (constant K c) p) m ≢ K.zero → coefficient K p m ≢ K.zero
+  pub multiple_nonzero : (c : E) (p : Polynomial E) (m : List ℕ) → coefficient K (times K (constant K c) p) m ≢ K.zero → coefficient K p m ≢ K.zero
   multiple_nonzero c p m h z = h (coefficient-constant_times K F c p m ∙ (ap (K.times c) z ∙ times-zero K F c))
 
   -- taking a member of the ideal away
-  pub minus_member : (n : ℕ) (rs : List (List (Term E))) (a x : List (Term E)) → InIdeal K n rs x → Congruent K n rs (minus K a x) a
+  pub minus_member : (n : ℕ) (rs : List (Polynomial E)) (a x : Polynomial E) → InIdeal K n rs x → Congruent K n rs (minus K a x) a
   minus_member n rs a x h =
       subst (λ y. Congruent K n rs (minus K a x) y) (append-nil a)
       (congruent_plus K F n rs a a (negated K x) [] (congruent_refl K F n rs a) (congruent_negated K F n rs x [] (congruent_member K F n rs x h)))
 
   -- and putting it back
-  pub minus_back : (a x : List (Term E)) → Same K (minus K a x ++ x) a
+  pub minus_back : (a x : Polynomial E) → Same K (minus K a x ++ x) a
   minus_back a x m =
       coefficient-append K F (minus K a x) x m ∙ (ap (λ y. K.plus y (coefficient K x m)) (coefficient-minus K F a x m) ∙
       (F.plus_assoc (coefficient K a m) (K.negate (coefficient K x m)) (coefficient K x m) ∙
@@ -118,11 +118,11 @@ module _ {E : Type 0} (K : FieldOps E) (F : IsField K) where
 
 module _ {E : Type 0} (K : FieldOps E) (F : IsField K) (O : MonomialOrder) (L : IsMonomialOrder O) where
   -- a monomial with a nonzero coefficient is one in the places
-  pub poly_monomial : (p : List (Term E)) (m : List ℕ) → IsPoly K O.places p → coefficient K p m ≢ K.zero → IsMonomial O.places m
+  pub poly_monomial : (p : Polynomial E) (m : List ℕ) → IsPoly K O.places p → coefficient K p m ≢ K.zero → IsMonomial O.places m
   poly_monomial p m h k = all_found K F O L (IsMonomial O.places) p (poly_monomials K O.places p h) m k
 
   -- the lead of a sum, where the second part is below it
-  pub lead_sum : (p q : List (Term E)) (m : List ℕ) → IsLead K O p m → ((n : List ℕ) → coefficient K q n ≢ K.zero → O.compare n m ≡ Less) → IsLead K O (p ++ q) m
+  pub lead_sum : (p q : Polynomial E) (m : List ℕ) → IsLead K O p m → ((n : List ℕ) → coefficient K q n ≢ K.zero → O.compare n m ≡ Less) → IsLead K O (p ++ q) m
   lead_sum p q m h k =
       let none = no_coefficient K F q m (λ n. not_below_self O L m (k m n)) in
       record {
@@ -130,25 +130,25 @@ module _ {E : Type 0} (K : FieldOps E) (F : IsField K) (O : MonomialOrder) (L : 
         greatest = λ n c ne. ⊎_elim (λ a. h.greatest n a ne) (λ b. k n b) (append_nonzero K F p q n c);
       }
 
-  pub lead_sum_right : (p q : List (Term E)) (m : List ℕ) → IsLead K O q m → ((n : List ℕ) → coefficient K p n ≢ K.zero → O.compare n m ≡ Less) → IsLead K O (p ++ q) m
+  pub lead_sum_right : (p q : Polynomial E) (m : List ℕ) → IsLead K O q m → ((n : List ℕ) → coefficient K p n ≢ K.zero → O.compare n m ≡ Less) → IsLead K O (p ++ q) m
   lead_sum_right p q m h k = IsLead_same K F O L (q ++ p) (p ++ q) m (append_comm K F q p) (lead_sum q p m h k)
 
-  pub lead_negated : (p : List (Term E)) (m : List ℕ) → IsLead K O p m → IsLead K O (negated K p) m
+  pub lead_negated : (p : Polynomial E) (m : List ℕ) → IsLead K O p m → IsLead K O (negated K p) m
   lead_negated p m h = record {
     nonzero = λ z. h.nonzero (sym (negate_negate K F (coefficient K p m) ∙ coefficient_value K F p m) ∙ (ap K.negate (sym (coefficient-negated K F p m) ∙ z) ∙ negate-zero K F));
     greatest = λ n c ne. h.greatest n (negated_nonzero K F p n c) ne;
   }
 
   -- what is below the lead of p or at it is below all that is above the lead
-  pub below_lead : (p : List (Term E)) (m k : List ℕ) → IsLead K O p m → O.compare m k ≡ Less → (n : List ℕ) → coefficient K p n ≢ K.zero → O.compare n k ≡ Less
+  pub below_lead : (p : Polynomial E) (m k : List ℕ) → IsLead K O p m → O.compare m k ≡ Less → (n : List ℕ) → coefficient K p n ≢ K.zero → O.compare n k ≡ Less
   below_lead p m k h lt n c =
       ⊎_elim (λ e. subst (λ x. O.compare x k ≡ Less) (sym e) lt) (λ ne. L.total.trans n m k (h.greatest n c ne) lt) (equal_or_not n m)
 
-  pub above_lead : (p : List (Term E)) (m k : List ℕ) → IsLead K O p m → O.compare m k ≡ Less → coefficient K p k ≡ K.zero
+  pub above_lead : (p : Polynomial E) (m k : List ℕ) → IsLead K O p m → O.compare m k ≡ Less → coefficient K p k ≡ K.zero
   above_lead p m k h lt = no_coefficient K F p k (λ c. not_below_self O L k (below_lead p m k h lt k c))
 
   -- a multiple taken away so that the leads cancel
-  pub lowered : (a b : List (Term E)) (m : List ℕ) (f : E) → IsLead K O a m → IsLead K O b m → K.times f (coefficient K b m) ≡ coefficient K a m →
+  pub lowered : (a b : Polynomial E) (m : List ℕ) (f : E) → IsLead K O a m → IsLead K O b m → K.times f (coefficient K b m) ≡ coefficient K a m →
       (n : List ℕ) → coefficient K (minus K a (times K (constant K f) b)) n ≢ K.zero → O.compare n m ≡ Less
   lowered a b m f la lb e n k =
       ⊎_elim
@@ -158,17 +158,17 @@ module _ {E : Type 0} (K : FieldOps E) (F : IsField K) (O : MonomialOrder) (L : 
       (equal_or_not n m)
 
   -- the component of the degree of a lead has that lead, and is homogeneous
-  at_degree : (d : ℕ) (p : List (Term E)) (m : List ℕ) → O.degree m ≡ d → coefficient K (component O d p) m ≡ coefficient K p m
+  at_degree : (d : ℕ) (p : Polynomial E) (m : List ℕ) → O.degree m ≡ d → coefficient K (component O d p) m ≡ coefficient K p m
   at_degree d p m e = coefficient-component K F O L d p m ∙ ap (λ b. cond b (coefficient K p m) K.zero) (eq-eqb (O.degree m) d e)
 
-  component_nonzero : (d : ℕ) (p : List (Term E)) (n : List ℕ) → coefficient K (component O d p) n ≢ K.zero → (O.degree n ≡ d) × (coefficient K p n ≢ K.zero)
+  component_nonzero : (d : ℕ) (p : Polynomial E) (n : List ℕ) → coefficient K (component O d p) n ≢ K.zero → (O.degree n ≡ d) × (coefficient K p n ≢ K.zero)
   component_nonzero d p n k =
       elim (nat_eq (O.degree n) d) as (λ b. nat_eq (O.degree n) d ≡ b → (O.degree n ≡ d) × (coefficient K p n ≢ K.zero)) [
         | true ↦ λ e. (eqb-true (O.degree n) d e, λ z. k (coefficient-component K F O L d p n ∙ (ap (λ b. cond b (coefficient K p n) K.zero) e ∙ z)))
         | false ↦ λ e. absurd (k (coefficient-component K F O L d p n ∙ ap (λ b. cond b (coefficient K p n) K.zero) e))
       ] refl
 
-  pub component_leads : (p : List (Term E)) (m : List ℕ) → IsLead K O p m → IsLead K O (component O (O.degree m) p) m × IsHomogeneous K O (O.degree m) (component O (O.degree m) p)
+  pub component_leads : (p : Polynomial E) (m : List ℕ) → IsLead K O p m → IsLead K O (component O (O.degree m) p) m × IsHomogeneous K O (O.degree m) (component O (O.degree m) p)
   component_leads p m h =
       let nonzero : coefficient K (component O (O.degree m) p) m ≢ K.zero = λ z. h.nonzero (sym (at_degree (O.degree m) p m refl) ∙ z) in (
         record { nonzero = nonzero; greatest = λ n k ne. h.greatest n (component_nonzero (O.degree m) p n k).1 ne },

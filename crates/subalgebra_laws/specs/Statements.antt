@@ -2,12 +2,12 @@
 use Rattle.std.specs.Prelude.{◌≡◌, ◌≢◌, ℕ, suc, ◌≤◌, ◌⊎◌, ◌↔◌, List, [], ◌++◌, map, Contains}
 use Rattle.std.specs.declared.cmp.Ordering.TheVariants.{Less}
 use Rattle.word_field.specs.Field.{IsValue}
-use Rattle.monomial_order.specs.declared.Term.{Term}
-use Rattle.monomial_order.specs.Words.{order_of, image_of, IsWord, IsSWord, IsLeast, IsReducible, IsMinimalReducible}
-use Rattle.monomial_order.specs.ReducibleLaws.{IsMultiple}
-use Rattle.poly_core.specs.Poly.{coefficient, constant, times, Same, IsPoly, IsLead, IsHomogeneous, lead}
-use Rattle.poly_core.specs.Ideal.{Congruent}
-use Rattle.poly_core.specs.Subalgebra.{Presented, IsPresentation, InSubalgebra, LeadsIdeal, LeadsSubalgebra, IsStandard, IsNormalForm, IsGenerated, IsReducedBasis}
+use Rattle.monomial_order.specs.declared.terms.Term.{Term}
+use Rattle.word_laws.specs.Words.{word_order_of, image_of, IsWord, IsSWord, IsLeast, IsReducible, IsMinimalReducible}
+use Rattle.monomial_order.specs.Monomial.{IsMultiple}
+use Rattle.polynomials.specs.Polynomial.{Polynomial, coefficient, constant, times, Same, IsPoly, IsLead, IsHomogeneous, lead_monomial}
+use Rattle.polynomials.specs.Ideal.{Congruent}
+use Rattle.polynomials.specs.Subalgebra.{Presented, IsPresentation, InSubalgebra, LeadsIdeal, LeadsSubalgebra, IsStandard, IsNormalForm, IsGenerated, IsReducedBasis}
 use Rattle.subalgebra_laws.specs.Words.{letters, word_value, combination_value, IsReducibleWord, IsMinimalWord, IsIrreducibleSum, IsTopWord, IsCombination, IsSubductionRemainder}
 use Rattle.subalgebra_laws.specs.Bases.{AreMonicElements, AreMembers, HasDegreesTo, HaveLeadsFrom, IsDecidedTo, AreZerosTo, HasCombinationsTo, IsIdealClosedAt, IsClosedAt, AreAfter, AreStandardAfter, AreNextTo, IsCheckedElement, IsCheckedBasis}
 
@@ -16,52 +16,52 @@ use Rattle.subalgebra_laws.specs.Bases.{AreMonicElements, AreMembers, HasDegrees
 abbrev pub ForPresentations : (E : Type 0) → (Presented E → Type 0) → Type 0
 ForPresentations E Law = (P : Presented E) → IsPresentation P → Law P
 
-abbrev pub ForMonicElements : (E : Type 0) → (Presented E → List (List (Term E)) → Type 0) → Type 0
-ForMonicElements E Law = (P : Presented E) (S : List (List (Term E))) →
+abbrev pub ForMonicElements : (E : Type 0) → (Presented E → List (Polynomial E) → Type 0) → Type 0
+ForMonicElements E Law = (P : Presented E) (S : List (Polynomial E)) →
     IsPresentation P → AreMonicElements P S → Law P S
 
 -- monic elements that are members of the subalgebra
-abbrev pub ForMonicMembers : (E : Type 0) → (Presented E → List (List (Term E)) → Type 0) → Type 0
-ForMonicMembers E Law = (P : Presented E) (S : List (List (Term E))) →
+abbrev pub ForMonicMembers : (E : Type 0) → (Presented E → List (Polynomial E) → Type 0) → Type 0
+ForMonicMembers E Law = (P : Presented E) (S : List (Polynomial E)) →
     IsPresentation P → AreMonicElements P S → AreMembers P S → Law P S
 
 -- the ideal is decided to the degree c
-abbrev pub ForDecidedIdeals : (E : Type 0) → (Presented E → List (List (Term E)) → ℕ → Type 0) → Type 0
-ForDecidedIdeals E Law = (P : Presented E) (S : List (List (Term E))) (c : ℕ) →
+abbrev pub ForDecidedIdeals : (E : Type 0) → (Presented E → List (Polynomial E) → ℕ → Type 0) → Type 0
+ForDecidedIdeals E Law = (P : Presented E) (S : List (Polynomial E)) (c : ℕ) →
     IsPresentation P → IsDecidedTo P c → Law P S c
 
 -- S is a reduced basis to the degree D, to which the ideal is decided, and nothing new comes after it
-abbrev pub ForClosedBases : (E : Type 0) → (Presented E → List (List (Term E)) → ℕ → ℕ → Type 0) → Type 0
-ForClosedBases E Law = (P : Presented E) (S : List (List (Term E))) (D c : ℕ) →
+abbrev pub ForClosedBases : (E : Type 0) → (Presented E → List (Polynomial E) → ℕ → ℕ → Type 0) → Type 0
+ForClosedBases E Law = (P : Presented E) (S : List (Polynomial E)) (D c : ℕ) →
     IsPresentation P → IsDecidedTo P D → IsReducedBasis P D S → IsClosedAt P D S → Law P S D c
 
 -- elements T that come after S in a degree of at least d
 abbrev pub ForNewElements :
-    (E : Type 0) → (Presented E → List (List (Term E)) → List (List (Term E)) → ℕ → Type 0) → Type 0
-ForNewElements E Law = (P : Presented E) (S T : List (List (Term E))) (d : ℕ) →
+    (E : Type 0) → (Presented E → List (Polynomial E) → List (Polynomial E) → ℕ → Type 0) → Type 0
+ForNewElements E Law = (P : Presented E) (S T : List (Polynomial E)) (d : ℕ) →
     IsPresentation P → AreAfter P d S T → Law P S T d
 
 -- and have standard leads that differ
 abbrev pub ForStandardElements :
-    (E : Type 0) → (Presented E → List (List (Term E)) → List (List (Term E)) → ℕ → Type 0) → Type 0
-ForStandardElements E Law = (P : Presented E) (S T : List (List (Term E))) (d : ℕ) →
+    (E : Type 0) → (Presented E → List (Polynomial E) → List (Polynomial E) → ℕ → Type 0) → Type 0
+ForStandardElements E Law = (P : Presented E) (S T : List (Polynomial E)) (d : ℕ) →
     IsPresentation P → AreStandardAfter P d S T → Law P S T d
 
 -- or that are increasing
 abbrev pub ForNextElements :
-    (E : Type 0) → (Presented E → List (List (Term E)) → List (List (Term E)) → ℕ → Type 0) → Type 0
-ForNextElements E Law = (P : Presented E) (S T : List (List (Term E))) (d : ℕ) →
+    (E : Type 0) → (Presented E → List (Polynomial E) → List (Polynomial E) → ℕ → Type 0) → Type 0
+ForNextElements E Law = (P : Presented E) (S T : List (Polynomial E)) (d : ℕ) →
     IsPresentation P → AreNextTo P d S T → Law P S T d
 
 module _ {E : Type 0} (P : Presented E) where
   -- a remainder modulo the subalgebra is unique
   abbrev pub RemaindersAreUnique : Type 0
-  RemaindersAreUnique = (a r q : List (Term E)) →
+  RemaindersAreUnique = (a r q : Polynomial E) →
       IsSubductionRemainder P a r → IsSubductionRemainder P a q → Same P.field r q
 
   -- and is zero exactly for members
   abbrev pub RemaindersDecideMembership : Type 0
-  RemaindersDecideMembership = (a r : List (Term E)) →
+  RemaindersDecideMembership = (a r : Polynomial E) →
       IsSubductionRemainder P a r → InSubalgebra P a ↔ Same P.field r []
 
   -- an ideal is decided to a degree exactly if it has a list of zeros to that degree
@@ -78,57 +78,57 @@ module _ {E : Type 0} (P : Presented E) where
 
   -- a basis checked element by element is the reduced basis, and the other way round
   abbrev pub CheckingIsExact : Type 0
-  CheckingIsExact = (c : ℕ) (S : List (List (Term E))) →
+  CheckingIsExact = (c : ℕ) (S : List (Polynomial E)) →
       IsDecidedTo P c → IsCheckedBasis P c S ↔ IsReducedBasis P c S
 
-  module _ (S : List (List (Term E))) where
+  module _ (S : List (Polynomial E)) where
     -- a sum of irreducible s-words that is not empty has a word with the greatest image
     abbrev pub SumsHaveTopWords : Type 0
-    SumsHaveTopWords = (e : List (Term E)) →
+    SumsHaveTopWords = (e : Polynomial E) →
         IsIrreducibleSum P S e → (e ≡ []) ⊎ ((w : List ℕ) × IsTopWord P S e w)
 
     -- that image leads the value of the sum, with the coefficient of the word
     abbrev pub TopImagesLead : Type 0
-    TopImagesLead = (e : List (Term E)) (w : List ℕ) → IsIrreducibleSum P S e → IsTopWord P S e w →
+    TopImagesLead = (e : Polynomial E) (w : List ℕ) → IsIrreducibleSum P S e → IsTopWord P S e w →
         IsLead P.field P.order (combination_value P S e) (image_of (letters P S) w) ×
         (coefficient P.field (combination_value P S e) (image_of (letters P S) w) ≡ coefficient P.field e w)
 
     -- it leads the normal form of the value likewise
     abbrev pub TopImagesLeadNormalForms : Type 0
-    TopImagesLeadNormalForms = (e b : List (Term E)) (w : List ℕ) →
+    TopImagesLeadNormalForms = (e b : Polynomial E) (w : List ℕ) →
         IsIrreducibleSum P S e → IsTopWord P S e w → IsNormalForm P (combination_value P S e) b →
         IsLead P.field P.order b (image_of (letters P S) w) ×
         (coefficient P.field b (image_of (letters P S) w) ≡ coefficient P.field e w)
 
     -- and no polynomial that equals the value modulo the ideal has a lead below it
     abbrev pub TopImagesAreLeast : Type 0
-    TopImagesAreLeast = (e a : List (Term E)) (w m : List ℕ) →
+    TopImagesAreLeast = (e a : Polynomial E) (w m : List ℕ) →
         IsIrreducibleSum P S e → IsTopWord P S e w → IsPoly P.field P.order.places a →
         Congruent P.field P.order.places P.ideal a (combination_value P S e) → IsLead P.field P.order a m →
         P.order.compare m (image_of (letters P S) w) ≢ Less
 
     -- a standard lead of a combination is a product of leads of S
     abbrev pub CombinationsHaveGeneratedLeads : Type 0
-    CombinationsHaveGeneratedLeads = (a : List (Term E)) (m : List ℕ) → IsPoly P.field P.order.places a →
-        IsCombination P S a → IsLead P.field P.order a m → IsStandard P m → IsGenerated (map lead S) m
+    CombinationsHaveGeneratedLeads = (a : Polynomial E) (m : List ℕ) → IsPoly P.field P.order.places a →
+        IsCombination P S a → IsLead P.field P.order a m → IsStandard P m → IsGenerated (map lead_monomial S) m
 
     -- a sum of irreducible s-words is determined by its value modulo the ideal
     abbrev pub SumsAreUnique : Type 0
-    SumsAreUnique = (a e g : List (Term E)) → IsIrreducibleSum P S e → IsIrreducibleSum P S g →
+    SumsAreUnique = (a e g : Polynomial E) → IsIrreducibleSum P S e → IsIrreducibleSum P S g →
         Congruent P.field P.order.places P.ideal a (combination_value P S e) →
         Congruent P.field P.order.places P.ideal a (combination_value P S g) → e ≡ g
 
     -- sums of combinations, multiples by constants and what is congruent to one are combinations
     abbrev pub SumsAreCombinations : Type 0
-    SumsAreCombinations = (a b : List (Term E)) →
+    SumsAreCombinations = (a b : Polynomial E) →
         IsCombination P S a → IsCombination P S b → IsCombination P S (a ++ b)
 
     abbrev pub MultiplesAreCombinations : Type 0
-    MultiplesAreCombinations = (k : E) (a : List (Term E)) →
+    MultiplesAreCombinations = (k : E) (a : Polynomial E) →
         IsValue P.field k → IsCombination P S a → IsCombination P S (times P.field (constant P.field k) a)
 
     abbrev pub CongruentAreCombinations : Type 0
-    CongruentAreCombinations = (a b : List (Term E)) →
+    CongruentAreCombinations = (a b : Polynomial E) →
         Congruent P.field P.order.places P.ideal b a → IsCombination P S a → IsCombination P S b
 
     -- and so are the values of irreducible s-words
@@ -139,7 +139,7 @@ module _ {E : Type 0} (P : Presented E) where
     -- the products of leads are the images of s-words
     abbrev pub ProductsAreImages : Type 0
     ProductsAreImages = (m : List ℕ) →
-        IsGenerated (map lead S) m ↔ ((w : List ℕ) × IsSWord (letters P S) w × (image_of (letters P S) w ≡ m))
+        IsGenerated (map lead_monomial S) m ↔ ((w : List ℕ) × IsSWord (letters P S) w × (image_of (letters P S) w ≡ m))
 
     -- the least word of a standard image is irreducible
     abbrev pub LeastWordsAreIrreducible : Type 0
@@ -152,82 +152,82 @@ module _ {E : Type 0} (P : Presented E) where
 
     -- and so are the values of their sums
     abbrev pub SumsOfSWordsAreMembers : Type 0
-    SumsOfSWordsAreMembers = (e : List (Term E)) → IsPoly P.field (order_of (letters P S)).places e →
+    SumsOfSWordsAreMembers = (e : Polynomial E) → IsPoly P.field (word_order_of (letters P S)).places e →
         ((w : List ℕ) → coefficient P.field e w ≢ P.field.zero → IsSWord (letters P S) w) →
         InSubalgebra P (combination_value P S e)
 
     -- standard products of leads of S lead members of the subalgebra
     abbrev pub StandardProductsLead : Type 0
-    StandardProductsLead = (m : List ℕ) → IsStandard P m → IsGenerated (map lead S) m → LeadsSubalgebra P m
+    StandardProductsLead = (m : List ℕ) → IsStandard P m → IsGenerated (map lead_monomial S) m → LeadsSubalgebra P m
 
     -- the criterion: each homogeneous member is a combination, and each lead of the subalgebra is generated, to the degree c
     abbrev pub MembersAreCombinations : ℕ → Type 0
-    MembersAreCombinations c = (a : List (Term E)) (d : ℕ) → IsPoly P.field P.order.places a →
+    MembersAreCombinations c = (a : Polynomial E) (d : ℕ) → IsPoly P.field P.order.places a →
         IsHomogeneous P.field P.order d a → d ≤ c → InSubalgebra P a → IsCombination P S a
 
     abbrev pub LeadsAreGenerated : ℕ → Type 0
-    LeadsAreGenerated c = (m : List ℕ) → LeadsSubalgebra P m → P.order.degree m ≤ c → IsGenerated (map lead S) m
+    LeadsAreGenerated c = (m : List ℕ) → LeadsSubalgebra P m → P.order.degree m ≤ c → IsGenerated (map lead_monomial S) m
 
     -- each member without a monomial above the degree c is a combination
     abbrev pub LowMembersAreCombinations : ℕ → Type 0
-    LowMembersAreCombinations c = (a : List (Term E)) →
+    LowMembersAreCombinations c = (a : Polynomial E) →
         IsPoly P.field P.order.places a → HasDegreesTo P c a → InSubalgebra P a → IsCombination P S a
 
     -- to the degree c the leads of the subalgebra are exactly the standard products of leads of S
     abbrev pub LeadsAreExactly : ℕ → Type 0
     LeadsAreExactly c = (m : List ℕ) →
-        P.order.degree m ≤ c → LeadsSubalgebra P m ↔ (IsStandard P m × IsGenerated (map lead S) m)
+        P.order.degree m ≤ c → LeadsSubalgebra P m ↔ (IsStandard P m × IsGenerated (map lead_monomial S) m)
 
     -- each word of degree at most c is reducible, or not
     abbrev pub WordsAreDecided : ℕ → Type 0
-    WordsAreDecided c = (w : List ℕ) → IsWord (letters P S) w → (order_of (letters P S)).degree w ≤ c →
+    WordsAreDecided c = (w : List ℕ) → IsWord (letters P S) w → (word_order_of (letters P S)).degree w ≤ c →
         IsReducibleWord P S w ⊎ (IsReducibleWord P S w → ⊥)
 
     -- in words of degree at most c the multiples of the zeros stand for the leads of the ideal
     abbrev pub ZerosStandForTheIdeal : ℕ → List (List ℕ) → Type 0
-    ZerosStandForTheIdeal c zeros = (w : List ℕ) → (order_of (letters P S)).degree w ≤ c →
+    ZerosStandForTheIdeal c zeros = (w : List ℕ) → (word_order_of (letters P S)).degree w ≤ c →
         (IsReducible (IsMultiple zeros) (letters P S) w ↔ IsReducibleWord P S w) ×
         (IsMinimalReducible (IsMultiple zeros) (letters P S) w ↔ IsMinimalReducible (LeadsIdeal P) (letters P S) w)
 
-    module _ (T : List (List (Term E))) where
+    module _ (T : List (Polynomial E)) where
       -- words over S keep their values
       abbrev pub ValuesStay : Type 0
       ValuesStay = (w : List ℕ) → IsWord (letters P S) w → word_value P (S ++ T) w ≡ word_value P S w
 
       -- to the degree d a product of leads is one of leads of S, or is a lead of T
       abbrev pub ProductsSplit : ℕ → Type 0
-      ProductsSplit d = (m : List ℕ) → P.order.degree m ≤ d → IsGenerated (map lead (S ++ T)) m →
-          IsGenerated (map lead S) m ⊎ Contains (map lead T) m
+      ProductsSplit d = (m : List ℕ) → P.order.degree m ≤ d → IsGenerated (map lead_monomial (S ++ T)) m →
+          IsGenerated (map lead_monomial S) m ⊎ Contains (map lead_monomial T) m
 
       -- to the degree d combinations stay combinations
       abbrev pub CombinationsStay : ℕ → Type 0
-      CombinationsStay d = (a : List (Term E)) → IsPoly P.field P.order.places a → HasDegreesTo P d a →
+      CombinationsStay d = (a : Polynomial E) → IsPoly P.field P.order.places a → HasDegreesTo P d a →
           IsCombination P S a → IsCombination P (S ++ T) a
 
       -- so do combinations at S and other elements U of a degree of at least d, if these are combinations themselves
       abbrev pub EndsCanBeExchanged : ℕ → Type 0
-      EndsCanBeExchanged d = (U : List (List (Term E))) → AreMonicElements P (S ++ U) → HaveLeadsFrom P d U →
-          ((u : List (Term E)) → Contains U u → IsCombination P (S ++ T) u) →
-          (a : List (Term E)) → IsPoly P.field P.order.places a → HasDegreesTo P d a →
+      EndsCanBeExchanged d = (U : List (Polynomial E)) → AreMonicElements P (S ++ U) → HaveLeadsFrom P d U →
+          ((u : Polynomial E) → Contains U u → IsCombination P (S ++ T) u) →
+          (a : Polynomial E) → IsPoly P.field P.order.places a → HasDegreesTo P d a →
           IsCombination P (S ++ U) a → IsCombination P (S ++ T) a
 
       -- the new elements of degree d are combinations themselves
       abbrev pub ElementsAreCombinations : ℕ → Type 0
-      ElementsAreCombinations d = (t : List (Term E)) →
-          Contains T t → P.order.degree (lead t) ≤ d → IsCombination P (S ++ T) t
+      ElementsAreCombinations d = (t : Polynomial E) →
+          Contains T t → P.order.degree (lead_monomial t) ≤ d → IsCombination P (S ++ T) t
 
       -- to the degree d the minimal reducible s-words stay
       abbrev pub MinimalWordsStay : ℕ → Type 0
       MinimalWordsStay d = (u : List ℕ) →
-          (order_of (letters P (S ++ T))).degree u ≤ d → IsMinimalWord P (S ++ T) u ↔ IsMinimalWord P S u
+          (word_order_of (letters P (S ++ T))).degree u ≤ d → IsMinimalWord P (S ++ T) u ↔ IsMinimalWord P S u
 
       -- The step to the next degree d: the reduced basis to c and checked elements of that degree are the reduced
       -- basis to d, if the generators and the minimal reducible s-words over S of that degree are combinations.
       abbrev pub NextBasisIsReduced : ℕ → Type 0
       NextBasisIsReduced d = (c : ℕ) → suc c ≡ d → IsDecidedTo P d → IsReducedBasis P c S →
-          ((t : List (Term E)) → Contains T t → IsCheckedElement P d (S ++ T) t) →
-          ((f : List (Term E)) →
+          ((t : Polynomial E) → Contains T t → IsCheckedElement P d (S ++ T) t) →
+          ((f : Polynomial E) →
               Contains P.generators f → IsHomogeneous P.field P.order d f → IsCombination P (S ++ T) f) →
-          ((u : List ℕ) → IsMinimalWord P S u → (order_of (letters P S)).degree u ≡ d →
+          ((u : List ℕ) → IsMinimalWord P S u → (word_order_of (letters P S)).degree u ≡ d →
               IsCombination P (S ++ T) (word_value P S u)) →
           IsReducedBasis P d (S ++ T)

@@ -1,9 +1,10 @@
 //! The laws, over every presentation. `specs/Statements` has each law by its name.
 ghost use Rattle.std.specs.Prelude.{◌++◌, ◌≤◌, List, ℕ};
-ghost use Rattle.monomial_order.specs.declared.Term.{Term};
-ghost use Rattle.poly_core.specs.Subalgebra.{IsPresentation, IsReducedBasis, Presented};
+ghost use Rattle.monomial_order.specs.declared.terms.Term.{Term};
+ghost use Rattle.polynomials.specs.Subalgebra.{IsPresentation, IsReducedBasis, Presented};
 ghost use Rattle.subalgebra_laws.specs.Bases.{AreMonicElements, AreStandardAfter, AreZerosTo, HasCombinationsTo, HaveLeadsFrom, IsDecidedTo, IsIdealClosedAt};
 ghost use Rattle.subalgebra_laws.specs.Statements.{CheckingIsExact, ClosedIdealsAreDecided, ClosedIdealsKeepZeros, CombinationsHaveGeneratedLeads, CombinationsStay, CongruentAreCombinations, ElementsAreCombinations, EndsCanBeExchanged, ForClosedBases, ForDecidedIdeals, ForMonicElements, ForMonicMembers, ForNewElements, ForNextElements, ForPresentations, ForStandardElements, IrreducibleWordsAreCombinations, LeadsAreExactly, LeadsAreGenerated, LeastWordsAreIrreducible, LowMembersAreCombinations, MembersAreCombinations, MinimalWordsStay, MultiplesAreCombinations, NextBasisIsReduced, ProductsAreImages, ProductsSplit, RemaindersAreUnique, RemaindersDecideMembership, StandardProductsLead, SumsAreCombinations, SumsAreUnique, SumsHaveTopWords, SumsOfSWordsAreMembers, SWordsAreMembers, TopImagesAreLeast, TopImagesLead, TopImagesLeadNormalForms, ValuesStay, WordsAreDecided, ZerosDecide, ZerosStandForTheIdeal};
+ghost use Rattle.polynomials.specs.Polynomial.{Polynomial};
 
 use word_field::Field;
 
@@ -27,7 +28,7 @@ pub fn combining<F: Field>()
 /// S-words and products of leads; over members of the subalgebra the values of s-words are members.
 pub fn words<F: Field>()
     ensures images { ForMonicElements F.Elem ProductsAreImages }
-    ensures least { (P : Presented F.Elem) (S : List (List (Term F.Elem))) → LeastWordsAreIrreducible P S }
+    ensures least { (P : Presented F.Elem) (S : List (Polynomial F.Elem)) → LeastWordsAreIrreducible P S }
     ensures members { ForMonicMembers F.Elem SWordsAreMembers }
     ensures sums { ForMonicMembers F.Elem SumsOfSWordsAreMembers }
 {}
@@ -49,8 +50,8 @@ pub fn criterion<F: Field>()
 
 /// Elements T are added at the end of a list S, in the degree d or above it: what stays to the degree d.
 pub fn growing<F: Field>()
-    ensures values { (P : Presented F.Elem) (S T : List (List (Term F.Elem))) → ValuesStay P S T }
-    ensures products { (P : Presented F.Elem) (S T : List (List (Term F.Elem))) (d : ℕ) →
+    ensures values { (P : Presented F.Elem) (S T : List (Polynomial F.Elem)) → ValuesStay P S T }
+    ensures products { (P : Presented F.Elem) (S T : List (Polynomial F.Elem)) (d : ℕ) →
         IsPresentation P → AreMonicElements P (S ++ T) → HaveLeadsFrom P d T → ProductsSplit P S T d }
     ensures combinations { ForNewElements F.Elem CombinationsStay }
     ensures ends { ForNewElements F.Elem EndsCanBeExchanged }
@@ -69,7 +70,7 @@ pub fn subduction<F: Field>()
 /// new comes does so in every degree, and is the reduced basis to each greater one.
 pub fn closed_basis<F: Field>()
     ensures generated { ForMonicMembers F.Elem StandardProductsLead }
-    ensures leads { (P : Presented F.Elem) (S : List (List (Term F.Elem))) (c : ℕ) →
+    ensures leads { (P : Presented F.Elem) (S : List (Polynomial F.Elem)) (c : ℕ) →
         IsPresentation P → IsReducedBasis P c S → LeadsAreExactly P S c }
     ensures all_leads { ForClosedBases F.Elem (λ P S _ c. LeadsAreExactly P S c) }
     ensures basis { ForClosedBases F.Elem (λ P S D c. D ≤ c → IsReducedBasis P c S) }
