@@ -24,7 +24,8 @@ use Rattle.polynomials.specs.laws.Membership.{IsPoly-value, ArePolys, value-nega
 use Rattle.subalgebra_laws.specs.Words.{letters, letter_values, word_value, combination_value, IsReducibleWord, IsIrreducibleSum, IsTopWord, IsCombination}
 use Rattle.subalgebra_laws.specs.Bases.{AreMonicElements, HasDegreesTo}
 use Rattle.subalgebra_laws.specs.Statements.{SumsHaveTopWords, SumsAreUnique, SumsAreCombinations, MultiplesAreCombinations, CongruentAreCombinations, IrreducibleWordsAreCombinations}
-use Rattle.subalgebra_laws.proofs.ToPolynomials.{same_false, nothing_at, AllAt-map, single_term, one_right, constant_poly, minus_poly, no_coefficient, append_nonzero, minus_nonzero, multiple_nonzero, minus_back, lead_sum_right, lead_negated, below_lead, above_lead}
+use Rattle.polynomials.specs.laws.Coefficients.{nothing_at, single_term, times_one, constant_poly, minus_poly, minus_nonzero, minus_back, lead_sum_right}
+use Rattle.subalgebra_laws.proofs.Nonzero.{same_false, AllAt-map, no_coefficient, append_nonzero, multiple_nonzero, lead_negated, below_lead, above_lead}
 use Rattle.subalgebra_laws.proofs.MonicProducts.{AreMonic, monic_lead}
 use Rattle.subalgebra_laws.proofs.Letters.{letter_images, values_monic, word_monic, letter_laws, word_degree}
 
@@ -245,7 +246,7 @@ module _ {E : Type 0} (P : Presented E) (H : IsPresentation P) (S : List (Polyno
       (congruent_times_left K F O.places P.ideal (constant K c) a (value K h.sum values) (constant_poly K F O.places c v) h.equal)
       (congruent_same K F O.places P.ideal (times K (constant K c) (value K h.sum values)) (value K (scaled K (term_of [] c) h.sum) values)
       (λ m. sym (value-scaled K F (term_of [] c) h.sum values m ∙
-      times_same_left K F (term_value K values (term_of [] c)) (constant K c) (value K h.sum values) (one_right K F (constant K c)) m))))
+      times_same_left K F (term_value K values (term_of [] c)) (constant K c) (value K h.sum values) (times_one K F (constant K c)) m))))
 
   pub combination_word : IrreducibleWordsAreCombinations P S
   combination_word w s i =

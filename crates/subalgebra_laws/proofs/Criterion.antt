@@ -30,7 +30,8 @@ use Rattle.polynomials.specs.laws.Components.{sub_component}
 use Rattle.subalgebra_laws.specs.Words.{letters, letter_values, word_value, IsReducibleWord, IsTopWord, IsCombination}
 use Rattle.subalgebra_laws.specs.Bases.{AreMonicElements, IsDecidedTo, HasCombinationsTo}
 use Rattle.subalgebra_laws.specs.Statements.{CombinationsHaveGeneratedLeads, MembersAreCombinations, LeadsAreGenerated}
-use Rattle.subalgebra_laws.proofs.ToPolynomials.{nothing_at, AllAt-map, AllAt-scaled, AllAt-times, component-minus, constant_poly, minus_poly, multiple_nonzero, lead_sum, lead_negated, below_lead, component_leads}
+use Rattle.polynomials.specs.laws.Coefficients.{nothing_at, constant_poly, minus_poly, lead_sum}
+use Rattle.subalgebra_laws.proofs.Nonzero.{AllAt-map, AllAt-scaled, AllAt-times, component-minus, multiple_nonzero, lead_negated, below_lead, component_leads}
 use Rattle.subalgebra_laws.proofs.Letters.{s_one, s_product, word_monic, letter_laws, are_letters, word_degree}
 use Rattle.subalgebra_laws.proofs.Combinations.{have_top_words, top_leads, top_least, sum_poly, value_poly, combination_congruent, combination_same, combination_zero, combination_plus, combination_multiple, combination_word, combination_linear, sum_low, IsBefore, words_before}
 use Rattle.subalgebra_laws.proofs.Decisions.{words_decided, minimal_divisor}

@@ -15,13 +15,13 @@ use Rattle.polynomials.specs.Subalgebra.{Presented, IsPresentation, LeadsIdeal}
 use Rattle.polynomials.specs.laws.NormalForm.{lead_times}
 use Rattle.subalgebra_laws.specs.Words.{letters, IsReducibleWord}
 use Rattle.subalgebra_laws.specs.Bases.{AreMonicElements, IsDecidedTo, AreZerosTo, IsIdealClosedAt}
-use Rattle.subalgebra_laws.proofs.ToPolynomials.{poly_monomial}
+use Rattle.polynomials.specs.laws.Coefficients.{found_monomial}
 use Rattle.subalgebra_laws.proofs.Letters.{letter_degrees, word_monic, letter_laws, word_degree, are_letters}
 use Rattle.polynomials.specs.Polynomial.{Polynomial}
 
 module _ {E : Type 0} (P : Presented E) (H : IsPresentation P) where
   pub monomial_of_lead : (m : List ℕ) → LeadsIdeal P m → IsMonomial P.order.places m
-  monomial_of_lead m h = poly_monomial P.field H.field P.order H.order h.member m h.poly h.leads.nonzero
+  monomial_of_lead m h = found_monomial P.field H.field P.order H.order h.member h.poly m h.leads.nonzero
 
   -- a monomial that a lead of the ideal divides is one
   pub lead_multiple : (n m : List ℕ) → LeadsIdeal P n → IsMonomial P.order.places m → Divides n m → LeadsIdeal P m

@@ -28,7 +28,7 @@ use Rattle.subalgebra_laws.specs.Words.{letters, letter_values, word_value}
 use Rattle.subalgebra_laws.specs.Bases.{AreMonicElements, AreMembers}
 use Rattle.subalgebra_laws.specs.Statements.{SWordsAreMembers, SumsOfSWordsAreMembers, StandardProductsLead}
 use Rattle.subalgebra_laws.proofs.Letters.{value_variable, letter_degrees, letter_laws, are_letters, places_letters, s_one, s_product, letter, letter_word, letter_image, letter_value, element_monic, word_monic}
-use Rattle.subalgebra_laws.proofs.ToPolynomials.{constant_poly}
+use Rattle.polynomials.specs.laws.Coefficients.{constant_poly}
 use Rattle.subalgebra_laws.proofs.MonicProducts.{monic_lead}
 
 pub variable_divides : (i : ℕ) (u : List ℕ) → 1 ≤ exponent u i → Divides (variable i) u

@@ -24,7 +24,7 @@ use Rattle.polynomials.specs.laws.Value.{one_times}
 use Rattle.polynomials.specs.laws.Decreasing.{IsDecreasing_IsPoly, IsLead_first}
 use Rattle.subalgebra_laws.specs.Words.{letters, letter_values, word_value}
 use Rattle.subalgebra_laws.specs.Bases.{IsMonicElement, AreMonicElements}
-use Rattle.subalgebra_laws.proofs.ToPolynomials.{single_term, one_right}
+use Rattle.polynomials.specs.laws.Coefficients.{single_term, times_one}
 use Rattle.subalgebra_laws.proofs.MonicProducts.{IsMonic, AreMonic, monic_value}
 
 -- a variable stands for the member of the list at its index
@@ -35,7 +35,7 @@ image_variable (m ∷ ms) (suc j) l = image_variable ms j (omega arith)
 
 pub value_variable : {E : Type 0} (K : FieldOps E) (F : IsField K) (fs : List (Polynomial E)) (j : ℕ) → j < length fs → Same K (monomial_value K (variable j) fs) (get_or fs j [])
 value_variable K F [] j l = absurd (omega arith)
-value_variable K F (f ∷ fs) zero l = λ m. one_right K F (times K f (constant K K.one)) m ∙ one_right K F f m
+value_variable K F (f ∷ fs) zero l = λ m. times_one K F (times K f (constant K K.one)) m ∙ times_one K F f m
 value_variable K F (f ∷ fs) (suc j) l = λ m. one_times K F (monomial_value K (variable j) fs) m ∙ value_variable K F fs j (omega arith) m
 
 no_x_variable : (n j : ℕ) → sum (take n (variable (n + j))) ≡ 0

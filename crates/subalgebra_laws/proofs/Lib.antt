@@ -1,4 +1,4 @@
-mod ToPolynomials
+mod Nonzero
 mod MonicProducts
 mod Letters
 mod Decisions
@@ -11,3 +11,6 @@ mod Next
 mod Remainders
 mod Principal
 mod SampleTools
+mod Squares
+mod Plane
+mod Endless

@@ -19,7 +19,9 @@ use Rattle.polynomials.specs.laws.Degrees.{all_found, decreasing_all}
 use Rattle.polynomials.specs.laws.Ideal.{IsPoly-times}
 use Rattle.polynomials.specs.laws.Leads.{below_found}
 use Rattle.polynomials.specs.laws.Membership.{IsPoly-one}
-use Rattle.subalgebra_laws.proofs.ToPolynomials.{nothing_at, AllAt-map, AllAt-append, AllAt-scaled, AllAt-times, single_term, no_coefficient, poly_monomial}
+use Rattle.polynomials.specs.laws.Coefficients.{nothing_at, single_term, found_monomial}
+use Rattle.polynomials.specs.laws.Terms.{AllAt-append}
+use Rattle.subalgebra_laws.proofs.Nonzero.{AllAt-map, AllAt-scaled, AllAt-times, no_coefficient}
 
 -- a monic polynomial with the lead m
 pub record IsMonic {E : Type 0} (K : FieldOps E) (O : MonomialOrder) (p : Polynomial E) (m : List ℕ) : Type 0 where
@@ -53,7 +55,7 @@ module _ {E : Type 0} (K : FieldOps E) (F : IsField K) (O : MonomialOrder) (L : 
               at = at;
               by = sym (coefficient_first K F O L t r c.decreasing.0) ∙ (ap (coefficient K (t ∷ r)) at ∙ c.same m);
               below = decreasing_all K F O L (λ n. IsTrimmed n × (O.compare n m ≡ Less)) r c.decreasing.1
-                  (λ n k. ((poly_monomial K F O L r n (IsDecreasing_IsPoly K O r c.decreasing.1) k).trimmed, subst (λ x. O.compare n x ≡ Less) at (below_found K F O L t.at r c.decreasing.0.above n k)));
+                  (λ n k. ((found_monomial K F O L r (IsDecreasing_IsPoly K O r c.decreasing.1) n k).trimmed, subst (λ x. O.compare n x ≡ Less) at (below_found K F O L t.at r c.decreasing.0.above n k)));
             },
           )
 
@@ -63,10 +65,10 @@ module _ {E : Type 0} (K : FieldOps E) (F : IsField K) (O : MonomialOrder) (L : 
   times_lead p q m k hp hq lp lq = joined (first_term p m hp lp) (first_term q k hq lq)
     where
       tm : IsTrimmed m
-      tm = (poly_monomial K F O L p m hp lp.nonzero).trimmed
+      tm = (found_monomial K F O L p hp m lp.nonzero).trimmed
 
       tk : IsTrimmed k
-      tk = (poly_monomial K F O L q k hq lq.nonzero).trimmed
+      tk = (found_monomial K F O L q hq k lq.nonzero).trimmed
 
       right : (b : List ℕ) → IsTrimmed b → O.compare b k ≡ Less → O.compare (product m b) (product m k) ≡ Less
       right b hb lt = L.kept m b k tm hb tk ∙ lt

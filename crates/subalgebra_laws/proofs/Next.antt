@@ -2,13 +2,13 @@
 use Rattle.std.proofs.Common.{◌≡◌, ℕ, zero, suc, ◌<◌, ◌≤◌, refl, sym, ◌∙◌, ap, subst, List, [], ◌∷◌, ◌++◌, ◌⊎◌, inl, inr, ⊎_elim, length, get_or, append_assoc, arith}
 use Rattle.std.specs.Prelude.{map, Contains}
 use Rattle.std.proofs.lemmas.List.{map-append, get_or-map, length-map}
-use Rattle.std.proofs.lemmas.List.Elements.{Contains-append_cases, Contains-get_or}
+use Rattle.std.proofs.lemmas.List.Elements.{Contains-get_or}
 use Rattle.std.specs.declared.cmp.Ordering.TheVariants.{Less}
 use Rattle.monomial_order.specs.declared.terms.Term.{Term}
 use Rattle.monomial_order.specs.Monomial.{product}
-use Rattle.monomial_order.specs.laws.Lists.{contains_cases, contains_here, contains_there, contains_none, contains_map, contains_left, contains_right}
+use Rattle.monomial_order.specs.laws.Lists.{contains_cases, contains_here, contains_there, contains_none, contains_map, contains_left, contains_right, contains_either}
 use Rattle.monomial_order.specs.laws.Monomial.{product-one}
-use Rattle.monomial_order.specs.laws.Comparing.{not_below_self}
+use Rattle.monomial_order.specs.laws.Comparing.{not_below_self, increasing_below, increasing_tail}
 use Rattle.polynomials.specs.Polynomial.{Polynomial, lead_monomial}
 use Rattle.polynomials.specs.Subalgebra.{Presented, IsPresentation, AllIn, product_of, IsGenerated, IsReducedBasis}
 use Rattle.monomial_order.specs.MonomialOrder.{IsIncreasing}
@@ -35,7 +35,7 @@ split_append (x ∷ S) T (y ∷ before) s after e =
 -- a member other than the one in the middle is a member
 without_middle : {A : Type 0} (T front : List A) (t : A) (rest : List A) → T ≡ front ++ (t ∷ rest) → (x : A) → Contains (front ++ rest) x → Contains T x
 without_middle T front t rest e x k = subst (λ X. Contains X x) (sym e)
-    (⊎_elim (λ a. contains_left front (t ∷ rest) x a) (λ b. contains_right front (t ∷ rest) x (contains_there t rest x b)) (Contains-append_cases front rest x k))
+    (⊎_elim (λ a. contains_left front (t ∷ rest) x a) (λ b. contains_right front (t ∷ rest) x (contains_there t rest x b)) (contains_either front rest x k))
 
 the_middle : {A : Type 0} (T front : List A) (t : A) (rest : List A) → T ≡ front ++ (t ∷ rest) → Contains T t
 the_middle T front t rest e = subst (λ X. Contains X t) (sym e) (contains_right front (t ∷ rest) t (contains_here t rest))
@@ -44,39 +44,31 @@ module _ {E : Type 0} (P : Presented E) (H : IsPresentation P) where
   open P use {field as K, order as O}
   open H use {order as L}
 
-  rise_rest : (m : List ℕ) (M : List (List ℕ)) → IsIncreasing P.order (m ∷ M) → IsIncreasing P.order M
-  rise_rest m [] r = tt
-  rise_rest m (n ∷ M) r = r.1
-
-  rise_all : (m : List ℕ) (M : List (List ℕ)) → IsIncreasing P.order (m ∷ M) → (n : List ℕ) → Contains M n → O.compare m n ≡ Less
-  rise_all m [] r n k = absurd (contains_none n k)
-  rise_all m (l ∷ M) r n k = ⊎_elim (λ e. subst (λ x. O.compare m x ≡ Less) e r.0) (λ i. L.total.trans m l n r.0 (rise_all l M r.1 n i)) (contains_cases l M n k)
-
   -- in an increasing list no other member has the lead
-  rise_other : (front : List (Polynomial E)) (t : Polynomial E) (after : List (Polynomial E)) → IsIncreasing P.order (map lead_monomial (front ++ (t ∷ after))) → Contains (map lead_monomial (front ++ after)) (lead_monomial t) → ⊥
-  rise_other [] t after r k = not_below_self O L (lead_monomial t) (rise_all (lead_monomial t) (map lead_monomial after) r (lead_monomial t) k)
-  rise_other (x ∷ front) t after r k =
+  no_other : (front : List (Polynomial E)) (t : Polynomial E) (after : List (Polynomial E)) → IsIncreasing P.order (map lead_monomial (front ++ (t ∷ after))) → Contains (map lead_monomial (front ++ after)) (lead_monomial t) → ⊥
+  no_other [] t after r k = not_below_self O L (lead_monomial t) (increasing_below O L (lead_monomial t) (map lead_monomial after) r (lead_monomial t) k)
+  no_other (x ∷ front) t after r k =
       ⊎_elim
       (λ e. not_below_self O L (lead_monomial t) (subst (λ y. O.compare y (lead_monomial t) ≡ Less) e
-      (rise_all (lead_monomial x) (map lead_monomial (front ++ (t ∷ after))) r (lead_monomial t) (contains_map lead_monomial (front ++ (t ∷ after)) t (contains_right front (t ∷ after) t (contains_here t after))))))
-      (λ i. rise_other front t after (rise_rest (lead_monomial x) (map lead_monomial (front ++ (t ∷ after))) r) i) (contains_cases (lead_monomial x) (map lead_monomial (front ++ after)) (lead_monomial t) k)
+      (increasing_below O L (lead_monomial x) (map lead_monomial (front ++ (t ∷ after))) r (lead_monomial t) (contains_map lead_monomial (front ++ (t ∷ after)) t (contains_right front (t ∷ after) t (contains_here t after))))))
+      (λ i. no_other front t after (increasing_tail O (lead_monomial x) (map lead_monomial (front ++ (t ∷ after))) r) i) (contains_cases (lead_monomial x) (map lead_monomial (front ++ after)) (lead_monomial t) k)
 
   -- members at different indices differ
-  rise_differ : (T : List (Polynomial E)) → IsIncreasing P.order (map lead_monomial T) → (i j : ℕ) → i < length T → j < length T → lead_monomial (get_or T i []) ≡ lead_monomial (get_or T j []) → i ≡ j
-  rise_differ [] r i j li lj e = absurd (omega arith)
-  rise_differ (t ∷ T) r zero zero li lj e = refl
-  rise_differ (t ∷ T) r zero (suc j) li lj e = absurd (rise_other [] t T r (subst (Contains (map lead_monomial T)) (sym e) (contains_map lead_monomial T (get_or T j []) (Contains-get_or T j [] (omega arith)))))
-  rise_differ (t ∷ T) r (suc i) zero li lj e = absurd (rise_other [] t T r (subst (Contains (map lead_monomial T)) e (contains_map lead_monomial T (get_or T i []) (Contains-get_or T i [] (omega arith)))))
-  rise_differ (t ∷ T) r (suc i) (suc j) li lj e = ap suc (rise_differ T (rise_rest (lead_monomial t) (map lead_monomial T) r) i j (omega arith) (omega arith) e)
+  leads_differ : (T : List (Polynomial E)) → IsIncreasing P.order (map lead_monomial T) → (i j : ℕ) → i < length T → j < length T → lead_monomial (get_or T i []) ≡ lead_monomial (get_or T j []) → i ≡ j
+  leads_differ [] r i j li lj e = absurd (omega arith)
+  leads_differ (t ∷ T) r zero zero li lj e = refl
+  leads_differ (t ∷ T) r zero (suc j) li lj e = absurd (no_other [] t T r (subst (Contains (map lead_monomial T)) (sym e) (contains_map lead_monomial T (get_or T j []) (Contains-get_or T j [] (omega arith)))))
+  leads_differ (t ∷ T) r (suc i) zero li lj e = absurd (no_other [] t T r (subst (Contains (map lead_monomial T)) e (contains_map lead_monomial T (get_or T i []) (Contains-get_or T i [] (omega arith)))))
+  leads_differ (t ∷ T) r (suc i) (suc j) li lj e = ap suc (leads_differ T (increasing_tail O (lead_monomial t) (map lead_monomial T) r) i j (omega arith) (omega arith) e)
 
   pub next_standard : (d : ℕ) (S T : List (Polynomial E)) → AreNextTo P d S T → AreStandardAfter P d S T
-  next_standard d S T n = record { after = n.after; standard = n.standard; differ = rise_differ T n.increasing }
+  next_standard d S T n = record { after = n.after; standard = n.standard; differ = leads_differ T n.increasing }
 
-  rise_append : (M N : List (List ℕ)) → IsIncreasing P.order M → IsIncreasing P.order N → ((m n : List ℕ) → Contains M m → Contains N n → O.compare m n ≡ Less) → IsIncreasing P.order (M ++ N)
-  rise_append [] N rm rn h = rn
-  rise_append (m ∷ []) [] rm rn h = tt
-  rise_append (m ∷ []) (n ∷ N) rm rn h = (h m n (contains_here m []) (contains_here n N), rn)
-  rise_append (m ∷ (l ∷ M)) N rm rn h = (rm.0, rise_append (l ∷ M) N rm.1 rn (λ a b ka kb. h a b (contains_there m (l ∷ M) a ka) kb))
+  increasing_append : (M N : List (List ℕ)) → IsIncreasing P.order M → IsIncreasing P.order N → ((m n : List ℕ) → Contains M m → Contains N n → O.compare m n ≡ Less) → IsIncreasing P.order (M ++ N)
+  increasing_append [] N rm rn h = rn
+  increasing_append (m ∷ []) [] rm rn h = tt
+  increasing_append (m ∷ []) (n ∷ N) rm rn h = (h m n (contains_here m []) (contains_here n N), rn)
+  increasing_append (m ∷ (l ∷ M)) N rm rn h = (rm.0, increasing_append (l ∷ M) N rm.1 rn (λ a b ka kb. h a b (contains_there m (l ∷ M) a ka) kb))
 
   -- the lead of an element has what each element's lead has
   of_lead : (Q : List ℕ → Type 0) (S : List (Polynomial E)) → ((s : Polynomial E) → Contains S s → Q (lead_monomial s)) → (m : List ℕ) → Contains (map lead_monomial S) m → Q m
@@ -102,7 +94,7 @@ module _ {E : Type 0} (P : Presented E) (H : IsPresentation P) where
         let z = high r.0 b in
         let none : ms ≡ [] = no_factors ms h.1 (omega arith) in
         inr (subst (Contains (map lead_monomial T)) (r.2 ∙ (sym (product-one m) ∙ ap (λ x. product m (product_of x)) (sym none))) (contains_map lead_monomial T r.0 b)))
-        (Contains-append_cases S T r.0 r.1)
+        (contains_either S T r.0 r.1)
 
     pub products_split : ProductsSplit P S T d
     products_split m l g =
@@ -112,7 +104,7 @@ module _ {E : Type 0} (P : Presented E) (H : IsPresentation P) where
   module _ (S T : List (Polynomial E)) (c d : ℕ) (next : suc c ≡ d) (red : IsReducedBasis P c S) (N : AreNextTo P d S T) (elements : (t : Polynomial E) → Contains T t → IsCheckedElement P d (S ++ T) t) where
     -- of two parts of S and T
     positive : (R U : List (Polynomial E)) → ((s : Polynomial E) → Contains R s → Contains S s) → ((t : Polynomial E) → Contains U t → Contains T t) → HaveLeadsFrom P 1 (R ++ U)
-    positive R U r u x k = ⊎_elim (λ a. (red.elements x (r x a)).at_least) (λ b. let e = N.after.degree x (u x b) in omega arith) (Contains-append_cases R U x k)
+    positive R U r u x k = ⊎_elim (λ a. (red.elements x (r x a)).at_least) (λ b. let e = N.after.degree x (u x b) in omega arith) (contains_either R U x k)
 
     -- below the degree d the new leads have no products
     old_product : (R : List (Polynomial E)) → ((s : Polynomial E) → Contains R s → Contains S s) → (m : List ℕ) → O.degree m ≤ c → IsGenerated (map lead_monomial (R ++ T)) m → IsGenerated (map lead_monomial R) m
@@ -135,17 +127,17 @@ module _ {E : Type 0} (P : Presented E) (H : IsPresentation P) where
     new_minimal front rest t e g =
         let inner = the_middle T front t rest e in
         let part = without_middle T front t rest e in
-        ⊎_elim (λ a. N.after.new t inner a) (λ b. rise_other front t rest (subst (λ X. IsIncreasing P.order (map lead_monomial X)) e N.increasing) b)
+        ⊎_elim (λ a. N.after.new t inner a) (λ b. no_other front t rest (subst (λ X. IsIncreasing P.order (map lead_monomial X)) e N.increasing) b)
         (products_split S (front ++ rest) d (positive S (front ++ rest) (λ s k. k) part) (λ x k. N.after.degree x (part x k)) (lead_monomial t) (elements t inner).at_most g)
 
   pub next_reduced : (S T : List (Polynomial E)) (d : ℕ) → AreNextTo P d S T → NextBasisIsReduced P S T d
   next_reduced S T d N c next dec red elements generators words = checked_reduced P H d (S ++ T) dec (record {
-    increasing = subst (IsIncreasing P.order) (sym (map-append lead_monomial S T)) (rise_append (map lead_monomial S) (map lead_monomial T) red.increasing N.increasing
+    increasing = subst (IsIncreasing P.order) (sym (map-append lead_monomial S T)) (increasing_append (map lead_monomial S) (map lead_monomial T) red.increasing N.increasing
         (λ m n km kn.
         let p = of_lead (λ x. O.degree x ≤ c) S (λ s k. (red.elements s k).at_most) m km in
         let q = of_lead (λ x. d ≤ O.degree x) T N.after.degree n kn in
         L.degree_first m n (omega arith)));
-    elements = λ s k. ⊎_elim (λ a. old_element S T c d next red N elements s a) (λ b. elements s b) (Contains-append_cases S T s k);
+    elements = λ s k. ⊎_elim (λ a. old_element S T c d next red N elements s a) (λ b. elements s b) (contains_either S T s k);
     minimal = λ before rest s e.
         ⊎_elim (λ r. λ g. old_minimal S T c d next red N elements before r.0 s r.1 (subst (λ X. IsGenerated (map lead_monomial (before ++ X)) (lead_monomial s)) r.2 g))
         (λ r. λ g. new_minimal S T c d next red N elements r.0 rest s r.2

@@ -13,7 +13,7 @@ use Rattle.polynomials.specs.laws.Decreasing.{IsLead_unique}
 use Rattle.polynomials.specs.laws.Canonical.{IsLead_same, zero_or_lead}
 use Rattle.polynomials.specs.laws.Ideal.{IsPoly-append}
 use Rattle.polynomials.specs.laws.Membership.{IsPoly-one}
-use Rattle.subalgebra_laws.proofs.ToPolynomials.{nothing_at}
+use Rattle.polynomials.specs.laws.Coefficients.{nothing_at}
 use Rattle.subalgebra_laws.proofs.MonicProducts.{times_lead}
 
 module _ {E : Type 0} (P : Presented E) (H : IsPresentation P) (r : Polynomial E) (x : List ℕ) (alone : P.ideal ≡ r ∷ []) (poly : IsPoly P.field P.order.places r) (leads : IsLead P.field P.order r x) where

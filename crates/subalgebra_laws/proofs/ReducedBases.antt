@@ -18,7 +18,8 @@ use Rattle.polynomials.specs.laws.Membership.{sub_times, sub_congruent, sub_minu
 use Rattle.subalgebra_laws.specs.Words.{letters, word_value, IsMinimalWord, IsCombination}
 use Rattle.subalgebra_laws.specs.Bases.{AreMonicElements, HasDegreesTo, IsDecidedTo, HasCombinationsTo, IsClosedAt, IsCheckedElement, IsCheckedBasis}
 use Rattle.subalgebra_laws.specs.Statements.{LowMembersAreCombinations}
-use Rattle.subalgebra_laws.proofs.ToPolynomials.{constant_poly, minus_poly, minus_back, lowered, cancelling, poly_monomial}
+use Rattle.polynomials.specs.laws.Coefficients.{constant_poly, minus_poly, minus_back, found_monomial}
+use Rattle.subalgebra_laws.proofs.Nonzero.{lowered, cancelling}
 use Rattle.subalgebra_laws.proofs.MonicProducts.{monic_lead}
 use Rattle.subalgebra_laws.proofs.Letters.{word_monic, word_degree, are_letters}
 use Rattle.subalgebra_laws.proofs.Combinations.{combination_congruent, combination_same, combination_zero, combination_plus, combination_multiple, combination_word}
@@ -114,14 +115,14 @@ module _ {E : Type 0} (P : Presented E) (H : IsPresentation P) where
             (combination_plus P H S HS rest fb
             (⊎_elim (λ z. combination_same P H S HS [] rest z (combination_zero P H S HS))
             (λ l. ih l.0
-            (record { monomial = poly_monomial K F O L rest l.0 poly l.1.nonzero; degree = let d = degree_falls O L l.0 m (below l.0 l.1.nonzero) in let e = hm.degree in omega arith })
+            (record { monomial = found_monomial K F O L rest poly l.0 l.1.nonzero; degree = let d = degree_falls O L l.0 m (below l.0 l.1.nonzero) in let e = hm.degree in omega arith })
             (below l.0 l.1.nonzero) rest poly inside l.1) (zero_or_lead K F O L rest poly))
             (combination_multiple P H S HS f.0 b f.1 h.combination))
 
     pub subduction : LowMembersAreCombinations P S c
     subduction a hp low hs = ⊎_elim
         (λ z. combination_same P H S HS [] a z (combination_zero P H S HS))
-        (λ l. member_combination l.0 (record { monomial = poly_monomial K F O L a l.0 hp l.1.nonzero; degree = low l.0 l.1.nonzero }) a hp hs l.1)
+        (λ l. member_combination l.0 (record { monomial = found_monomial K F O L a hp l.0 l.1.nonzero; degree = low l.0 l.1.nonzero }) a hp hs l.1)
         (zero_or_lead K F O L a hp)
 
     -- over a reduced basis the generators and the minimal reducible s-words are combinations

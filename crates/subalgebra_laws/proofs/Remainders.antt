@@ -8,7 +8,7 @@ use Rattle.polynomials.specs.laws.Same.{append_same, append_comm}
 use Rattle.polynomials.specs.laws.Congruence.{congruent_same, minus_zero, minus_chain, negated-minus, minus_same}
 use Rattle.polynomials.specs.laws.Membership.{sub_congruent, sub_minus}
 use Rattle.subalgebra_laws.specs.Words.{IsSubductionRemainder}
-use Rattle.subalgebra_laws.proofs.ToPolynomials.{minus_poly, minus_nonzero, nothing_at}
+use Rattle.polynomials.specs.laws.Coefficients.{minus_poly, minus_nonzero, nothing_at}
 
 module _ {E : Type 0} (P : Presented E) (H : IsPresentation P) (a r q : Polynomial E) (hr : IsSubductionRemainder P a r) (hq : IsSubductionRemainder P a q) where
   -- r - q is the difference of a - q and a - r

@@ -25,7 +25,8 @@ use Rattle.polynomials.specs.laws.Same.{same_refl}
 use Rattle.polynomials.specs.laws.Degrees.{all_found}
 use Rattle.subalgebra_laws.specs.Words.{letters, IsReducibleWord}
 use Rattle.subalgebra_laws.specs.Bases.{IsMonicElement, AreMonicElements, IsCheckedElement}
-use Rattle.subalgebra_laws.proofs.ToPolynomials.{nothing_at, AllAt-map}
+use Rattle.polynomials.specs.laws.Coefficients.{nothing_at}
+use Rattle.subalgebra_laws.proofs.Nonzero.{AllAt-map}
 use Rattle.subalgebra_laws.proofs.Letters.{letter_degrees, are_letters}
 
 -- a fact of each member of a list
@@ -224,33 +225,30 @@ module _ (K : FieldOps ℕ) (F : IsField K) (O : MonomialOrder) (L : IsMonomialO
       both false b x y z = cc
 
 -- elements by their terms
-module _ {E : Type 0} (P : Presented E) (H : IsPresentation P) where
+module _ {E : Type 0} (K : FieldOps E) (F : IsField K) (O : MonomialOrder) (L : IsMonomialOrder O) where
+  pub first_homogeneous : (d : ℕ) (t : Term E) (p : Polynomial E) → IsDecreasing K O (t ∷ p) → AllAt (λ m. O.degree m ≡ d) (t ∷ p) → IsHomogeneous K O d (t ∷ p)
+  first_homogeneous d t p f h = record { some = (t.at, λ z. f.0.nonzero (sym (coefficient_first K F O L t p f.0) ∙ z)); each = all_found K F O L (λ m. O.degree m ≡ d) (t ∷ p) h }
+
+module _ {E : Type 0} (P : Presented E) (H : IsPresentation P) (t : Term E) (p : Polynomial E) (f : IsDecreasing P.field P.order (t ∷ p)) (one : t.by ≡ P.field.one) where
   open P use {field as K, order as O}
   open H use {field as F, order as L}
 
-  pub at_monomials : (Q : List ℕ → Type 0) (p : Polynomial E) → AllAt Q p → (m : List ℕ) → coefficient K p m ≢ K.zero → Q m
-  at_monomials Q p h m k = all_found K F O L Q p h m k
+  pub first_monic : 1 ≤ O.degree t.at → IsMonicElement P (t ∷ p)
+  first_monic le = record { decreasing = f; monic = coefficient_first K F O L t p f.0 ∙ one; positive = le }
 
-  module _ (t : Term E) (p : Polynomial E) (f : IsDecreasing K O (t ∷ p)) where
-    pub first_homogeneous : (d : ℕ) → AllAt (λ m. O.degree m ≡ d) (t ∷ p) → IsHomogeneous K O d (t ∷ p)
-    first_homogeneous d h = record { some = (t.at, λ z. f.0.nonzero (sym (coefficient_first K F O L t p f.0) ∙ z)); each = at_monomials (λ m. O.degree m ≡ d) (t ∷ p) h }
-
-    pub first_monic : t.by ≡ K.one → 1 ≤ O.degree t.at → IsMonicElement P (t ∷ p)
-    first_monic e le = record { decreasing = f; monic = coefficient_first K F O L t p f.0 ∙ e; positive = le }
-
-    pub first_checked : (c : ℕ) (S : List (Polynomial E)) → t.by ≡ K.one → InSubalgebra P (t ∷ p) → AllAt (λ m. O.degree m ≡ O.degree t.at) (t ∷ p) → 1 ≤ O.degree t.at → O.degree t.at ≤ c →
-        AllAt (IsStandard P) (t ∷ p) → AllAt (λ m. ¬ IsGenerated (map lead_monomial S) m) p → IsCheckedElement P c S (t ∷ p)
-    first_checked c S e inside same low high st tail = record {
-      decreasing = f;
-      inside = inside;
-      monic = coefficient_first K F O L t p f.0 ∙ e;
-      homogeneous = first_homogeneous (O.degree t.at) same;
-      at_least = low;
-      at_most = high;
-      standard = at_monomials (IsStandard P) (t ∷ p) st;
-      tail = λ m k ne. ⊎_elim (λ same. absurd (ne same)) (λ n. n) (at_monomials (λ m. (m ≡ t.at) ⊎ (¬ IsGenerated (map lead_monomial S) m)) (t ∷ p)
-          (inl refl, AllAt-map (λ m. ¬ IsGenerated (map lead_monomial S) m) (λ m. (m ≡ t.at) ⊎ (¬ IsGenerated (map lead_monomial S) m)) (λ m n. inr n) p tail) m k);
-    }
+  pub first_checked : (c : ℕ) (S : List (Polynomial E)) → InSubalgebra P (t ∷ p) → AllAt (λ m. O.degree m ≡ O.degree t.at) (t ∷ p) → 1 ≤ O.degree t.at → O.degree t.at ≤ c →
+      AllAt (IsStandard P) (t ∷ p) → AllAt (λ m. ¬ IsGenerated (map lead_monomial S) m) p → IsCheckedElement P c S (t ∷ p)
+  first_checked c S inside same low high st tail = record {
+    decreasing = f;
+    inside = inside;
+    monic = coefficient_first K F O L t p f.0 ∙ one;
+    homogeneous = first_homogeneous K F O L (O.degree t.at) t p f same;
+    at_least = low;
+    at_most = high;
+    standard = all_found K F O L (IsStandard P) (t ∷ p) st;
+    tail = λ m k ne. ⊎_elim (λ e. absurd (ne e)) (λ n. n) (all_found K F O L (λ m. (m ≡ t.at) ⊎ (¬ IsGenerated (map lead_monomial S) m)) (t ∷ p)
+        (inl refl, AllAt-map (λ m. ¬ IsGenerated (map lead_monomial S) m) (λ m. (m ≡ t.at) ⊎ (¬ IsGenerated (map lead_monomial S) m)) (λ m n. inr n) p tail) m k);
+  }
 
 -- a product of monomials that have x once is 1, or one of them, or has x more than once
 module _ (M : List (List ℕ)) (all : EachOf (λ m. exponent m 0 ≡ 1) M) where

@@ -1,4 +1,4 @@
--- Lemmas of polynomials alone, for the crate `polynomials`: coefficients and leads of terms, sums, multiples and components.
+-- Polynomials alone: which coefficients of sums, multiples and components are nonzero, and their leads.
 use Rattle.std.proofs.Common.{◌≡◌, ◌≢◌, ℕ, refl, sym, ◌∙◌, ap, subst, List, [], ◌∷◌, ◌++◌, ◌⊎◌, inl, inr, ⊎_elim, append-nil, arith, cond, Bool, true, false}
 use Rattle.std.specs.Prelude.{nat_eq}
 use Rattle.std.proofs.lemmas.Bool.{eqb-true, eq-eqb}
@@ -17,24 +17,17 @@ use Rattle.polynomials.specs.laws.Value.{one_times, coefficient-constant_times}
 use Rattle.polynomials.specs.laws.Canonical.{IsLead_same}
 use Rattle.polynomials.specs.laws.Degrees.{all_found, component-append, coefficient-component}
 use Rattle.polynomials.specs.laws.Ideal.{IsPoly-append, IsPoly-negated}
+use Rattle.polynomials.specs.laws.Coefficients.{sum_nonzero, minus_nonzero}
+use Rattle.polynomials.specs.laws.Terms.{AllAt-append}
 use Rattle.polynomials.specs.laws.Congruence.{coefficient-minus, negate_negate, congruent_refl, congruent_plus, congruent_negated, congruent_member}
 
 -- different monomials are told apart
 pub same_false : (m n : List ℕ) → m ≢ n → same_monomial m n ≡ false
 same_false m n h = elim (same_monomial m n) as (λ b. same_monomial m n ≡ b → b ≡ false) [ true ↦ λ e. absurd (h (same_true m n e)) | false ↦ λ e. refl ] refl
 
--- the zero polynomial has the coefficient 0
-pub nothing_at : {E : Type 0} (K : FieldOps E) (m : List ℕ) → K.zero ≡ coefficient K [] m
-unfolding coefficient
-nothing_at K m = refl
-
 pub AllAt-map : {E : Type 0} (Q R : List ℕ → Type 0) → ((m : List ℕ) → Q m → R m) → (p : Polynomial E) → AllAt Q p → AllAt R p
 AllAt-map Q R f [] h = tt
 AllAt-map Q R f (t ∷ p) h = (f t.at h.0, AllAt-map Q R f p h.1)
-
-pub AllAt-append : {E : Type 0} (Q : List ℕ → Type 0) (p q : Polynomial E) → AllAt Q p → AllAt Q q → AllAt Q (p ++ q)
-AllAt-append Q [] q h k = k
-AllAt-append Q (t ∷ p) q h k = (h.0, AllAt-append Q p q h.1 k)
 
 module _ {E : Type 0} (K : FieldOps E) where
   pub AllAt-scaled : (Q : List ℕ → Type 0) (t : Term E) (p : Polynomial E) → AllAt (λ m. Q (product t.at m)) p → AllAt Q (scaled K t p)
@@ -47,10 +40,6 @@ module _ {E : Type 0} (K : FieldOps E) where
   AllAt-times A B Q f (t ∷ p) q h k =
       AllAt-append Q (scaled K t q) (times K p q) (AllAt-scaled Q t q (AllAt-map B (λ n. Q (product t.at n)) (λ n. f t.at n h.0) q k)) (AllAt-times A B Q f p q h.1 k)
 
-  pub poly_monomials : (n : ℕ) (p : Polynomial E) → IsPoly K n p → AllAt (IsMonomial n) p
-  poly_monomials n [] h = tt
-  poly_monomials n (t ∷ p) h = (h.0.monomial, poly_monomials n p h.1)
-
   -- the component of a difference
   pub component-minus : (O : MonomialOrder) (d : ℕ) (p q : Polynomial E) → component O d (minus K p q) ≡ minus K (component O d p) (component O d q)
   component-minus O d p q = component-append O d p (negated K q) ∙ ap (λ x. component O d p ++ x) (negated_part q)
@@ -62,53 +51,18 @@ module _ {E : Type 0} (K : FieldOps E) where
           elim (nat_eq (O.degree t.at) d) as (λ b. cond b (term_of t.at (K.negate t.by) ∷ negated K (component O d q)) (negated K (component O d q)) ≡ negated K (cond b (t ∷ component O d q) (component O d q))) [ true ↦ refl | false ↦ refl ]
 
 module _ {E : Type 0} (K : FieldOps E) (F : IsField K) where
-  -- a single term has a coefficient at its monomial alone
-  pub single_term : (w : List ℕ) (c : E) (v : List ℕ) → coefficient K (term_of w c ∷ []) v ≢ K.zero → w ≡ v
-  unfolding coefficient
-  single_term w c v k =
-      ⊎_elim (λ e. e) (λ n. absurd (k (ap (λ b. K.plus (cond b c K.zero) K.zero) (same_false w v n) ∙ zero-plus-zero K F))) (equal_or_not w v)
-
-  pub one_right : (p : Polynomial E) → Same K (times K p (constant K K.one)) p
-  one_right p m = times_comm K F p (constant K K.one) m ∙ one_times K F p m
-
-  pub constant_poly : (n : ℕ) (f : E) → IsValue K f → IsPoly K n (constant K f)
-  constant_poly n f v = (record { monomial = record { trimmed = tt; within = omega arith }; value = v }, tt)
-
-  pub minus_poly : (n : ℕ) (a b : Polynomial E) → IsPoly K n a → IsPoly K n b → IsPoly K n (minus K a b)
-  minus_poly n a b h k = IsPoly-append K F n a (negated K b) h (IsPoly-negated K F n b k)
-
   -- where a coefficient is zero
   pub no_coefficient : (p : Polynomial E) (m : List ℕ) → (coefficient K p m ≢ K.zero → ⊥) → coefficient K p m ≡ K.zero
   no_coefficient p m h = ⊎_elim (λ z. z) (λ n. absurd (h n)) (F.equal_or_not (coefficient K p m) K.zero)
 
-  pub sum_nonzero : (a b : E) → K.plus a b ≢ K.zero → (a ≢ K.zero) ⊎ (b ≢ K.zero)
-  sum_nonzero a b h = ⊎_elim (λ z. inr (λ w. h (ap (λ x. K.plus x b) z ∙ (ap (K.plus K.zero) w ∙ zero-plus-zero K F)))) (λ n. inl n) (F.equal_or_not a K.zero)
-
   pub append_nonzero : (p q : Polynomial E) (m : List ℕ) → coefficient K (p ++ q) m ≢ K.zero → (coefficient K p m ≢ K.zero) ⊎ (coefficient K q m ≢ K.zero)
-  append_nonzero p q m h = sum_nonzero (coefficient K p m) (coefficient K q m) (λ z. h (coefficient-append K F p q m ∙ z))
+  append_nonzero p q m h = sum_nonzero K F (coefficient K p m) (coefficient K q m) (λ z. h (coefficient-append K F p q m ∙ z))
 
   pub negated_nonzero : (p : Polynomial E) (m : List ℕ) → coefficient K (negated K p) m ≢ K.zero → coefficient K p m ≢ K.zero
   negated_nonzero p m h z = h (coefficient-negated K F p m ∙ (ap K.negate z ∙ negate-zero K F))
 
-  pub minus_nonzero : (p q : Polynomial E) (m : List ℕ) → coefficient K (minus K p q) m ≢ K.zero → (coefficient K p m ≢ K.zero) ⊎ (coefficient K q m ≢ K.zero)
-  minus_nonzero p q m h = ⊎_elim (λ a. inl a) (λ b. inr (negated_nonzero q m b)) (append_nonzero p (negated K q) m h)
-
   pub multiple_nonzero : (c : E) (p : Polynomial E) (m : List ℕ) → coefficient K (times K (constant K c) p) m ≢ K.zero → coefficient K p m ≢ K.zero
   multiple_nonzero c p m h z = h (coefficient-constant_times K F c p m ∙ (ap (K.times c) z ∙ times-zero K F c))
-
-  -- taking a member of the ideal away
-  pub minus_member : (n : ℕ) (rs : List (Polynomial E)) (a x : Polynomial E) → InIdeal K n rs x → Congruent K n rs (minus K a x) a
-  minus_member n rs a x h =
-      subst (λ y. Congruent K n rs (minus K a x) y) (append-nil a)
-      (congruent_plus K F n rs a a (negated K x) [] (congruent_refl K F n rs a) (congruent_negated K F n rs x [] (congruent_member K F n rs x h)))
-
-  -- and putting it back
-  pub minus_back : (a x : Polynomial E) → Same K (minus K a x ++ x) a
-  minus_back a x m =
-      coefficient-append K F (minus K a x) x m ∙ (ap (λ y. K.plus y (coefficient K x m)) (coefficient-minus K F a x m) ∙
-      (F.plus_assoc (coefficient K a m) (K.negate (coefficient K x m)) (coefficient K x m) ∙
-      (ap (K.plus (coefficient K a m)) (F.plus_comm (K.negate (coefficient K x m)) (coefficient K x m) ∙ F.plus_negate (coefficient K x m)) ∙
-      (F.plus_zero (coefficient K a m) ∙ coefficient_value K F a m))))
 
   -- the factor that takes b to a
   pub cancelling : (a b : E) → IsValue K a → b ≢ K.zero → IsValue K b → (f : E) × IsValue K f × (K.times f b ≡ a)
@@ -117,22 +71,6 @@ module _ {E : Type 0} (K : FieldOps E) (F : IsField K) where
       (K.times a i.0, F.times_value a i.0, F.times_assoc a i.0 b ∙ (ap (K.times a) (F.times_comm i.0 b ∙ i.1) ∙ (F.times_one a ∙ va)))
 
 module _ {E : Type 0} (K : FieldOps E) (F : IsField K) (O : MonomialOrder) (L : IsMonomialOrder O) where
-  -- a monomial with a nonzero coefficient is one in the places
-  pub poly_monomial : (p : Polynomial E) (m : List ℕ) → IsPoly K O.places p → coefficient K p m ≢ K.zero → IsMonomial O.places m
-  poly_monomial p m h k = all_found K F O L (IsMonomial O.places) p (poly_monomials K O.places p h) m k
-
-  -- the lead of a sum, where the second part is below it
-  pub lead_sum : (p q : Polynomial E) (m : List ℕ) → IsLead K O p m → ((n : List ℕ) → coefficient K q n ≢ K.zero → O.compare n m ≡ Less) → IsLead K O (p ++ q) m
-  lead_sum p q m h k =
-      let none = no_coefficient K F q m (λ n. not_below_self O L m (k m n)) in
-      record {
-        nonzero = λ z. h.nonzero (sym (F.plus_zero (coefficient K p m) ∙ coefficient_value K F p m) ∙ (ap (K.plus (coefficient K p m)) (sym none) ∙ (sym (coefficient-append K F p q m) ∙ z)));
-        greatest = λ n c ne. ⊎_elim (λ a. h.greatest n a ne) (λ b. k n b) (append_nonzero K F p q n c);
-      }
-
-  pub lead_sum_right : (p q : Polynomial E) (m : List ℕ) → IsLead K O q m → ((n : List ℕ) → coefficient K p n ≢ K.zero → O.compare n m ≡ Less) → IsLead K O (p ++ q) m
-  lead_sum_right p q m h k = IsLead_same K F O L (q ++ p) (p ++ q) m (append_comm K F q p) (lead_sum q p m h k)
-
   pub lead_negated : (p : Polynomial E) (m : List ℕ) → IsLead K O p m → IsLead K O (negated K p) m
   lead_negated p m h = record {
     nonzero = λ z. h.nonzero (sym (negate_negate K F (coefficient K p m) ∙ coefficient_value K F p m) ∙ (ap K.negate (sym (coefficient-negated K F p m) ∙ z) ∙ negate-zero K F));
