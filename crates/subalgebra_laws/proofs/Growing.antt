@@ -9,7 +9,7 @@ use Rattle.std.specs.declared.cmp.Ordering.TheVariants.{Less}
 use Rattle.word_field.specs.Field.{FieldOps}
 use Rattle.monomial_order.specs.declared.terms.Term.{Term}
 use Rattle.monomial_order.specs.Monomial.{product, exponent, variable, IsTrimmed, weighted_degree}
-use Rattle.monomial_order.specs.MonomialOrder.{MonomialOrder}
+use Rattle.monomial_order.specs.MonomialOrder.{MonomialOrder, IsIncreasing}
 use Rattle.monomial_order.specs.Orders.{lex}
 use Rattle.monomial_order.specs.laws.Lists.{contains_none, contains_cases, contains_left}
 use Rattle.monomial_order.specs.laws.Monomial.{product-one, length-product}
@@ -22,7 +22,6 @@ use Rattle.polynomials.specs.Polynomial.{Polynomial, coefficient, Same, term_of,
 use Rattle.polynomials.specs.Ideal.{Congruent}
 use Rattle.polynomials.specs.Value.{power, monomial_value, value, term_value}
 use Rattle.polynomials.specs.Subalgebra.{Presented, IsPresentation, LeadsIdeal, IsStandard, IsGenerated}
-use Rattle.monomial_order.specs.MonomialOrder.{IsIncreasing}
 use Rattle.polynomials.specs.laws.Decreasing.{IsDecreasing_IsPoly}
 use Rattle.polynomials.specs.laws.Degrees.{decreasing_all}
 use Rattle.subalgebra_laws.specs.Words.{letters, letter_values, word_value, combination_value, IsReducibleWord, IsMinimalWord, IsIrreducibleSum, IsCombination}

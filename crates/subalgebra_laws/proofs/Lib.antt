@@ -14,3 +14,4 @@ mod SampleTools
 mod Squares
 mod Plane
 mod Endless
+mod Quotient
