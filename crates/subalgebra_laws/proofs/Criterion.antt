@@ -6,7 +6,6 @@ use Rattle.std.proofs.lemmas.Bool.{eqb-true, eq-eqb, true≢false}
 use Rattle.std.specs.declared.cmp.Ordering.TheVariants.{Less}
 use Rattle.monomial_order.specs.declared.terms.Term.{Term}
 use Rattle.monomial_order.specs.Monomial.{product, weighted_degree, IsTrimmed, Divides}
-use Rattle.monomial_order.specs.MonomialOrder.{MonomialOrder, IsMonomialOrder}
 use Rattle.monomial_order.specs.laws.Monomial.{product_comm, IsMonomial-product}
 use Rattle.monomial_order.specs.laws.Lists.{contains_here, contains_there}
 use Rattle.monomial_order.specs.laws.Cofactors.{cofactor, length-product_right, Divides-product}
@@ -32,7 +31,7 @@ use Rattle.subalgebra_laws.specs.Bases.{AreMonicElements, IsDecidedTo, HasCombin
 use Rattle.subalgebra_laws.specs.Statements.{CombinationsHaveGeneratedLeads, MembersAreCombinations, LeadsAreGenerated}
 use Rattle.polynomials.specs.laws.Coefficients.{nothing_at, constant_poly, minus_poly, lead_sum}
 use Rattle.subalgebra_laws.proofs.Nonzero.{AllAt-map, AllAt-scaled, AllAt-times, component-minus, multiple_nonzero, lead_negated, below_lead, component_leads}
-use Rattle.subalgebra_laws.proofs.Letters.{s_one, s_product, word_monic, letter_laws, are_letters, word_degree}
+use Rattle.subalgebra_laws.proofs.Letters.{order_over, s_one, s_product, word_monic, letter_laws, are_letters, word_degree}
 use Rattle.subalgebra_laws.proofs.Combinations.{have_top_words, top_leads, top_least, sum_poly, value_poly, combination_congruent, combination_same, combination_zero, combination_plus, combination_multiple, combination_word, combination_linear, sum_low, IsBefore, words_before}
 use Rattle.subalgebra_laws.proofs.Decisions.{words_decided, minimal_divisor}
 use Rattle.subalgebra_laws.proofs.Generated.{generated_images}
@@ -41,54 +40,42 @@ module _ {E : Type 0} (P : Presented E) (H : IsPresentation P) (S : List (Polyno
   open P use {field as K, order as O}
   open H use {field as F, order as L}
 
-  abbrev W : MonomialOrder
-  W = word_order_of (letters P S)
-
-  abbrev LW : IsMonomialOrder (word_order_of (letters P S))
-  LW = letter_laws P H S HS
-
-  abbrev values : List (Polynomial E)
-  values = letter_values P S
-
-  abbrev im : List ℕ → List ℕ
-  im w = image_of (letters P S) w
-
   -- a standard lead of a combination is the image of one of its words, so it is generated
   pub lead_generated : CombinationsHaveGeneratedLeads P S
   lead_generated a m ha f la st = ⊎_elim none (λ r. by_top r.0 r.1) (have_top_words P H S HS f.sum f.irreducible)
     where
-      only_lead : ((n : List ℕ) → coefficient K (negated K (value K f.sum values)) n ≢ K.zero → O.compare n m ≡ Less) → ⊥
+      only_lead : ((n : List ℕ) → coefficient K (negated K (value K f.sum (letter_values P S))) n ≢ K.zero → O.compare n m ≡ Less) → ⊥
       only_lead below = st.no_lead (record {
-        member = minus K a (value K f.sum values);
-        poly = minus_poly K F O.places a (value K f.sum values) ha (sum_poly P H S HS f.sum f.irreducible);
+        member = minus K a (value K f.sum (letter_values P S));
+        poly = minus_poly K F O.places a (value K f.sum (letter_values P S)) ha (sum_poly P H S HS f.sum f.irreducible);
         inside = f.equal;
-        leads = lead_sum K F O L a (negated K (value K f.sum values)) m la below;
+        leads = lead_sum K F O L a (negated K (value K f.sum (letter_values P S))) m la below;
       })
 
       none : f.sum ≡ [] → IsGenerated (map lead_monomial S) m
-      none e = absurd (only_lead (λ n k. absurd (k (ap (λ x. coefficient K (negated K (value K x values)) n) e ∙ sym (nothing_at K n)))))
+      none e = absurd (only_lead (λ n k. absurd (k (ap (λ x. coefficient K (negated K (value K x (letter_values P S))) n) e ∙ sym (nothing_at K n)))))
 
       by_top : (w : List ℕ) → IsTopWord P S f.sum w → IsGenerated (map lead_monomial S) m
       by_top w t =
           ⊎_elim (λ lt. absurd (top_least P H S HS f.sum w f.irreducible t a m ha f.equal la lt))
           (λ r. ⊎_elim (λ same. generated_images P H S HS m w (f.irreducible.words w t.stands) (sym same))
-          (λ gt. absurd (only_lead (below_lead K F O L (negated K (value K f.sum values)) (im w) m
-          (lead_negated K F O L (value K f.sum values) (im w) (top_leads P H S HS f.sum w f.irreducible t).0) gt))) r)
-          (three_ways O L m (im w))
+          (λ gt. absurd (only_lead (below_lead K F O L (negated K (value K f.sum (letter_values P S))) (image_of (letters P S) w) m
+          (lead_negated K F O L (value K f.sum (letter_values P S)) (image_of (letters P S) w) (top_leads P H S HS f.sum w f.irreducible t).0) gt))) r)
+          (three_ways O L m (image_of (letters P S) w))
 
   module _ (c : ℕ) (dec : IsDecidedTo P c) (comb : HasCombinationsTo P c S) where
     -- a product of the cofactor with a word before the factor comes before the whole word
-    module _ (w u v : List ℕ) (whole : product u v ≡ w) (hw : IsWithin W LW c w) (hu : IsWord (letters P S) u) (hv : IsWord (letters P S) v) where
-      before_within : (x : List ℕ) → IsWord (letters P S) x → IsBefore P H S HS x u → IsWithin W LW c (product v x)
+    module _ (w u v : List ℕ) (whole : product u v ≡ w) (hw : IsWithin (order_over P S) (letter_laws P H S HS) c w) (hu : IsWord (letters P S) u) (hv : IsWord (letters P S) v) where
+      before_within : (x : List ℕ) → IsWord (letters P S) x → IsBefore P H S HS x u → IsWithin (order_over P S) (letter_laws P H S HS) c (product v x)
       before_within x hx b = record {
-        monomial = IsMonomial-product W.places v x hv hx;
+        monomial = IsMonomial-product (order_over P S).places v x hv hx;
         degree =
-            let dx : O.degree (im x) ≤ O.degree (im u) = ⊎_elim (λ lt. degree_falls O L (im x) (im u) lt) (λ s. let e : O.degree (im x) ≡ O.degree (im u) = ap O.degree s.0 in omega arith) b in
+            let dx : O.degree (image_of (letters P S) x) ≤ O.degree (image_of (letters P S) u) = ⊎_elim (λ lt. degree_falls O L (image_of (letters P S) x) (image_of (letters P S) u) lt) (λ s. let e : O.degree (image_of (letters P S) x) ≡ O.degree (image_of (letters P S) u) = ap O.degree s.0 in omega arith) b in
             let gx = word_degree P H S HS x in
             let gu = word_degree P H S HS u in
-            let p1 = LW.degree_product v x in
-            let p2 = LW.degree_product u v in
-            let p3 : W.degree (product u v) ≡ W.degree w = ap W.degree whole in
+            let p1 = (letter_laws P H S HS).degree_product v x in
+            let p2 = (letter_laws P H S HS).degree_product u v in
+            let p3 : (order_over P S).degree (product u v) ≡ (order_over P S).degree w = ap (order_over P S).degree whole in
             let d = hw.degree in
             omega arith;
       }
@@ -97,18 +84,18 @@ module _ {E : Type 0} (P : Presented E) (H : IsPresentation P) (S : List (Polyno
       before_product x hx b =
           let times_v = image_times (letters P S) (are_letters P H S HS) v in
           let turned : product v u ≡ w = product_comm v u ∙ whole in
-          let trimmed : (y : List ℕ) → IsTrimmed (im y) = λ y. (word_monic P H S HS y).monomial.trimmed in
+          let trimmed : (y : List ℕ) → IsTrimmed (image_of (letters P S) y) = λ y. (word_monic P H S HS y).monomial.trimmed in
           ⊎_elim
-          (λ lt. inl (ap (λ y. O.compare y (im w)) (times_v x) ∙ (ap (O.compare (product (im v) (im x))) (ap im (sym turned) ∙ times_v u) ∙ (L.kept (im v) (im x) (im u) (trimmed v) (trimmed x) (trimmed u) ∙ lt))))
+          (λ lt. inl (ap (λ y. O.compare y (image_of (letters P S) w)) (times_v x) ∙ (ap (O.compare (product (image_of (letters P S) v) (image_of (letters P S) x))) (ap (image_of (letters P S)) (sym turned) ∙ times_v u) ∙ (L.kept (image_of (letters P S) v) (image_of (letters P S) x) (image_of (letters P S) u) (trimmed v) (trimmed x) (trimmed u) ∙ lt))))
           (λ s. inr (
-            times_v x ∙ (ap (product (im v)) s.0 ∙ (sym (times_v u) ∙ ap im turned)),
-            ap (W.compare (product v x)) (sym turned) ∙ (LW.kept v x u hv.trimmed hx.trimmed hu.trimmed ∙ s.1),
+            times_v x ∙ (ap (product (image_of (letters P S) v)) s.0 ∙ (sym (times_v u) ∙ ap (image_of (letters P S)) turned)),
+            ap ((order_over P S).compare (product v x)) (sym turned) ∙ ((letter_laws P H S HS).kept v x u hv.trimmed hx.trimmed hu.trimmed ∙ s.1),
           ))
           b
 
     -- w is a combination, if all words before it are: it is irreducible, or a minimal reducible word divides it
-    word_step : (w : List ℕ) → IsWithin W LW c w → IsSWord (letters P S) w →
-        ((x : List ℕ) → IsWithin W LW c x → IsSWord (letters P S) x → IsBefore P H S HS x w → IsCombination P S (word_value P S x)) → IsCombination P S (word_value P S w)
+    word_step : (w : List ℕ) → IsWithin (order_over P S) (letter_laws P H S HS) c w → IsSWord (letters P S) w →
+        ((x : List ℕ) → IsWithin (order_over P S) (letter_laws P H S HS) c x → IsSWord (letters P S) x → IsBefore P H S HS x w → IsCombination P S (word_value P S x)) → IsCombination P S (word_value P S w)
     word_step w hw sw ih = ⊎_elim by_factor (λ n. combination_word P H S HS w sw n) (words_decided P H S HS c dec w hw.monomial hw.degree)
       where
         by_factor : IsReducibleWord P S w → IsCombination P S (word_value P S w)
@@ -116,7 +103,7 @@ module _ {E : Type 0} (P : Presented E) (H : IsPresentation P) (S : List (Polyno
             let m = minimal_divisor P H S HS c dec w hw.monomial hw.degree red in
             let k = cofactor m.0 w m.1.word.trimmed hw.monomial.trimmed m.2 in
             let su = s_divisor (letters P S) (are_letters P H S HS) m.0 w m.1.word sw m.2 in
-            let du = divisor_degree W LW m.0 w m.1.word.trimmed hw.monomial.trimmed m.2 in
+            let du = divisor_degree (order_over P S) (letter_laws P H S HS) m.0 w m.1.word.trimmed hw.monomial.trimmed m.2 in
             let dw = hw.degree in
             let long = length-product_right m.0 k.0 in
             let same : length (product m.0 k.0) ≡ length w = ap length k.2 in
@@ -126,65 +113,65 @@ module _ {E : Type 0} (P : Presented E) (H : IsPresentation P) (S : List (Polyno
             s_divisor (letters P S) (are_letters P H S HS) k.0 w (record { trimmed = k.1; within = omega arith }) sw (subst (Divides k.0) turned (Divides-product k.0 m.0)) in
             let f = comb.words m.0 (m.1, su) (omega arith) in
             let moved = scaled K (term_of k.0 K.one) f.sum in
-            combination_congruent P H S HS (value K moved values) (word_value P S w)
-            (congruent_trans K F O.places P.ideal (word_value P S w) (times K (word_value P S k.0) (word_value P S m.0)) (value K moved values)
+            combination_congruent P H S HS (value K moved (letter_values P S)) (word_value P S w)
+            (congruent_trans K F O.places P.ideal (word_value P S w) (times K (word_value P S k.0) (word_value P S m.0)) (value K moved (letter_values P S))
             (congruent_same K F O.places P.ideal (word_value P S w) (times K (word_value P S k.0) (word_value P S m.0))
-            (λ i. ap (λ x. coefficient K (word_value P S x) i) (sym turned) ∙ monomial_value-product K F k.0 m.0 values i))
-            (congruent_trans K F O.places P.ideal (times K (word_value P S k.0) (word_value P S m.0)) (times K (word_value P S k.0) (value K f.sum values)) (value K moved values)
-            (congruent_times_left K F O.places P.ideal (word_value P S k.0) (word_value P S m.0) (value K f.sum values) (word_monic P H S HS k.0).poly f.equal)
-            (congruent_same K F O.places P.ideal (times K (word_value P S k.0) (value K f.sum values)) (value K moved values)
-            (λ i. sym (value-scaled K F (term_of k.0 K.one) f.sum values i ∙
-            times_same_left K F (term_value K values (term_of k.0 K.one)) (word_value P S k.0) (value K f.sum values) (one_times K F (word_value P S k.0)) i)))))
-            (combination_linear P H S HS W.places values moved
-            (IsPoly-scaled K F W.places (term_of k.0 K.one) f.sum (record { monomial = sv.0; value = F.one_value }) (IsDecreasing_IsPoly K W f.sum f.irreducible.decreasing))
+            (λ i. ap (λ x. coefficient K (word_value P S x) i) (sym turned) ∙ monomial_value-product K F k.0 m.0 (letter_values P S) i))
+            (congruent_trans K F O.places P.ideal (times K (word_value P S k.0) (word_value P S m.0)) (times K (word_value P S k.0) (value K f.sum (letter_values P S))) (value K moved (letter_values P S))
+            (congruent_times_left K F O.places P.ideal (word_value P S k.0) (word_value P S m.0) (value K f.sum (letter_values P S)) (word_monic P H S HS k.0).poly f.equal)
+            (congruent_same K F O.places P.ideal (times K (word_value P S k.0) (value K f.sum (letter_values P S))) (value K moved (letter_values P S))
+            (λ i. sym (value-scaled K F (term_of k.0 K.one) f.sum (letter_values P S) i ∙
+            times_same_left K F (term_value K (letter_values P S) (term_of k.0 K.one)) (word_value P S k.0) (value K f.sum (letter_values P S)) (one_times K F (word_value P S k.0)) i)))))
+            (combination_linear P H S HS (order_over P S).places (letter_values P S) moved
+            (IsPoly-scaled K F (order_over P S).places (term_of k.0 K.one) f.sum (record { monomial = sv.0; value = F.one_value }) (IsDecreasing_IsPoly K (order_over P S) f.sum f.irreducible.decreasing))
             (AllAt-scaled K (λ x. IsCombination P S (word_value P S x)) (term_of k.0 K.one) f.sum
-            (decreasing_all K F W LW (λ x. IsCombination P S (word_value P S (product k.0 x))) f.sum f.irreducible.decreasing
+            (decreasing_all K F (order_over P S) (letter_laws P H S HS) (λ x. IsCombination P S (word_value P S (product k.0 x))) f.sum f.irreducible.decreasing
             (λ x n.
             let hx = f.irreducible.words x n in
             let b = words_before P H S HS m.0 m.1.word m.1.reducible f x n in
             ih (product k.0 x) (before_within w m.0 k.0 k.2 hw m.1.word sv.0 x hx.0 b) (s_product P S k.0 x sv hx) (before_product w m.0 k.0 k.2 hw m.1.word sv.0 x hx.0 b)))))
 
     -- the value of each s-word of degree at most c is a combination
-    word_combination : (w : List ℕ) → IsWithin W LW c w → IsSWord (letters P S) w → IsCombination P S (word_value P S w)
+    word_combination : (w : List ℕ) → IsWithin (order_over P S) (letter_laws P H S HS) c w → IsSWord (letters P S) w → IsCombination P S (word_value P S w)
     word_combination w hw sw =
-        below_induction O L c (λ m. (x : List ℕ) → IsWithin W LW c x → IsSWord (letters P S) x → im x ≡ m → IsCombination P S (word_value P S x))
+        below_induction O L c (λ m. (x : List ℕ) → IsWithin (order_over P S) (letter_laws P H S HS) c x → IsSWord (letters P S) x → (image_of (letters P S)) x ≡ m → IsCombination P S (word_value P S x))
         (λ m hm outer x hx sx ex.
-        below_induction W LW c (λ y. IsSWord (letters P S) y → im y ≡ m → IsCombination P S (word_value P S y))
+        below_induction (order_over P S) (letter_laws P H S HS) c (λ y. IsSWord (letters P S) y → (image_of (letters P S)) y ≡ m → IsCombination P S (word_value P S y))
         (λ y hy inner sy ey. word_step y hy sy (λ z hz sz b.
-        ⊎_elim (λ lt. outer (im z) (image_within z hz) (subst (λ k. O.compare (im z) k ≡ Less) ey lt) z hz sz refl) (λ s. inner z hz s.1 sz (s.0 ∙ ey)) b))
+        ⊎_elim (λ lt. outer (image_of (letters P S) z) (image_within z hz) (subst (λ k. O.compare (image_of (letters P S) z) k ≡ Less) ey lt) z hz sz refl) (λ s. inner z hz s.1 sz (s.0 ∙ ey)) b))
         x hx sx ex)
-        (im w) (image_within w hw) w hw sw refl
+        (image_of (letters P S) w) (image_within w hw) w hw sw refl
       where
-        image_within : (x : List ℕ) → IsWithin W LW c x → IsWithin O L c (im x)
+        image_within : (x : List ℕ) → IsWithin (order_over P S) (letter_laws P H S HS) c x → IsWithin O L c (image_of (letters P S) x)
         image_within x hx = record { monomial = (word_monic P H S HS x).monomial; degree = let g = word_degree P H S HS x in let d = hx.degree in omega arith }
 
     -- a equals, modulo the ideal, the value of a sum of s-words of degree at most D
     abbrev IsLow : ℕ → List ℕ → Type 0
-    IsLow D w = IsSWord (letters P S) w × (W.degree w ≤ D)
+    IsLow D w = IsSWord (letters P S) w × ((order_over P S).degree w ≤ D)
 
     record IsReached (D : ℕ) (a : Polynomial E) : Type 0 where
       form : Polynomial E
-      poly : IsPoly K W.places form
+      poly : IsPoly K (order_over P S).places form
       words : AllAt (IsLow D) form
-      congruent : Congruent K O.places P.ideal a (value K form values)
+      congruent : Congruent K O.places P.ideal a (value K form (letter_values P S))
 
     reached_one : IsReached 0 (constant K K.one)
     reached_one = record {
       form = constant K K.one;
-      poly = constant_poly K F W.places K.one F.one_value;
-      words = ((s_one P S, (let d = degree_one W LW in omega arith)), tt);
-      congruent = congruent_same K F O.places P.ideal (constant K K.one) (value K (constant K K.one) values) (λ m. sym (value-constant K F K.one values m));
+      poly = constant_poly K F (order_over P S).places K.one F.one_value;
+      words = ((s_one P S, (let d = degree_one (order_over P S) (letter_laws P H S HS) in omega arith)), tt);
+      congruent = congruent_same K F O.places P.ideal (constant K K.one) (value K (constant K K.one) (letter_values P S)) (λ m. sym (value-constant K F K.one (letter_values P S) m));
     }
 
     reached_times : (D G : ℕ) (a b : Polynomial E) → IsPoly K O.places a → IsReached D a → IsReached G b → IsReached (D + G) (times K a b)
     reached_times D G a b ha h k = record {
       form = times K h.form k.form;
-      poly = IsPoly-times K F W.places h.form k.form h.poly k.poly;
+      poly = IsPoly-times K F (order_over P S).places h.form k.form h.poly k.poly;
       words = AllAt-times K (IsLow D) (IsLow G) (IsLow (D + G))
-          (λ u v hu hv. (s_product P S u v hu.0 hv.0, (let p = LW.degree_product u v in let x = hu.1 in let y = hv.1 in omega arith))) h.form k.form h.words k.words;
-      congruent = congruent_trans K F O.places P.ideal (times K a b) (times K (value K h.form values) (value K k.form values)) (value K (times K h.form k.form) values)
-          (congruent_times K F O.places P.ideal a (value K h.form values) b (value K k.form values) ha (value_poly P H S HS k.form k.poly) h.congruent k.congruent)
-          (congruent_same K F O.places P.ideal (times K (value K h.form values) (value K k.form values)) (value K (times K h.form k.form) values) (λ m. sym (value-times K F h.form k.form values m)));
+          (λ u v hu hv. (s_product P S u v hu.0 hv.0, (let p = (letter_laws P H S HS).degree_product u v in let x = hu.1 in let y = hv.1 in omega arith))) h.form k.form h.words k.words;
+      congruent = congruent_trans K F O.places P.ideal (times K a b) (times K (value K h.form (letter_values P S)) (value K k.form (letter_values P S))) (value K (times K h.form k.form) (letter_values P S))
+          (congruent_times K F O.places P.ideal a (value K h.form (letter_values P S)) b (value K k.form (letter_values P S)) ha (value_poly P H S HS k.form k.poly) h.congruent k.congruent)
+          (congruent_same K F O.places P.ideal (times K (value K h.form (letter_values P S)) (value K k.form (letter_values P S))) (value K (times K h.form k.form) (letter_values P S)) (λ m. sym (value-times K F h.form k.form (letter_values P S) m)));
     }
 
     reached_power : (d : ℕ) (f : Polynomial E) (e : ℕ) → IsPoly K O.places f → (1 ≤ e → IsReached d f) → IsReached (d * e) (power K f e)
@@ -195,14 +182,14 @@ module _ {E : Type 0} (P : Presented E) (H : IsPresentation P) (S : List (Polyno
 
     -- what is reached in degree at most c is a combination, and a graded combination is reached
     reached_combination : (D : ℕ) (a : Polynomial E) → D ≤ c → IsReached D a → IsCombination P S a
-    reached_combination D a le h = combination_congruent P H S HS (value K h.form values) a h.congruent (combination_linear P H S HS W.places values h.form h.poly
+    reached_combination D a le h = combination_congruent P H S HS (value K h.form (letter_values P S)) a h.congruent (combination_linear P H S HS (order_over P S).places (letter_values P S) h.form h.poly
         (AllAt-map (IsLow D) (λ w. IsCombination P S (word_value P S w)) (λ w x. word_combination w (record { monomial = x.0.0; degree = let d = x.1 in omega arith }) x.0) h.form h.words))
 
     combination_reached : (d : ℕ) (f : Polynomial E) → IsPoly K O.places f → IsGraded K F O L d f → IsCombination P S f → IsReached d f
     combination_reached d f hf gf h = record {
       form = h.sum;
-      poly = IsDecreasing_IsPoly K W h.sum h.irreducible.decreasing;
-      words = decreasing_all K F W LW (IsLow d) h.sum h.irreducible.decreasing (λ w k. (h.irreducible.words w k, sum_low P H S HS d f hf (λ m n. let e = gf m n in omega arith) h w k));
+      poly = IsDecreasing_IsPoly K (order_over P S) h.sum h.irreducible.decreasing;
+      words = decreasing_all K F (order_over P S) (letter_laws P H S HS) (IsLow d) h.sum h.irreducible.decreasing (λ w k. (h.irreducible.words w k, sum_low P H S HS d f hf (λ m n. let e = gf m n in omega arith) h w k));
       congruent = h.equal;
     }
 

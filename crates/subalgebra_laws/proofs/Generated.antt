@@ -8,7 +8,7 @@ use Rattle.word_field.specs.Field.{IsValue}
 use Rattle.monomial_order.specs.declared.terms.Term.{Term}
 use Rattle.monomial_order.specs.Monomial.{product, exponent, variable, Divides}
 use Rattle.monomial_order.specs.laws.Lists.{contains_cases, contains_none, contains_map}
-use Rattle.monomial_order.specs.laws.Monomial.{product_comm, product-one}
+use Rattle.monomial_order.specs.laws.Monomial.{product_comm, product-one, variable_divides}
 use Rattle.monomial_order.specs.laws.Cofactors.{cofactor, Divides-product, length-product_right}
 use Rattle.monomial_order.specs.laws.Comparing.{le_or_not, equal_or_not, some_exponent}
 use Rattle.word_laws.specs.Words.{word_order_of, image_of, IsWord, IsSWord}
@@ -30,14 +30,6 @@ use Rattle.subalgebra_laws.specs.Statements.{SWordsAreMembers, SumsOfSWordsAreMe
 use Rattle.subalgebra_laws.proofs.Letters.{value_variable, letter_degrees, letter_laws, are_letters, places_letters, s_one, s_product, letter, letter_word, letter_image, letter_value, element_monic, word_monic}
 use Rattle.polynomials.specs.laws.Coefficients.{constant_poly}
 use Rattle.subalgebra_laws.proofs.MonicProducts.{monic_lead}
-
-pub variable_divides : (i : ℕ) (u : List ℕ) → 1 ≤ exponent u i → Divides (variable i) u
-variable_divides zero [] h j = absurd (let z : exponent [] 0 ≡ 0 = refl in omega arith)
-variable_divides zero (e ∷ u) h zero = h
-variable_divides zero (e ∷ u) h (suc j) = omega arith
-variable_divides (suc i) [] h j = absurd (let z : exponent [] (suc i) ≡ 0 = refl in omega arith)
-variable_divides (suc i) (e ∷ u) h zero = omega arith
-variable_divides (suc i) (e ∷ u) h (suc j) = variable_divides i u h j
 
 -- in a word without x each x has the exponent 0
 none_before : (n : ℕ) (w : List ℕ) → sum (take n w) ≡ 0 → (i : ℕ) → i < n → exponent w i ≡ 0

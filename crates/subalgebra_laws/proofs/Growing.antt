@@ -12,7 +12,7 @@ use Rattle.monomial_order.specs.Monomial.{product, exponent, variable, IsTrimmed
 use Rattle.monomial_order.specs.MonomialOrder.{MonomialOrder, IsIncreasing}
 use Rattle.monomial_order.specs.Orders.{lex}
 use Rattle.monomial_order.specs.laws.Lists.{contains_none, contains_cases, contains_left}
-use Rattle.monomial_order.specs.laws.Monomial.{product-one, length-product}
+use Rattle.monomial_order.specs.laws.Monomial.{product-one, length-product, variable_divides}
 use Rattle.monomial_order.specs.laws.Cofactors.{cofactor, length-product_right}
 use Rattle.monomial_order.specs.laws.Comparing.{le_or_not, equal_or_not, some_exponent, not_below_self, divisor_degree}
 use Rattle.word_laws.specs.Words.{word_order_of, image_of, image, variables, lead_degrees, IsWord, IsSWord, IsSmaller}
@@ -29,7 +29,7 @@ use Rattle.subalgebra_laws.specs.Bases.{AreMonicElements, HasDegreesTo, HaveLead
 use Rattle.subalgebra_laws.specs.Statements.{ValuesStay, CombinationsStay, ElementsAreCombinations, MinimalWordsStay}
 use Rattle.subalgebra_laws.proofs.Letters.{order_over, letter_degrees, places_letters, letter, letter_word, letter_image, letter_value, are_letters, letter_laws, word_degree, word_monic}
 use Rattle.subalgebra_laws.proofs.Combinations.{combination_same, combination_congruent, combination_word, combination_linear, sum_low}
-use Rattle.subalgebra_laws.proofs.Generated.{variable_divides, generated_images, generator_poly}
+use Rattle.subalgebra_laws.proofs.Generated.{generated_images, generator_poly}
 use Rattle.subalgebra_laws.proofs.ReducedBases.{word_low}
 
 -- the last exponent of a trimmed list

@@ -60,6 +60,19 @@ module _ {E : Type 0} (P : Presented E) (H : IsPresentation P) where
     tail = tail;
   }
 
+  checked_element : (c : ℕ) (S : List (Polynomial E)) (s : Polynomial E) → IsCheckedElement P c S s →
+      ((m : List ℕ) → coefficient K s m ≢ K.zero → m ≢ lead_monomial s → ¬ LeadsSubalgebra P m) → IsElement P c s
+  checked_element c S s e tail = record {
+    decreasing = e.decreasing;
+    inside = e.inside;
+    monic = e.monic;
+    homogeneous = e.homogeneous;
+    at_least = e.at_least;
+    at_most = e.at_most;
+    standard = e.standard;
+    tail = tail;
+  }
+
   module _ (c : ℕ) (S : List (Polynomial E)) (dec : IsDecidedTo P c) (red : IsReducedBasis P c S) where
     HS : AreMonicElements P S
     HS = basis_monic c S red
@@ -156,41 +169,23 @@ module _ {E : Type 0} (P : Presented E) (H : IsPresentation P) where
       pub closed_leads : (m : List ℕ) → LeadsSubalgebra P m → IsGenerated (map lead_monomial S) m
       closed_leads m h = leads_generated P H S HS (O.degree m) (closed_decided P H c (O.degree m) closed.leads dec) (closed_combinations (O.degree m)) m h (omega arith)
 
-      raised : (d : ℕ) → c ≤ d → (s : Polynomial E) → IsElement P c s → IsElement P d s
-      raised d le s h = record {
-        decreasing = h.decreasing;
-        inside = h.inside;
-        monic = h.monic;
-        homogeneous = h.homogeneous;
-        at_least = h.at_least;
-        at_most = let a = h.at_most in omega arith;
-        standard = h.standard;
-        tail = h.tail;
-      }
-
       pub closed_basis : (d : ℕ) → c ≤ d → IsReducedBasis P d S
       closed_basis d le = record {
         increasing = red.increasing;
-        elements = λ s k. raised d le s (red.elements s k);
+        elements = λ s k. checked_element d S s (element_checked c d S s le (red.elements s k) (reduced_checked.elements s k).tail) (red.elements s k).tail;
         minimal = red.minimal;
         generates = λ m h l. closed_leads m h;
       }
 
   -- a basis that is checked element by element is the reduced basis
   pub checked_reduced : (c : ℕ) (S : List (Polynomial E)) → IsDecidedTo P c → IsCheckedBasis P c S → IsReducedBasis P c S
-  checked_reduced c S dec h = record { increasing = h.increasing; elements = λ s k. element s (h.elements s k); minimal = h.minimal; generates = generates }
-    where
-      generates : (m : List ℕ) → LeadsSubalgebra P m → O.degree m ≤ c → IsGenerated (map lead_monomial S) m
-      generates = leads_generated P H S (λ s k. let e = h.elements s k in record { decreasing = e.decreasing; monic = e.monic; positive = e.at_least }) c dec h.combinations
-
-      element : (s : Polynomial E) → IsCheckedElement P c S s → IsElement P c s
-      element s e = record {
-        decreasing = e.decreasing;
-        inside = e.inside;
-        monic = e.monic;
-        homogeneous = e.homogeneous;
-        at_least = e.at_least;
-        at_most = e.at_most;
-        standard = e.standard;
-        tail = λ m k ne l. e.tail m k ne (generates m l (let d = e.homogeneous.each m k in let a = e.at_most in omega arith));
+  checked_reduced c S dec h =
+      let generates = leads_generated P H S (λ s k. let e = h.elements s k in record { decreasing = e.decreasing; monic = e.monic; positive = e.at_least }) c dec h.combinations in
+      record {
+        increasing = h.increasing;
+        elements = λ s k.
+            let e = h.elements s k in
+            checked_element c S s e (λ m z ne l. e.tail m z ne (generates m l (let d = e.homogeneous.each m z in let a = e.at_most in omega arith)));
+        minimal = h.minimal;
+        generates = generates;
       }
