@@ -84,7 +84,7 @@ module _ {E : Type 0} (P : Presented E) (H : IsPresentation P) (S : List (Polyno
   pub have_top_words : SumsHaveTopWords P S
   have_top_words e h =
       ⊎_elim (λ none. inl none)
-      (λ r. inr (r.0, record { stands = r.1; greatest = λ v k ne. ⊎_elim (λ same. absurd (ne same)) (λ lt. lt) (all_found K F W LW (IsAtMost r.0) e r.3 v k) }))
+      (λ r. inr (r.0, record { nonzero = r.1; greatest = λ v k ne. ⊎_elim (λ same. absurd (ne same)) (λ lt. lt) (all_found K F W LW (IsAtMost r.0) e r.3 v k) }))
       (top e h.decreasing (decreasing_all K F W LW IsIrreducible e h.decreasing (λ w k. (h.words w k, h.irreducible w k))))
 
   pub some_top : (e : Polynomial E) → IsIrreducibleSum P S e → (v : List ℕ) → coefficient K e v ≢ K.zero → (w : List ℕ) × IsTopWord P S e w
@@ -140,12 +140,12 @@ module _ {E : Type 0} (P : Presented E) (H : IsPresentation P) (S : List (Polyno
     top_leads =
         let u = decreasing_all K F W LW (IsAtMost w) e h.decreasing under_top in
         let c = value_at w e (IsDecreasing_IsPoly K W e h.decreasing) u in
-        (record { nonzero = λ z. t.stands (sym c ∙ z); greatest = value_under w e u }, c)
+        (record { nonzero = λ z. t.nonzero (sym c ∙ z); greatest = value_under w e u }, c)
 
     -- no polynomial that equals the value modulo the ideal has only monomials below the image
     pub top_only : (a : Polynomial E) → IsPoly K O.places a → Congruent K O.places P.ideal a (value K e values) →
         ((n : List ℕ) → coefficient K a n ≢ K.zero → O.compare n (im w) ≡ Less) → ⊥
-    top_only a ha c below = h.irreducible w t.stands (inl (record {
+    top_only a ha c below = h.irreducible w t.nonzero (inl (record {
       member = minus K a (value K e values);
       poly = minus_poly K F O.places a (value K e values) ha (sum_poly e h);
       inside = c;
@@ -170,7 +170,7 @@ module _ {E : Type 0} (P : Presented E) (H : IsPresentation P) (S : List (Polyno
           by_lead m l =
               let out : LeadsIdeal P m = record { member = rest; poly = rest_poly; inside = congruent_sym K F O.places P.ideal (value K e values) b n.inside; leads = l } in
               ⊎_elim (λ lt. below_lead K F O L rest m (im w) l lt k c)
-              (λ r. absurd (⊎_elim (λ same. h.irreducible w t.stands (inl (subst (LeadsIdeal P) same out)))
+              (λ r. absurd (⊎_elim (λ same. h.irreducible w t.nonzero (inl (subst (LeadsIdeal P) same out)))
               (λ gt. ⊎_elim (λ y. (n.standard m y).no_lead out) (λ v. not_below_self O L m (below_lead K F O L (value K e values) (im w) m top_leads.0 gt m v))
               (minus_nonzero K F b (value K e values) m l.nonzero)) r))
               (three_ways O L m (im w))
@@ -187,7 +187,7 @@ module _ {E : Type 0} (P : Presented E) (H : IsPresentation P) (S : List (Polyno
   pub sums_unique : SumsAreUnique P S
   sums_unique a e g he hg ea ga =
       ⊎_elim (λ none. IsDecreasing_unique K F W LW e g he.decreasing hg.decreasing (minus_zero K F e g (λ m. sym (r.1.same m) ∙ ap (λ p. coefficient K p m) none)))
-      (λ t. absurd (hr.irreducible t.0 t.1.stands (inl (record { member = value K r.0 values; poly = sum_poly r.0 hr; inside = inside; leads = (top_leads r.0 t.0 hr t.1).0 }))))
+      (λ t. absurd (hr.irreducible t.0 t.1.nonzero (inl (record { member = value K r.0 values; poly = sum_poly r.0 hr; inside = inside; leads = (top_leads r.0 t.0 hr t.1).0 }))))
       (have_top_words r.0 hr)
     where
       r : (q : Polynomial E) × IsCanonicalForm K F W LW (minus K e g) q
@@ -289,5 +289,5 @@ module _ {E : Type 0} (P : Presented E) (H : IsPresentation P) (S : List (Polyno
           at = under_top f.sum w f.irreducible t v k
 
           less : im w ≡ im u → W.compare w u ≡ Less
-          less same = ⊎_elim (λ lt. lt) (λ r. absurd (f.irreducible.irreducible w t.stands
+          less same = ⊎_elim (λ lt. lt) (λ r. absurd (f.irreducible.irreducible w t.nonzero
               (⊎_elim (λ e. subst (IsReducibleWord P S) (sym e) red) (λ gt. inr (u, record { word = hu; image = sym same; less = gt })) r))) (three_ways W LW w u)

@@ -58,7 +58,7 @@ module _ {E : Type 0} (P : Presented E) (H : IsPresentation P) (S : List (Polyno
       by_top : (w : List ℕ) → IsTopWord P S f.sum w → IsGenerated (map lead_monomial S) m
       by_top w t =
           ⊎_elim (λ lt. absurd (top_least P H S HS f.sum w f.irreducible t a m ha f.equal la lt))
-          (λ r. ⊎_elim (λ same. generated_images P H S HS m w (f.irreducible.words w t.stands) (sym same))
+          (λ r. ⊎_elim (λ same. generated_images P H S HS m w (f.irreducible.words w t.nonzero) (sym same))
           (λ gt. absurd (only_lead (below_lead K F O L (negated K (value K f.sum (letter_values P S))) (image_of (letters P S) w) m
           (lead_negated K F O L (value K f.sum (letter_values P S)) (image_of (letters P S) w) (top_leads P H S HS f.sum w f.irreducible t).0) gt))) r)
           (three_ways O L m (image_of (letters P S) w))

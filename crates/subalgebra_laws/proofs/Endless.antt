@@ -97,7 +97,7 @@ right_side_sum = record {
 
 pub right_side_top : IsTopWord endless endless_basis endless_right_side s2_squared
 right_side_top = record {
-  stands = λ z. right_side_sum.decreasing.0.nonzero (sym (coefficient_first (residues 101) field (word_order_of (letters endless endless_basis)) (letter_laws endless presentation endless_basis monic)
+  nonzero = λ z. right_side_sum.decreasing.0.nonzero (sym (coefficient_first (residues 101) field (word_order_of (letters endless endless_basis)) (letter_laws endless presentation endless_basis monic)
       (term_of s2_squared 1) (term_of (0 ∷ (0 ∷ (0 ∷ (0 ∷ (0 ∷ (1 ∷ [])))))) 1 ∷ []) right_side_sum.decreasing.0) ∙ z);
   greatest = λ v k ne. ⊎_elim (λ e. absurd (ne e)) (λ e. subst (λ w. plane.compare (image_of (letters endless endless_basis) w) (2 ∷ (2 ∷ [])) ≡ Less) (sym e) refl)
       (all_found (residues 101) field (word_order_of (letters endless endless_basis)) (letter_laws endless presentation endless_basis monic)

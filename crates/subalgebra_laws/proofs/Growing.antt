@@ -8,7 +8,7 @@ use Rattle.std.specs.declared.cmp.Ordering.{Ordering}
 use Rattle.std.specs.declared.cmp.Ordering.TheVariants.{Less}
 use Rattle.word_field.specs.Field.{FieldOps}
 use Rattle.monomial_order.specs.declared.terms.Term.{Term}
-use Rattle.monomial_order.specs.Monomial.{product, exponent, variable, IsTrimmed, weighted_degree}
+use Rattle.monomial_order.specs.Monomial.{product, exponent, variable, IsMonomial, IsTrimmed, weighted_degree}
 use Rattle.monomial_order.specs.MonomialOrder.{MonomialOrder, IsIncreasing}
 use Rattle.monomial_order.specs.Orders.{lex}
 use Rattle.monomial_order.specs.laws.Lists.{contains_none, contains_cases, contains_left}
@@ -18,7 +18,7 @@ use Rattle.monomial_order.specs.laws.Comparing.{le_or_not, equal_or_not, some_ex
 use Rattle.word_laws.specs.Words.{word_order_of, image_of, image, variables, lead_degrees, IsWord, IsSWord, IsSmaller}
 use Rattle.word_laws.specs.laws.Words.{degree_same, s_smaller, s_divisor}
 use Rattle.word_laws.specs.laws.Images.{weighted_front, image_front, variable_trimmed, variable_length, length-variables}
-use Rattle.polynomials.specs.Polynomial.{Polynomial, coefficient, Same, term_of, times, constant, IsPoly, IsBelow, IsDecreasing, IsHomogeneous, lead_monomial}
+use Rattle.polynomials.specs.Polynomial.{Polynomial, coefficient, Same, term_of, times, constant, AllAt, IsPoly, IsBelow, IsDecreasing, IsHomogeneous, lead_monomial}
 use Rattle.polynomials.specs.Ideal.{Congruent}
 use Rattle.polynomials.specs.Value.{power, monomial_value, value, term_value}
 use Rattle.polynomials.specs.Subalgebra.{Presented, IsPresentation, LeadsIdeal, IsStandard, IsGenerated}
@@ -26,7 +26,7 @@ use Rattle.polynomials.specs.laws.Decreasing.{IsDecreasing_IsPoly}
 use Rattle.polynomials.specs.laws.Degrees.{decreasing_all}
 use Rattle.subalgebra_laws.specs.Words.{letters, letter_values, word_value, combination_value, IsReducibleWord, IsMinimalWord, IsIrreducibleSum, IsCombination}
 use Rattle.subalgebra_laws.specs.Bases.{AreMonicElements, HasDegreesTo, HaveLeadsFrom, HasCombinationsTo, AreAfter, AreStandardAfter}
-use Rattle.subalgebra_laws.specs.Statements.{ValuesStay, CombinationsStay, ElementsAreCombinations, MinimalWordsStay}
+use Rattle.subalgebra_laws.specs.Statements.{ValuesStay, SumsStay, SumsWithoutNewLettersStay, CombinationsStay, ElementsAreCombinations, MinimalWordsStay}
 use Rattle.subalgebra_laws.proofs.Letters.{order_over, letter_degrees, places_letters, letter, letter_word, letter_image, letter_value, are_letters, letter_laws, word_degree, word_monic}
 use Rattle.subalgebra_laws.proofs.Combinations.{combination_same, combination_congruent, combination_word, combination_linear, sum_low}
 use Rattle.subalgebra_laws.proofs.Generated.{generated_images, generator_poly}
@@ -43,6 +43,21 @@ monomial_value_front : {E : Type 0} (K : FieldOps E) (w : List ℕ) (fs gs : Lis
 monomial_value_front K [] fs gs l = refl
 monomial_value_front K (e ∷ w) [] gs l = absurd (omega arith)
 monomial_value_front K (e ∷ w) (f ∷ fs) gs l = ap (times K (power K f e)) (monomial_value_front K w fs gs (omega arith))
+
+-- a list that is decreasing in one order is so in another that compares its words in the same way
+decreasing_over : {E : Type 0} (K : FieldOps E) (O N : MonomialOrder) (Q : List ℕ → Type 0) → ((w : List ℕ) → Q w → IsMonomial N.places w) → ((v w : List ℕ) → Q v → Q w → N.compare v w ≡ O.compare v w) →
+    (p : Polynomial E) → AllAt Q p → IsDecreasing K O p → IsDecreasing K N p
+decreasing_over K O N Q word same [] h f = tt
+decreasing_over {E} K O N Q word same (t ∷ p) h f =
+    (record { term = record { monomial = word t.at h.0; value = f.0.term.value }; nonzero = f.0.nonzero; above = below p h.1 f.0.above }, decreasing_over K O N Q word same p h.1 f.1)
+  where
+    below : (p : Polynomial E) → AllAt Q p → IsBelow K O t.at p → IsBelow K N t.at p
+    below [] k b = tt
+    below (u ∷ p) k b = (same u.at t.at k.0 h.0 ∙ b.0, below p k.1 b.1)
+
+word_terms : {E : Type 0} (P : Presented E) (S : List (Polynomial E)) (p : Polynomial E) → IsPoly P.field (order_over P S).places p → AllAt (IsWord (letters P S)) p
+word_terms P S [] h = tt
+word_terms P S (t ∷ p) h = (h.0.monomial, word_terms P S p h.1)
 
 module _ {E : Type 0} (P : Presented E) (S T : List (Polynomial E)) where
   -- a word over S is one over S and T
@@ -74,6 +89,11 @@ module _ {E : Type 0} (P : Presented E) (S T : List (Polynomial E)) where
 
   pub value_stays : ValuesStay P S T
   value_stays w h = value_front w h.within
+
+  value_grows : (p : Polynomial E) → AllAt (IsWord (letters P S)) p → combination_value P (S ++ T) p ≡ combination_value P S p
+  value_grows [] h = refl
+  value_grows (t ∷ p) h =
+      ap (λ x. times P.field (constant P.field t.by) x ++ combination_value P (S ++ T) p) (value_stays t.at h.0) ∙ ap (λ x. term_value P.field (letter_values P S) t ++ x) (value_grows p h.1)
 
   -- what decides between words of one degree
   abbrev rest : List ℕ → List ℕ → Ordering
@@ -196,35 +216,34 @@ module _ {E : Type 0} (P : Presented E) (H : IsPresentation P) (S T : List (Poly
       (word_grows P S T u h.1.0, h.1.1),
     )
 
-    -- a combination of degree at most d stays one
-    falls_grows : (p : Polynomial E) → IsDecreasing K (order_over P S) p → IsDecreasing K (order_over P (S ++ T)) p
-    falls_grows [] f = tt
-    falls_grows (t ∷ p) f = (
-      record { term = record { monomial = word_grows P S T t.at f.0.term.monomial; value = f.0.term.value }; nonzero = f.0.nonzero; above = below_grows p (IsDecreasing_IsPoly K (order_over P S) p f.1) f.0.above },
-      falls_grows p f.1,
-    )
-      where
-        below_grows : (p : Polynomial E) → IsPoly K (order_over P S).places p → IsBelow K (order_over P S) t.at p → IsBelow K (order_over P (S ++ T)) t.at p
-        below_grows [] hp b = tt
-        below_grows (u ∷ p) hp b = (compare_stays P S T u.at t.at hp.0.monomial.within f.0.term.monomial.within ∙ b.0, below_grows p hp.1 b.1)
-
-    value_grows : (p : Polynomial E) → IsPoly K (order_over P S).places p → value K p (letter_values P (S ++ T)) ≡ value K p (letter_values P S)
-    value_grows [] hp = refl
-    value_grows (t ∷ p) hp =
-        ap (λ x. times K (constant K t.by) x ++ value K p (letter_values P (S ++ T))) (value_stays P S T t.at hp.0.monomial) ∙ ap (λ x. term_value K (letter_values P S) t ++ x) (value_grows p hp.1)
+    -- sums and combinations of degree at most d stay
+    pub sums_stay : SumsStay P S T d
+    sums_stay e h low =
+        let hp = IsDecreasing_IsPoly K (order_over P S) e h.decreasing in (
+          record {
+            decreasing = decreasing_over K (order_over P S) (order_over P (S ++ T)) (IsWord (letters P S)) (word_grows P S T) (λ v w hv hw. compare_stays P S T v w hv.within hw.within) e (word_terms P S e hp) h.decreasing;
+            words = λ w k. (word_grows P S T w (h.words w k).0, (h.words w k).1);
+            irreducible = λ w k r. h.irreducible w k (reducible_back w (h.words w k) (low w k) r);
+          },
+          value_grows P S T e (word_terms P S e hp),
+        )
 
     pub combination_grows : CombinationsStay P S T d
     combination_grows a ha low h =
-        let he = h.irreducible in
+        let s = sums_stay h.sum h.irreducible (sum_low P H S front_monic d a ha low h) in
+        record { sum = h.sum; irreducible = s.0; equal = subst (Congruent K O.places P.ideal a) (sym s.1) h.equal }
+
+  -- a sum without new letters is one over S
+  pub sums_back : SumsWithoutNewLettersStay P S T
+  sums_back e h old =
+      let words = decreasing_all K H.field (order_over P (S ++ T)) (letter_laws P H (S ++ T) HT) (IsWord (letters P S)) e h.decreasing old in (
         record {
-          sum = h.sum;
-          irreducible = record {
-            decreasing = falls_grows h.sum he.decreasing;
-            words = λ w k. (word_grows P S T w (he.words w k).0, (he.words w k).1);
-            irreducible = λ w k r. he.irreducible w k (reducible_back w (he.words w k) (sum_low P H S front_monic d a ha low h w k) r);
-          };
-          equal = subst (Congruent K O.places P.ideal a) (sym (value_grows h.sum (IsDecreasing_IsPoly K (order_over P S) h.sum he.decreasing))) h.equal;
-        }
+          decreasing = decreasing_over K (order_over P (S ++ T)) (order_over P S) (IsWord (letters P S)) (λ w hw. hw) (λ v w hv hw. sym (compare_stays P S T v w hv.within hw.within)) e words h.decreasing;
+          words = λ w k. (old w k, (h.words w k).1);
+          irreducible = λ w k r. h.irreducible w k (reducible_grows w (old w k) r);
+        },
+        value_grows P S T e words,
+      )
 
 -- elements that come after S, with standard leads that differ
 module _ {E : Type 0} (P : Presented E) (H : IsPresentation P) (d : ℕ) (S T : List (Polynomial E)) (A : AreStandardAfter P d S T) where

@@ -5,18 +5,18 @@ use Rattle.std.proofs.lemmas.List.{map-append, get_or-map, length-map}
 use Rattle.std.proofs.lemmas.List.Elements.{Contains-get_or}
 use Rattle.std.specs.declared.cmp.Ordering.TheVariants.{Less}
 use Rattle.monomial_order.specs.declared.terms.Term.{Term}
-use Rattle.monomial_order.specs.Monomial.{product}
+use Rattle.monomial_order.specs.Monomial.{product, IsMonomial}
 use Rattle.monomial_order.specs.laws.Lists.{contains_cases, contains_here, contains_there, contains_none, contains_map, contains_left, contains_right, contains_either}
 use Rattle.monomial_order.specs.laws.Monomial.{product-one}
-use Rattle.monomial_order.specs.laws.Comparing.{not_below_self, increasing_below, increasing_tail}
+use Rattle.monomial_order.specs.laws.Comparing.{three_ways, equal_or_not, some_exponent, not_below_self, increasing_below, increasing_tail}
 use Rattle.polynomials.specs.Polynomial.{Polynomial, lead_monomial}
 use Rattle.polynomials.specs.Subalgebra.{Presented, IsPresentation, AllIn, product_of, IsGenerated, IsReducedBasis}
 use Rattle.monomial_order.specs.MonomialOrder.{IsIncreasing}
 use Rattle.polynomials.specs.laws.ReducedBasis.{map_contains}
 use Rattle.subalgebra_laws.specs.Bases.{IsDecidedTo, HaveLeadsFrom, AreStandardAfter, AreNextTo, IsCheckedElement, IsCheckedBasis}
-use Rattle.subalgebra_laws.specs.Statements.{ProductsSplit, NextBasisIsReduced}
+use Rattle.subalgebra_laws.specs.Statements.{ProductsSplit, NextBasisIsReduced, FrontsAreReduced, IncreasingListsAreEqual}
 use Rattle.subalgebra_laws.proofs.Generated.{generated_leads}
-use Rattle.subalgebra_laws.proofs.ReducedBases.{basis_monic, basis_combinations, element_checked, checked_reduced}
+use Rattle.subalgebra_laws.proofs.ReducedBases.{basis_monic, basis_combinations, element_checked, element_moved, checked_reduced}
 use Rattle.subalgebra_laws.proofs.Growing.{next_combinations}
 
 -- a member of two lists in a row stands in the first or in the second
@@ -70,6 +70,25 @@ module _ {E : Type 0} (P : Presented E) (H : IsPresentation P) where
   increasing_append (m ∷ []) (n ∷ N) rm rn h = (h m n (contains_here m []) (contains_here n N), rn)
   increasing_append (m ∷ (l ∷ M)) N rm rn h = (rm.0, increasing_append (l ∷ M) N rm.1 rn (λ a b ka kb. h a b (contains_there m (l ∷ M) a ka) kb))
 
+  -- increasing lists with the same members are equal
+  pub increasing_equal : IncreasingListsAreEqual P
+  increasing_equal [] [] im in' h = refl
+  increasing_equal [] (n ∷ ns) im in' h = absurd (contains_none n ((h n).1 (contains_here n ns)))
+  increasing_equal (m ∷ ms) [] im in' h = absurd (contains_none m ((h m).0 (contains_here m ms)))
+  increasing_equal (m ∷ ms) (n ∷ ns) im in' h =
+      let same : m ≡ n = ⊎_elim (λ lt. absurd (not_before m n ns in' ((h m).0 (contains_here m ms)) lt))
+      (λ r. ⊎_elim (λ e. e) (λ gt. absurd (not_before n m ms im ((h n).1 (contains_here n ns)) gt)) r) (three_ways O L m n) in
+      ap (λ x. x ∷ ms) same ∙ ap (λ xs. n ∷ xs) (increasing_equal ms ns (increasing_tail O m ms im) (increasing_tail O n ns in')
+      (λ x. ((λ k. later m ms n ns im (sym same) x k ((h x).0 (contains_there m ms x k))), (λ k. later n ns m ms in' same x k ((h x).1 (contains_there n ns x k))))))
+    where
+      not_before : (m n : List ℕ) (ns : List (List ℕ)) → IsIncreasing O (n ∷ ns) → Contains (n ∷ ns) m → O.compare m n ≡ Less → ⊥
+      not_before m n ns i k lt = ⊎_elim (λ e. not_below_self O L n (subst (λ x. O.compare x n ≡ Less) (sym e) lt))
+          (λ j. not_below_self O L m (L.total.trans m n m lt (increasing_below O L n ns i m j))) (contains_cases n ns m k)
+
+      later : (m : List ℕ) (ms : List (List ℕ)) (n : List ℕ) (ns : List (List ℕ)) → IsIncreasing O (m ∷ ms) → n ≡ m → (x : List ℕ) → Contains ms x → Contains (n ∷ ns) x → Contains ns x
+      later m ms n ns i same x k j =
+          ⊎_elim (λ e. absurd (not_below_self O L x (subst (λ y. O.compare y x ≡ Less) (sym same ∙ e) (increasing_below O L m ms i x k)))) (λ r. r) (contains_cases n ns x j)
+
   -- the lead of an element has what each element's lead has
   of_lead : (Q : List ℕ → Type 0) (S : List (Polynomial E)) → ((s : Polynomial E) → Contains S s → Q (lead_monomial s)) → (m : List ℕ) → Contains (map lead_monomial S) m → Q m
   of_lead Q S h m k = let r = map_contains lead_monomial S m k in subst Q r.2 (h r.0 r.1)
@@ -101,6 +120,47 @@ module _ {E : Type 0} (P : Presented E) (H : IsPresentation P) where
         ⊎_elim (λ a. inl (record { factors = g.factors; members = a; product = g.product })) (λ b. inr (subst (Contains (map lead_monomial T)) g.product b))
         (split_factors g.factors g.members (let e : O.degree (product_of g.factors) ≡ O.degree m = ap O.degree g.product in omega arith))
 
+  -- the elements of degree at most d of the reduced basis to c
+  pub fronts_reduced : FrontsAreReduced P
+  fronts_reduced S T c d red le low high = record {
+    increasing = increasing_front (map lead_monomial S) (map lead_monomial T) (subst (IsIncreasing O) (map-append lead_monomial S T) red.increasing);
+    elements = λ s k. element_moved P H c d s (low s k) (red.elements s (contains_left S T s k));
+    minimal = λ before after s e g. red.minimal before (after ++ T) s (ap (λ X. X ++ T) e ∙ append_assoc before (s ∷ after) T)
+        (record { factors = g.factors; members = more before after g.factors g.members; product = g.product });
+    generates = λ m h l. ⊎_elim (λ g. g) (λ k. absurd (let z = of_lead (λ x. suc d ≤ O.degree x) T high m k in omega arith))
+        (products_split S T (suc d) (λ s k. (red.elements s k).at_least) high m (omega arith) (red.generates m h (omega arith)));
+  }
+    where
+      increasing_front : (M N : List (List ℕ)) → IsIncreasing O (M ++ N) → IsIncreasing O M
+      increasing_front [] N h = tt
+      increasing_front (m ∷ []) N h = tt
+      increasing_front (m ∷ (n ∷ M)) N h = (h.0, increasing_front (n ∷ M) N h.1)
+
+      more : (before after : List (Polynomial E)) (ms : List (List ℕ)) → AllIn (map lead_monomial (before ++ after)) ms → AllIn (map lead_monomial (before ++ (after ++ T))) ms
+      more before after [] h = tt
+      more before after (m ∷ ms) h = (
+        subst (λ X. Contains X m) (sym (map-append lead_monomial (before ++ after) T) ∙ ap (map lead_monomial) (append_assoc before after T))
+            (contains_left (map lead_monomial (before ++ after)) (map lead_monomial T) m h.0),
+        more before after ms h.1,
+      )
+
+  -- to the degree 0 there is nothing to generate
+  pub empty_reduced : IsReducedBasis P 0 []
+  empty_reduced = record {
+    increasing = tt;
+    elements = λ s k. absurd (contains_none s k);
+    minimal = λ before after s e. absurd (no_middle before s after e);
+    generates = λ m h l. record { factors = []; members = tt; product = sym (one m h.standard.monomial (omega arith)) };
+  }
+    where
+      no_middle : (before : List (Polynomial E)) (s : Polynomial E) (after : List (Polynomial E)) → [] ≡ before ++ (s ∷ after) → ⊥
+      no_middle [] s after e = cc
+      no_middle (x ∷ before) s after e = cc
+
+      one : (m : List ℕ) → IsMonomial O.places m → O.degree m ≡ 0 → m ≡ []
+      one m h e = ⊎_elim (λ same. same)
+          (λ ne. let x = some_exponent m h.trimmed ne in let x1 = x.1 in let x2 = x.2 in let w = h.within in let a = L.exponent_at_most m x.0 (omega arith) in absurd (omega arith)) (equal_or_not m [])
+
   module _ (S T : List (Polynomial E)) (c d : ℕ) (next : suc c ≡ d) (red : IsReducedBasis P c S) (N : AreNextTo P d S T) (elements : (t : Polynomial E) → Contains T t → IsCheckedElement P d (S ++ T) t) where
     -- of two parts of S and T
     positive : (R U : List (Polynomial E)) → ((s : Polynomial E) → Contains R s → Contains S s) → ((t : Polynomial E) → Contains U t → Contains T t) → HaveLeadsFrom P 1 (R ++ U)
@@ -115,7 +175,7 @@ module _ {E : Type 0} (P : Presented E) (H : IsPresentation P) where
     old_element : (s : Polynomial E) → Contains S s → IsCheckedElement P d (S ++ T) s
     old_element s k =
         let e = red.elements s k in
-        element_checked P H c d (S ++ T) s (omega arith) e (λ m z ne g. e.tail m z ne (generated_leads P H S (basis_monic P H c S red) (λ x i. (red.elements x i).inside) m (e.standard m z)
+        element_checked P H c d (S ++ T) s (let a = e.at_most in omega arith) e (λ m z ne g. e.tail m z ne (generated_leads P H S (basis_monic P H c S red) (λ x i. (red.elements x i).inside) m (e.standard m z)
         (old_product S (λ x i. i) m (let q = e.homogeneous.each m z in let a = e.at_most in omega arith) g)))
 
     old_minimal : (before rest : List (Polynomial E)) (s : Polynomial E) → S ≡ before ++ (s ∷ rest) → IsGenerated (map lead_monomial (before ++ (rest ++ T))) (lead_monomial s) → ⊥

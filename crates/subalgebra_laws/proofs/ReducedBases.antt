@@ -47,7 +47,7 @@ module _ {E : Type 0} (P : Presented E) (H : IsPresentation P) where
   leads_exactly c S red m generated = ((λ h. (h.standard, generated h)), (λ k. generated_leads P H S (basis_monic c S red) (λ s i. (red.elements s i).inside) m k.0 k.1))
 
   -- what is checked of an element, but for its tail
-  pub element_checked : (c d : ℕ) (S : List (Polynomial E)) (s : Polynomial E) → c ≤ d → IsElement P c s →
+  pub element_checked : (c d : ℕ) (S : List (Polynomial E)) (s : Polynomial E) → O.degree (lead_monomial s) ≤ d → IsElement P c s →
       ((m : List ℕ) → coefficient K s m ≢ K.zero → m ≢ lead_monomial s → ¬ IsGenerated (map lead_monomial S) m) → IsCheckedElement P d S s
   element_checked c d S s le e tail = record {
     decreasing = e.decreasing;
@@ -55,9 +55,21 @@ module _ {E : Type 0} (P : Presented E) (H : IsPresentation P) where
     monic = e.monic;
     homogeneous = e.homogeneous;
     at_least = e.at_least;
-    at_most = let a = e.at_most in omega arith;
+    at_most = le;
     standard = e.standard;
     tail = tail;
+  }
+
+  pub element_moved : (c d : ℕ) (s : Polynomial E) → O.degree (lead_monomial s) ≤ d → IsElement P c s → IsElement P d s
+  element_moved c d s le e = record {
+    decreasing = e.decreasing;
+    inside = e.inside;
+    monic = e.monic;
+    homogeneous = e.homogeneous;
+    at_least = e.at_least;
+    at_most = le;
+    standard = e.standard;
+    tail = e.tail;
   }
 
   checked_element : (c : ℕ) (S : List (Polynomial E)) (s : Polynomial E) → IsCheckedElement P c S s →
@@ -148,7 +160,7 @@ module _ {E : Type 0} (P : Presented E) (H : IsPresentation P) where
     pub reduced_checked : IsCheckedBasis P c S
     reduced_checked = record {
       increasing = red.increasing;
-      elements = λ s k. element_checked c c S s (omega arith) (red.elements s k)
+      elements = λ s k. element_checked c c S s (red.elements s k).at_most (red.elements s k)
           (λ m z ne g. (red.elements s k).tail m z ne (generated_leads P H S HS (λ x i. (red.elements x i).inside) m ((red.elements s k).standard m z) g));
       minimal = red.minimal;
       combinations = basis_combinations;
@@ -172,7 +184,7 @@ module _ {E : Type 0} (P : Presented E) (H : IsPresentation P) where
       pub closed_basis : (d : ℕ) → c ≤ d → IsReducedBasis P d S
       closed_basis d le = record {
         increasing = red.increasing;
-        elements = λ s k. checked_element d S s (element_checked c d S s le (red.elements s k) (reduced_checked.elements s k).tail) (red.elements s k).tail;
+        elements = λ s k. element_moved c d s (let a = (red.elements s k).at_most in omega arith) (red.elements s k);
         minimal = red.minimal;
         generates = λ m h l. closed_leads m h;
       }

@@ -1,26 +1,31 @@
--- A remainder modulo the subalgebra is unique.
-use Rattle.std.proofs.Common.{ℕ, refl, sym, ◌∙◌, List, ⊎_elim, append-nil, [], ap}
+-- A remainder modulo the subalgebra is unique; so are a sum of irreducible s-words and a rest that no product of leads leads.
+use Rattle.std.proofs.Common.{◌≡◌, ℕ, refl, sym, ◌∙◌, List, ◌++◌, ⊎_elim, append-nil, append_assoc, [], ap, subst}
+use Rattle.word_field.specs.Field.{FieldOps, IsField}
 use Rattle.monomial_order.specs.declared.terms.Term.{Term}
-use Rattle.polynomials.specs.Polynomial.{Polynomial, Same, negated, minus, IsLead, coefficient}
+use Rattle.polynomials.specs.Polynomial.{Polynomial, Same, times, constant, negated, minus, IsPoly, IsLead, coefficient}
+use Rattle.polynomials.specs.Ideal.{Congruent}
 use Rattle.polynomials.specs.Subalgebra.{Presented, IsPresentation, InSubalgebra, LeadsSubalgebra, IsStandard}
 use Rattle.polynomials.specs.laws.Canonical.{zero_or_lead}
-use Rattle.polynomials.specs.laws.Same.{append_same, append_comm}
-use Rattle.polynomials.specs.laws.Congruence.{congruent_same, minus_zero, minus_chain, negated-minus, minus_same}
+use Rattle.polynomials.specs.laws.Same.{append_same, append_comm, minus_self}
+use Rattle.polynomials.specs.laws.Congruence.{congruent_same, congruent_refl, congruent_trans, congruent_plus, congruent_negated, negated_is, minus_zero, minus_chain, negated-minus, minus_same}
 use Rattle.polynomials.specs.laws.Membership.{sub_congruent, sub_minus}
-use Rattle.subalgebra_laws.specs.Words.{IsSubductionRemainder}
+use Rattle.subalgebra_laws.specs.Words.{combination_value, IsIrreducibleSum, IsCombination, HasSumAndRest, IsSubductionRemainder}
+use Rattle.subalgebra_laws.specs.Bases.{AreMonicElements}
+use Rattle.subalgebra_laws.specs.Statements.{RestsDecideCombinations}
+use Rattle.subalgebra_laws.proofs.Combinations.{sums_unique, combination_congruent, combination_same, combination_plus, combination_multiple}
+use Rattle.subalgebra_laws.proofs.Criterion.{lead_generated}
 use Rattle.polynomials.specs.laws.Coefficients.{minus_poly, minus_nonzero, nothing_at}
 
-module _ {E : Type 0} (P : Presented E) (H : IsPresentation P) (a r q : Polynomial E) (hr : IsSubductionRemainder P a r) (hq : IsSubductionRemainder P a q) where
-  -- r - q is the difference of a - q and a - r
-  difference : Same P.field (minus P.field r q) (minus P.field (minus P.field a q) (minus P.field a r))
-  difference m =
-      sym (minus_chain P.field H.field r a q m) ∙
-      (append_comm P.field H.field (minus P.field r a) (minus P.field a q) m ∙
-      append_same P.field H.field (minus P.field a q) (minus P.field a q) (minus P.field r a) (negated P.field (minus P.field a r)) (λ i. refl) (λ i. sym (negated-minus P.field H.field a r i)) m)
+-- r - q is the difference of a - q and a - r
+difference : {E : Type 0} (K : FieldOps E) (F : IsField K) (a r q : Polynomial E) → Same K (minus K r q) (minus K (minus K a q) (minus K a r))
+difference K F a r q m =
+    sym (minus_chain K F r a q m) ∙ (append_comm K F (minus K r a) (minus K a q) m ∙
+    append_same K F (minus K a q) (minus K a q) (minus K r a) (negated K (minus K a r)) (λ i. refl) (λ i. sym (negated-minus K F a r i)) m)
 
+module _ {E : Type 0} (P : Presented E) (H : IsPresentation P) (a r q : Polynomial E) (hr : IsSubductionRemainder P a r) (hq : IsSubductionRemainder P a q) where
   inside : InSubalgebra P (minus P.field r q)
   inside = sub_congruent P H (minus P.field (minus P.field a q) (minus P.field a r)) (minus P.field r q) (sub_minus P H (minus P.field a q) (minus P.field a r) hq.inside hr.inside)
-      (congruent_same P.field H.field P.order.places P.ideal (minus P.field r q) (minus P.field (minus P.field a q) (minus P.field a r)) difference)
+      (congruent_same P.field H.field P.order.places P.ideal (minus P.field r q) (minus P.field (minus P.field a q) (minus P.field a r)) (difference P.field H.field a r q))
 
   no_lead : (m : List ℕ) → IsLead P.field P.order (minus P.field r q) m → ⊥
   no_lead m l =
@@ -56,3 +61,68 @@ module _ {E : Type 0} (P : Presented E) (H : IsPresentation P) (a r : Polynomial
       sub_congruent P H (minus P.field a r) a hr.inside
       (congruent_same P.field H.field P.order.places P.ideal a (minus P.field a r)
       (λ m. sym (minus_same P.field H.field a a r [] (λ i. refl) e m ∙ minus_nothing m)))
+
+module _ {E : Type 0} (P : Presented E) (H : IsPresentation P) (S : List (Polynomial E)) (HS : AreMonicElements P S) where
+  open P use {field as K, order as O}
+  open H use {field as F, order as L}
+
+  abbrev value_of : Polynomial E → Polynomial E
+  value_of e = combination_value P S e
+
+  -- the rest taken away
+  without_rest : (a v r : Polynomial E) → Congruent K O.places P.ideal a (v ++ r) → Congruent K O.places P.ideal (minus K a r) v
+  without_rest a v r c = congruent_trans K F O.places P.ideal (minus K a r) (minus K (v ++ r) r) v
+      (congruent_plus K F O.places P.ideal a (v ++ r) (negated K r) (negated K r) c (congruent_refl K F O.places P.ideal (negated K r)))
+      (congruent_same K F O.places P.ideal (minus K (v ++ r) r) v (λ m. ap (λ p. coefficient K p m) (append_assoc v r (negated K r)) ∙
+      (append_same K F v v (minus K r r) [] (λ i. refl) (minus_self K F r) m ∙ ap (λ p. coefficient K p m) (append-nil v))))
+
+  value_combination : (e : Polynomial E) → IsIrreducibleSum P S e → IsCombination P S (combination_value P S e)
+  value_combination e h = record { sum = e; irreducible = h; equal = congruent_refl K F O.places P.ideal (combination_value P S e) }
+
+  module _ (a e r f q : Polynomial E) (h : HasSumAndRest P S a e r) (k : HasSumAndRest P S a f q) where
+    -- the difference of the rests is a combination, so it is zero
+    difference_combination : IsCombination P S (minus K r q)
+    difference_combination =
+        combination_congruent P H S HS (minus K (value_of f) (value_of e)) (minus K r q)
+        (congruent_trans K F O.places P.ideal (minus K r q) (minus K (minus K a q) (minus K a r)) (minus K (value_of f) (value_of e))
+        (congruent_same K F O.places P.ideal (minus K r q) (minus K (minus K a q) (minus K a r)) (difference K F a r q))
+        (congruent_plus K F O.places P.ideal (minus K a q) (value_of f) (negated K (minus K a r)) (negated K (value_of e)) (without_rest a (value_of f) q k.equal)
+        (congruent_negated K F O.places P.ideal (minus K a r) (value_of e) (without_rest a (value_of e) r h.equal))))
+        (combination_plus P H S HS (value_of f) (negated K (value_of e)) (value_combination f k.sum)
+        (combination_same P H S HS (times K (constant K (K.negate K.one)) (value_of e)) (negated K (value_of e)) (negated_is K F (value_of e))
+        (combination_multiple P H S HS (K.negate K.one) (value_of e) (F.negate_value K.one) (value_combination e h.sum))))
+
+    rests_same : Same K r q
+    rests_same = minus_zero K F r q (⊎_elim (λ z. z) (λ l. absurd (by_lead l.0 l.1)) (zero_or_lead K F O L (minus K r q) poly))
+      where
+        poly : IsPoly K O.places (minus K r q)
+        poly = minus_poly K F O.places r q h.poly k.poly
+
+        by_lead : (m : List ℕ) → IsLead K O (minus K r q) m → ⊥
+        by_lead m l = ⊎_elim (λ x. let y = h.reduced m x in y.1 (lead_generated P H S HS (minus K r q) m poly difference_combination l y.0))
+            (λ x. let y = k.reduced m x in y.1 (lead_generated P H S HS (minus K r q) m poly difference_combination l y.0)) (minus_nonzero K F r q m l.nonzero)
+
+    pub sum_and_rest_unique : (e ≡ f) × Same K r q
+    sum_and_rest_unique = (
+      sums_unique P H S HS (minus K a r) e f h.sum k.sum (without_rest a (value_of e) r h.equal)
+          (congruent_trans K F O.places P.ideal (minus K a r) (minus K a q) (value_of f)
+          (congruent_same K F O.places P.ideal (minus K a r) (minus K a q) (minus_same K F a a r q (λ i. refl) rests_same)) (without_rest a (value_of f) q k.equal)),
+      rests_same,
+    )
+
+  -- a combination has no rest
+  pub rests_decide : RestsDecideCombinations P S
+  rests_decide a e r h = (
+    λ c. (sum_and_rest_unique a e r c.sum [] h (record {
+      sum = c.irreducible;
+      poly = tt;
+      reduced = λ m k. absurd (k (sym (nothing_at K m)));
+      equal = subst (Congruent K O.places P.ideal a) (sym (append-nil (value_of c.sum))) c.equal;
+    })).1,
+    λ z. record {
+      sum = e;
+      irreducible = h.sum;
+      equal = congruent_trans K F O.places P.ideal a (value_of e ++ r) (value_of e) h.equal
+          (congruent_same K F O.places P.ideal (value_of e ++ r) (value_of e) (λ m. append_same K F (value_of e) (value_of e) r [] (λ i. refl) z m ∙ ap (λ p. coefficient K p m) (append-nil (value_of e))));
+    },
+  )

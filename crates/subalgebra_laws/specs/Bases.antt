@@ -1,7 +1,7 @@
 -- Lists of elements: what is asked of them, what can be checked of them, and when no later degree brings anything new.
 use Rattle.std.specs.Prelude.{◌≡◌, ◌≢◌, ℕ, ◌<◌, ◌≤◌, ◌⊎◌, List, [], ◌∷◌, ◌++◌, length, get_or, map, Contains}
 use Rattle.monomial_order.specs.declared.terms.Term.{Term}
-use Rattle.monomial_order.specs.Monomial.{IsMonomial, Divides}
+use Rattle.monomial_order.specs.Monomial.{Exponents, IsMonomial, Divides}
 use Rattle.word_laws.specs.Words.{word_order_of, IsWord}
 use Rattle.polynomials.specs.Polynomial.{Polynomial, coefficient, IsDecreasing, IsHomogeneous, lead_monomial}
 use Rattle.polynomials.specs.Subalgebra.{Presented, InSubalgebra, LeadsIdeal, IsStandard, IsGenerated}
@@ -9,7 +9,7 @@ use Rattle.monomial_order.specs.MonomialOrder.{IsIncreasing}
 use Rattle.subalgebra_laws.specs.Words.{letters, word_value, IsReducibleWord, IsMinimalWord, IsCombination}
 
 module _ {E : Type 0} (P : Presented E) where
-  -- monic, in falling form, with a lead of positive degree
+  -- a monic and decreasing list with a lead of positive degree
   pub record IsMonicElement (s : Polynomial E) : Type 0 where
     pub decreasing : IsDecreasing P.field P.order s
     pub monic : coefficient P.field s (lead_monomial s) ≡ P.field.one
@@ -23,7 +23,7 @@ module _ {E : Type 0} (P : Presented E) where
 
   -- each monomial of a has a degree of at most d
   abbrev pub HasDegreesTo : ℕ → Polynomial E → Type 0
-  HasDegreesTo d a = (m : List ℕ) → coefficient P.field a m ≢ P.field.zero → P.order.degree m ≤ d
+  HasDegreesTo d a = (m : Exponents) → coefficient P.field a m ≢ P.field.zero → P.order.degree m ≤ d
 
   -- the leads of T have degrees of at least d
   abbrev pub HaveLeadsFrom : ℕ → List (Polynomial E) → Type 0
@@ -31,31 +31,31 @@ module _ {E : Type 0} (P : Presented E) where
 
   -- of each monomial of degree at most c it is known that it leads a member of the ideal, or that it leads none
   abbrev pub IsDecidedTo : ℕ → Type 0
-  IsDecidedTo c = (m : List ℕ) →
+  IsDecidedTo c = (m : Exponents) →
       IsMonomial P.order.places m → P.order.degree m ≤ c → LeadsIdeal P m ⊎ (LeadsIdeal P m → ⊥)
 
   -- zeros are leads of members of the ideal, and divide each such lead of degree at most c
-  pub record AreZerosTo (c : ℕ) (zeros : List (List ℕ)) : Type 0 where
-    pub lead : (n : List ℕ) → Contains zeros n → LeadsIdeal P n
-    pub divide : (m : List ℕ) → LeadsIdeal P m → P.order.degree m ≤ c →
-        (n : List ℕ) × Contains zeros n × Divides n m
+  pub record AreZerosTo (c : ℕ) (zeros : List Exponents) : Type 0 where
+    pub lead : (n : Exponents) → Contains zeros n → LeadsIdeal P n
+    pub divide : (m : Exponents) → LeadsIdeal P m → P.order.degree m ≤ c →
+        (n : Exponents) × Contains zeros n × Divides n m
 
   -- to the degree c the nonzero generators and the values of the minimal reducible s-words are combinations
   pub record HasCombinationsTo (c : ℕ) (S : List (Polynomial E)) : Type 0 where
     pub generators : (f : Polynomial E) (d : ℕ) →
         Contains P.generators f → IsHomogeneous P.field P.order d f → d ≤ c → IsCombination P S f
-    pub words : (u : List ℕ) →
+    pub words : (u : Exponents) →
         IsMinimalWord P S u → (word_order_of (letters P S)).degree u ≤ c → IsCombination P S (word_value P S u)
 
   -- each lead of a member of the ideal is a multiple of one of degree at most D
   abbrev pub IsIdealClosedAt : ℕ → Type 0
-  IsIdealClosedAt D = (m : List ℕ) →
-      LeadsIdeal P m → (n : List ℕ) × LeadsIdeal P n × Divides n m × (P.order.degree n ≤ D)
+  IsIdealClosedAt D = (m : Exponents) →
+      LeadsIdeal P m → (n : Exponents) × LeadsIdeal P n × Divides n m × (P.order.degree n ≤ D)
 
   -- each reducible word is a multiple of one of degree at most D
   abbrev pub AreReducibleWordsClosedAt : ℕ → List (Polynomial E) → Type 0
-  AreReducibleWordsClosedAt D S = (w : List ℕ) → IsWord (letters P S) w → IsReducibleWord P S w →
-      (v : List ℕ) × IsWord (letters P S) v × IsReducibleWord P S v × Divides v w ×
+  AreReducibleWordsClosedAt D S = (w : Exponents) → IsWord (letters P S) w → IsReducibleWord P S w →
+      (v : Exponents) × IsWord (letters P S) v × IsReducibleWord P S v × Divides v w ×
       ((word_order_of (letters P S)).degree v ≤ D)
 
   -- nothing new comes after the degree D
@@ -75,7 +75,8 @@ module _ {E : Type 0} (P : Presented E) where
   pub record AreStandardAfter (d : ℕ) (S T : List (Polynomial E)) : Type 0 where
     pub after : AreAfter d S T
     pub standard : (t : Polynomial E) → Contains T t → IsStandard P (lead_monomial t)
-    pub differ : (i j : ℕ) → i < length T → j < length T → lead_monomial (get_or T i []) ≡ lead_monomial (get_or T j []) → i ≡ j
+    pub differ : (i j : ℕ) → i < length T → j < length T →
+        lead_monomial (get_or T i []) ≡ lead_monomial (get_or T j []) → i ≡ j
 
   -- or they are increasing
   pub record AreNextTo (d : ℕ) (S T : List (Polynomial E)) : Type 0 where
@@ -91,8 +92,9 @@ module _ {E : Type 0} (P : Presented E) where
     pub homogeneous : IsHomogeneous P.field P.order (P.order.degree (lead_monomial s)) s
     pub at_least : 1 ≤ P.order.degree (lead_monomial s)
     pub at_most : P.order.degree (lead_monomial s) ≤ c
-    pub standard : (m : List ℕ) → coefficient P.field s m ≢ P.field.zero → IsStandard P m
-    pub tail : (m : List ℕ) → coefficient P.field s m ≢ P.field.zero → m ≢ lead_monomial s → ¬ IsGenerated (map lead_monomial S) m
+    pub standard : (m : Exponents) → coefficient P.field s m ≢ P.field.zero → IsStandard P m
+    pub tail : (m : Exponents) → coefficient P.field s m ≢ P.field.zero → m ≢ lead_monomial s →
+        ¬ IsGenerated (map lead_monomial S) m
 
   -- no lead of S is a product of the others
   abbrev pub HasMinimalLeads : List (Polynomial E) → Type 0

@@ -3,12 +3,13 @@ use Rattle.std.specs.Prelude.{◌≡◌, ◌≢◌, ℕ, suc, ◌≤◌, ◌⊎�
 use Rattle.std.specs.declared.cmp.Ordering.TheVariants.{Less}
 use Rattle.word_field.specs.Field.{IsValue}
 use Rattle.monomial_order.specs.declared.terms.Term.{Term}
+use Rattle.monomial_order.specs.MonomialOrder.{IsIncreasing}
 use Rattle.word_laws.specs.Words.{word_order_of, image_of, IsWord, IsSWord, IsLeast, IsReducible, IsMinimalReducible}
-use Rattle.monomial_order.specs.Monomial.{IsMultiple}
+use Rattle.monomial_order.specs.Monomial.{Exponents, IsMultiple}
 use Rattle.polynomials.specs.Polynomial.{Polynomial, coefficient, constant, times, Same, IsPoly, IsLead, IsHomogeneous, lead_monomial}
 use Rattle.polynomials.specs.Ideal.{Congruent}
 use Rattle.polynomials.specs.Subalgebra.{Presented, IsPresentation, InSubalgebra, LeadsIdeal, LeadsSubalgebra, IsStandard, IsNormalForm, IsGenerated, IsReducedBasis}
-use Rattle.subalgebra_laws.specs.Words.{letters, word_value, combination_value, IsReducibleWord, IsMinimalWord, IsIrreducibleSum, IsTopWord, IsCombination, IsSubductionRemainder}
+use Rattle.subalgebra_laws.specs.Words.{letters, word_value, combination_value, IsReducibleWord, IsMinimalWord, IsIrreducibleSum, IsTopWord, IsCombination, HasSumAndRest, IsSubductionRemainder}
 use Rattle.subalgebra_laws.specs.Bases.{AreMonicElements, AreMembers, HasDegreesTo, HaveLeadsFrom, IsDecidedTo, AreZerosTo, HasCombinationsTo, IsIdealClosedAt, IsClosedAt, AreAfter, AreStandardAfter, AreNextTo, IsCheckedElement, IsCheckedBasis}
 
 -- What a law holds of. E is the type of the coefficients.
@@ -64,13 +65,24 @@ module _ {E : Type 0} (P : Presented E) where
   RemaindersDecideMembership = (a r : Polynomial E) →
       IsSubductionRemainder P a r → InSubalgebra P a ↔ Same P.field r []
 
+  -- increasing lists with the same members are equal
+  abbrev pub IncreasingListsAreEqual : Type 0
+  IncreasingListsAreEqual = (ms ns : List Exponents) → IsIncreasing P.order ms → IsIncreasing P.order ns →
+      ((m : Exponents) → Contains ms m ↔ Contains ns m) → ms ≡ ns
+
+  -- the elements of degree at most d of the reduced basis to c are the reduced basis to d
+  abbrev pub FrontsAreReduced : Type 0
+  FrontsAreReduced = (S T : List (Polynomial E)) (c d : ℕ) → IsReducedBasis P c (S ++ T) → d ≤ c →
+      ((s : Polynomial E) → Contains S s → P.order.degree (lead_monomial s) ≤ d) → HaveLeadsFrom P (suc d) T →
+      IsReducedBasis P d S
+
   -- an ideal is decided to a degree exactly if it has a list of zeros to that degree
   abbrev pub ZerosDecide : Type 0
-  ZerosDecide = (c : ℕ) → IsDecidedTo P c ↔ ((zeros : List (List ℕ)) × AreZerosTo P c zeros)
+  ZerosDecide = (c : ℕ) → IsDecidedTo P c ↔ ((zeros : List Exponents) × AreZerosTo P c zeros)
 
   -- if the ideal is closed at D, what holds of it to D holds in every degree
   abbrev pub ClosedIdealsKeepZeros : Type 0
-  ClosedIdealsKeepZeros = (D c : ℕ) (zeros : List (List ℕ)) →
+  ClosedIdealsKeepZeros = (D c : ℕ) (zeros : List Exponents) →
       IsIdealClosedAt P D → AreZerosTo P D zeros → AreZerosTo P c zeros
 
   abbrev pub ClosedIdealsAreDecided : Type 0
@@ -85,31 +97,31 @@ module _ {E : Type 0} (P : Presented E) where
     -- a sum of irreducible s-words that is not empty has a word with the greatest image
     abbrev pub SumsHaveTopWords : Type 0
     SumsHaveTopWords = (e : Polynomial E) →
-        IsIrreducibleSum P S e → (e ≡ []) ⊎ ((w : List ℕ) × IsTopWord P S e w)
+        IsIrreducibleSum P S e → (e ≡ []) ⊎ ((w : Exponents) × IsTopWord P S e w)
 
     -- that image leads the value of the sum, with the coefficient of the word
     abbrev pub TopImagesLead : Type 0
-    TopImagesLead = (e : Polynomial E) (w : List ℕ) → IsIrreducibleSum P S e → IsTopWord P S e w →
+    TopImagesLead = (e : Polynomial E) (w : Exponents) → IsIrreducibleSum P S e → IsTopWord P S e w →
         IsLead P.field P.order (combination_value P S e) (image_of (letters P S) w) ×
         (coefficient P.field (combination_value P S e) (image_of (letters P S) w) ≡ coefficient P.field e w)
 
     -- it leads the normal form of the value likewise
     abbrev pub TopImagesLeadNormalForms : Type 0
-    TopImagesLeadNormalForms = (e b : Polynomial E) (w : List ℕ) →
+    TopImagesLeadNormalForms = (e b : Polynomial E) (w : Exponents) →
         IsIrreducibleSum P S e → IsTopWord P S e w → IsNormalForm P (combination_value P S e) b →
         IsLead P.field P.order b (image_of (letters P S) w) ×
         (coefficient P.field b (image_of (letters P S) w) ≡ coefficient P.field e w)
 
     -- and no polynomial that equals the value modulo the ideal has a lead below it
     abbrev pub TopImagesAreLeast : Type 0
-    TopImagesAreLeast = (e a : Polynomial E) (w m : List ℕ) →
+    TopImagesAreLeast = (e a : Polynomial E) (w m : Exponents) →
         IsIrreducibleSum P S e → IsTopWord P S e w → IsPoly P.field P.order.places a →
         Congruent P.field P.order.places P.ideal a (combination_value P S e) → IsLead P.field P.order a m →
         P.order.compare m (image_of (letters P S) w) ≢ Less
 
     -- a standard lead of a combination is a product of leads of S
     abbrev pub CombinationsHaveGeneratedLeads : Type 0
-    CombinationsHaveGeneratedLeads = (a : Polynomial E) (m : List ℕ) → IsPoly P.field P.order.places a →
+    CombinationsHaveGeneratedLeads = (a : Polynomial E) (m : Exponents) → IsPoly P.field P.order.places a →
         IsCombination P S a → IsLead P.field P.order a m → IsStandard P m → IsGenerated (map lead_monomial S) m
 
     -- a sum of irreducible s-words is determined by its value modulo the ideal
@@ -117,6 +129,14 @@ module _ {E : Type 0} (P : Presented E) where
     SumsAreUnique = (a e g : Polynomial E) → IsIrreducibleSum P S e → IsIrreducibleSum P S g →
         Congruent P.field P.order.places P.ideal a (combination_value P S e) →
         Congruent P.field P.order.places P.ideal a (combination_value P S g) → e ≡ g
+
+    -- a sum with a rest is unique, and a combination exactly if the rest is zero
+    abbrev pub SumsAndRestsAreUnique : Type 0
+    SumsAndRestsAreUnique = (a e r f q : Polynomial E) →
+        HasSumAndRest P S a e r → HasSumAndRest P S a f q → (e ≡ f) × Same P.field r q
+
+    abbrev pub RestsDecideCombinations : Type 0
+    RestsDecideCombinations = (a e r : Polynomial E) → HasSumAndRest P S a e r → IsCombination P S a ↔ Same P.field r []
 
     -- sums of combinations, multiples by constants and what is congruent to one are combinations
     abbrev pub SumsAreCombinations : Type 0
@@ -133,40 +153,43 @@ module _ {E : Type 0} (P : Presented E) where
 
     -- and so are the values of irreducible s-words
     abbrev pub IrreducibleWordsAreCombinations : Type 0
-    IrreducibleWordsAreCombinations = (w : List ℕ) →
+    IrreducibleWordsAreCombinations = (w : Exponents) →
         IsSWord (letters P S) w → ¬ IsReducibleWord P S w → IsCombination P S (word_value P S w)
 
     -- the products of leads are the images of s-words
     abbrev pub ProductsAreImages : Type 0
-    ProductsAreImages = (m : List ℕ) →
-        IsGenerated (map lead_monomial S) m ↔ ((w : List ℕ) × IsSWord (letters P S) w × (image_of (letters P S) w ≡ m))
+    ProductsAreImages = (m : Exponents) →
+        IsGenerated (map lead_monomial S) m ↔
+        ((w : Exponents) × IsSWord (letters P S) w × (image_of (letters P S) w ≡ m))
 
     -- the least word of a standard image is irreducible
     abbrev pub LeastWordsAreIrreducible : Type 0
-    LeastWordsAreIrreducible = (m w : List ℕ) →
+    LeastWordsAreIrreducible = (m w : Exponents) →
         IsLeast (letters P S) m w → IsStandard P m → ¬ IsReducibleWord P S w
 
     -- the values of s-words are members of the subalgebra
     abbrev pub SWordsAreMembers : Type 0
-    SWordsAreMembers = (w : List ℕ) → IsSWord (letters P S) w → InSubalgebra P (word_value P S w)
+    SWordsAreMembers = (w : Exponents) → IsSWord (letters P S) w → InSubalgebra P (word_value P S w)
 
     -- and so are the values of their sums
     abbrev pub SumsOfSWordsAreMembers : Type 0
     SumsOfSWordsAreMembers = (e : Polynomial E) → IsPoly P.field (word_order_of (letters P S)).places e →
-        ((w : List ℕ) → coefficient P.field e w ≢ P.field.zero → IsSWord (letters P S) w) →
+        ((w : Exponents) → coefficient P.field e w ≢ P.field.zero → IsSWord (letters P S) w) →
         InSubalgebra P (combination_value P S e)
 
     -- standard products of leads of S lead members of the subalgebra
     abbrev pub StandardProductsLead : Type 0
-    StandardProductsLead = (m : List ℕ) → IsStandard P m → IsGenerated (map lead_monomial S) m → LeadsSubalgebra P m
+    StandardProductsLead = (m : Exponents) →
+        IsStandard P m → IsGenerated (map lead_monomial S) m → LeadsSubalgebra P m
 
-    -- the criterion: each homogeneous member is a combination, and each lead of the subalgebra is generated, to the degree c
+    -- the criterion: to the degree c homogeneous members are combinations, and leads of the subalgebra are generated
     abbrev pub MembersAreCombinations : ℕ → Type 0
     MembersAreCombinations c = (a : Polynomial E) (d : ℕ) → IsPoly P.field P.order.places a →
         IsHomogeneous P.field P.order d a → d ≤ c → InSubalgebra P a → IsCombination P S a
 
     abbrev pub LeadsAreGenerated : ℕ → Type 0
-    LeadsAreGenerated c = (m : List ℕ) → LeadsSubalgebra P m → P.order.degree m ≤ c → IsGenerated (map lead_monomial S) m
+    LeadsAreGenerated c = (m : Exponents) →
+        LeadsSubalgebra P m → P.order.degree m ≤ c → IsGenerated (map lead_monomial S) m
 
     -- each member without a monomial above the degree c is a combination
     abbrev pub LowMembersAreCombinations : ℕ → Type 0
@@ -175,34 +198,46 @@ module _ {E : Type 0} (P : Presented E) where
 
     -- to the degree c the leads of the subalgebra are exactly the standard products of leads of S
     abbrev pub LeadsAreExactly : ℕ → Type 0
-    LeadsAreExactly c = (m : List ℕ) →
+    LeadsAreExactly c = (m : Exponents) →
         P.order.degree m ≤ c → LeadsSubalgebra P m ↔ (IsStandard P m × IsGenerated (map lead_monomial S) m)
 
     -- each word of degree at most c is reducible, or not
     abbrev pub WordsAreDecided : ℕ → Type 0
-    WordsAreDecided c = (w : List ℕ) → IsWord (letters P S) w → (word_order_of (letters P S)).degree w ≤ c →
+    WordsAreDecided c = (w : Exponents) → IsWord (letters P S) w → (word_order_of (letters P S)).degree w ≤ c →
         IsReducibleWord P S w ⊎ (IsReducibleWord P S w → ⊥)
 
-    -- in words of degree at most c the multiples of the zeros stand for the leads of the ideal
-    abbrev pub ZerosStandForTheIdeal : ℕ → List (List ℕ) → Type 0
-    ZerosStandForTheIdeal c zeros = (w : List ℕ) → (word_order_of (letters P S)).degree w ≤ c →
+    -- in words of degree at most c the multiples of the zeros represent the leads of the ideal
+    abbrev pub ZerosRepresentTheIdeal : ℕ → List Exponents → Type 0
+    ZerosRepresentTheIdeal c zeros = (w : Exponents) → (word_order_of (letters P S)).degree w ≤ c →
         (IsReducible (IsMultiple zeros) (letters P S) w ↔ IsReducibleWord P S w) ×
         (IsMinimalReducible (IsMultiple zeros) (letters P S) w ↔ IsMinimalReducible (LeadsIdeal P) (letters P S) w)
 
     module _ (T : List (Polynomial E)) where
       -- words over S keep their values
       abbrev pub ValuesStay : Type 0
-      ValuesStay = (w : List ℕ) → IsWord (letters P S) w → word_value P (S ++ T) w ≡ word_value P S w
+      ValuesStay = (w : Exponents) → IsWord (letters P S) w → word_value P (S ++ T) w ≡ word_value P S w
 
       -- to the degree d a product of leads is one of leads of S, or is a lead of T
       abbrev pub ProductsSplit : ℕ → Type 0
-      ProductsSplit d = (m : List ℕ) → P.order.degree m ≤ d → IsGenerated (map lead_monomial (S ++ T)) m →
+      ProductsSplit d = (m : Exponents) → P.order.degree m ≤ d → IsGenerated (map lead_monomial (S ++ T)) m →
           IsGenerated (map lead_monomial S) m ⊎ Contains (map lead_monomial T) m
 
       -- to the degree d combinations stay combinations
       abbrev pub CombinationsStay : ℕ → Type 0
       CombinationsStay d = (a : Polynomial E) → IsPoly P.field P.order.places a → HasDegreesTo P d a →
           IsCombination P S a → IsCombination P (S ++ T) a
+
+      -- and irreducible sums irreducible sums of the same value, if their words have degrees of at most d
+      abbrev pub SumsStay : ℕ → Type 0
+      SumsStay d = (e : Polynomial E) → IsIrreducibleSum P S e →
+          ((w : Exponents) → coefficient P.field e w ≢ P.field.zero → (word_order_of (letters P S)).degree w ≤ d) →
+          IsIrreducibleSum P (S ++ T) e × (combination_value P (S ++ T) e ≡ combination_value P S e)
+
+      -- an irreducible sum without a letter of T is one over S, of the same value
+      abbrev pub SumsWithoutNewLettersStay : Type 0
+      SumsWithoutNewLettersStay = (e : Polynomial E) → IsIrreducibleSum P (S ++ T) e →
+          ((w : Exponents) → coefficient P.field e w ≢ P.field.zero → IsWord (letters P S) w) →
+          IsIrreducibleSum P S e × (combination_value P (S ++ T) e ≡ combination_value P S e)
 
       -- so do combinations at S and other elements U of a degree of at least d, if these are combinations themselves
       abbrev pub EndsCanBeExchanged : ℕ → Type 0
@@ -218,7 +253,7 @@ module _ {E : Type 0} (P : Presented E) where
 
       -- to the degree d the minimal reducible s-words stay
       abbrev pub MinimalWordsStay : ℕ → Type 0
-      MinimalWordsStay d = (u : List ℕ) →
+      MinimalWordsStay d = (u : Exponents) →
           (word_order_of (letters P (S ++ T))).degree u ≤ d → IsMinimalWord P (S ++ T) u ↔ IsMinimalWord P S u
 
       -- The step to the next degree d: the reduced basis to c and checked elements of that degree are the reduced
@@ -228,6 +263,6 @@ module _ {E : Type 0} (P : Presented E) where
           ((t : Polynomial E) → Contains T t → IsCheckedElement P d (S ++ T) t) →
           ((f : Polynomial E) →
               Contains P.generators f → IsHomogeneous P.field P.order d f → IsCombination P (S ++ T) f) →
-          ((u : List ℕ) → IsMinimalWord P S u → (word_order_of (letters P S)).degree u ≡ d →
+          ((u : Exponents) → IsMinimalWord P S u → (word_order_of (letters P S)).degree u ≡ d →
               IsCombination P (S ++ T) (word_value P S u)) →
           IsReducedBasis P d (S ++ T)

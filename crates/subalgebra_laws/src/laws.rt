@@ -1,9 +1,10 @@
 //! The laws, over every presentation. `specs/Statements` has each law by its name.
-ghost use Rattle.std.specs.Prelude.{◌++◌, ◌≤◌, List, ℕ};
+ghost use Rattle.std.specs.Prelude.{[], ◌++◌, ◌≤◌, List, ℕ};
 ghost use Rattle.monomial_order.specs.declared.terms.Term.{Term};
+ghost use Rattle.monomial_order.specs.Monomial.{Exponents};
 ghost use Rattle.polynomials.specs.Subalgebra.{IsPresentation, IsReducedBasis, Presented};
 ghost use Rattle.subalgebra_laws.specs.Bases.{AreMonicElements, AreStandardAfter, AreZerosTo, HasCombinationsTo, HaveLeadsFrom, IsDecidedTo, IsIdealClosedAt};
-ghost use Rattle.subalgebra_laws.specs.Statements.{CheckingIsExact, ClosedIdealsAreDecided, ClosedIdealsKeepZeros, CombinationsHaveGeneratedLeads, CombinationsStay, CongruentAreCombinations, ElementsAreCombinations, EndsCanBeExchanged, ForClosedBases, ForDecidedIdeals, ForMonicElements, ForMonicMembers, ForNewElements, ForNextElements, ForPresentations, ForStandardElements, IrreducibleWordsAreCombinations, LeadsAreExactly, LeadsAreGenerated, LeastWordsAreIrreducible, LowMembersAreCombinations, MembersAreCombinations, MinimalWordsStay, MultiplesAreCombinations, NextBasisIsReduced, ProductsAreImages, ProductsSplit, RemaindersAreUnique, RemaindersDecideMembership, StandardProductsLead, SumsAreCombinations, SumsAreUnique, SumsHaveTopWords, SumsOfSWordsAreMembers, SWordsAreMembers, TopImagesAreLeast, TopImagesLead, TopImagesLeadNormalForms, ValuesStay, WordsAreDecided, ZerosDecide, ZerosStandForTheIdeal};
+ghost use Rattle.subalgebra_laws.specs.Statements.{CheckingIsExact, ClosedIdealsAreDecided, ClosedIdealsKeepZeros, CombinationsHaveGeneratedLeads, CombinationsStay, CongruentAreCombinations, ElementsAreCombinations, EndsCanBeExchanged, ForClosedBases, ForDecidedIdeals, ForMonicElements, ForMonicMembers, ForNewElements, ForNextElements, ForPresentations, ForStandardElements, FrontsAreReduced, IncreasingListsAreEqual, IrreducibleWordsAreCombinations, LeadsAreExactly, LeadsAreGenerated, LeastWordsAreIrreducible, LowMembersAreCombinations, MembersAreCombinations, MinimalWordsStay, MultiplesAreCombinations, NextBasisIsReduced, ProductsAreImages, ProductsSplit, RemaindersAreUnique, RemaindersDecideMembership, RestsDecideCombinations, StandardProductsLead, SumsAndRestsAreUnique, SumsAreCombinations, SumsAreUnique, SumsHaveTopWords, SumsOfSWordsAreMembers, SumsStay, SumsWithoutNewLettersStay, SWordsAreMembers, TopImagesAreLeast, TopImagesLead, TopImagesLeadNormalForms, ValuesStay, WordsAreDecided, ZerosDecide, ZerosRepresentTheIdeal};
 ghost use Rattle.polynomials.specs.Polynomial.{Polynomial};
 
 use word_field::Field;
@@ -33,11 +34,14 @@ pub fn words<F: Field>()
     ensures sums { ForMonicMembers F.Elem SumsOfSWordsAreMembers }
 {}
 
-/// So right sides and word sums are unique; and so are remainders, which are zero exactly for members.
+/// Sums of irreducible s-words are unique, with or without a rest. So are remainders, which are zero exactly for members.
 pub fn uniqueness<F: Field>()
     ensures sums { ForMonicElements F.Elem SumsAreUnique }
     ensures remainders { ForPresentations F.Elem RemaindersAreUnique }
     ensures members { ForPresentations F.Elem RemaindersDecideMembership }
+    ensures rests { ForMonicElements F.Elem SumsAndRestsAreUnique }
+    ensures combinations { ForMonicElements F.Elem RestsDecideCombinations }
+    ensures lists { ForPresentations F.Elem IncreasingListsAreEqual }
 {}
 
 /// The criterion to a degree: it is enough that generators and minimal reducible s-words are combinations.
@@ -54,6 +58,9 @@ pub fn growing<F: Field>()
     ensures products { (P : Presented F.Elem) (S T : List (Polynomial F.Elem)) (d : ℕ) →
         IsPresentation P → AreMonicElements P (S ++ T) → HaveLeadsFrom P d T → ProductsSplit P S T d }
     ensures combinations { ForNewElements F.Elem CombinationsStay }
+    ensures sums { ForNewElements F.Elem SumsStay }
+    ensures old_sums { (P : Presented F.Elem) (S T : List (Polynomial F.Elem)) →
+        IsPresentation P → AreMonicElements P (S ++ T) → SumsWithoutNewLettersStay P S T }
     ensures ends { ForNewElements F.Elem EndsCanBeExchanged }
     ensures elements { ForStandardElements F.Elem ElementsAreCombinations }
     ensures minimal { ForStandardElements F.Elem MinimalWordsStay }
@@ -76,14 +83,20 @@ pub fn closed_basis<F: Field>()
     ensures basis { ForClosedBases F.Elem (λ P S D c. D ≤ c → IsReducedBasis P c S) }
 {}
 
+/// Reduced bases to lower degrees.
+pub fn lower_bases<F: Field>()
+    ensures empty { ForPresentations F.Elem (λ P. IsReducedBasis P 0 []) }
+    ensures fronts { ForPresentations F.Elem FrontsAreReduced }
+{}
+
 /// What is known of the leads of the ideal decides which words are reducible.
 pub fn decisions<F: Field>()
     ensures words { ForDecidedIdeals F.Elem (λ P S c. AreMonicElements P S → WordsAreDecided P S c) }
     ensures all_words { ForDecidedIdeals F.Elem (λ P S D.
         AreMonicElements P S → IsIdealClosedAt P D → (c : ℕ) → WordsAreDecided P S c) }
     ensures zeros { ForPresentations F.Elem ZerosDecide }
-    ensures zero_words { ForMonicElements F.Elem (λ P S. (c : ℕ) (zeros : List (List ℕ)) →
-        AreZerosTo P c zeros → ZerosStandForTheIdeal P S c zeros) }
+    ensures zero_words { ForMonicElements F.Elem (λ P S. (c : ℕ) (zeros : List Exponents) →
+        AreZerosTo P c zeros → ZerosRepresentTheIdeal P S c zeros) }
     ensures all_zeros { ForPresentations F.Elem ClosedIdealsKeepZeros }
     ensures all_monomials { ForPresentations F.Elem ClosedIdealsAreDecided }
 {}

@@ -6,7 +6,7 @@ ghost use Rattle.polynomials.specs.Ideal.{Congruent};
 ghost use Rattle.polynomials.specs.Subalgebra.{IsGenerated, IsReducedBasis};
 ghost use Rattle.subalgebra_laws.specs.Words.{combination_value, IsCombination, IsIrreducibleSum, word_value};
 ghost use Rattle.subalgebra_laws.specs.Samples.{endless, endless_basis, endless_right_side, endless_word, quotient, quotient_basis, square, squares, sum_xy, x_times_y};
-ghost use Rattle.subalgebra_laws.specs.Statements.{LeadsAreExactly, LeadsAreGenerated, LowMembersAreCombinations, MembersAreCombinations, WordsAreDecided, ZerosStandForTheIdeal};
+ghost use Rattle.subalgebra_laws.specs.Statements.{LeadsAreExactly, LeadsAreGenerated, LowMembersAreCombinations, MembersAreCombinations, WordsAreDecided, ZerosRepresentTheIdeal};
 
 use crate::laws;
 use word_field::WordField;
@@ -30,9 +30,11 @@ pub fn endless_to_degree_4()
     ensures leads { LeadsAreGenerated endless endless_basis 4 }
     ensures products { IsGenerated (map lead_monomial endless_basis) (2 ∷ (2 ∷ [])) }
     ensures sums { IsCombination endless endless_basis (sum_xy ++ x_times_y 1) }
-    ensures lead { IsLead endless.field endless.order (combination_value endless endless_basis endless_right_side) (2 ∷ (2 ∷ [])) }
+    ensures lead {
+        IsLead endless.field endless.order (combination_value endless endless_basis endless_right_side) (2 ∷ (2 ∷ [])) }
     ensures right_side { (e : Polynomial ℕ) → IsIrreducibleSum endless endless_basis e →
-        Congruent endless.field endless.order.places endless.ideal (word_value endless endless_basis endless_word) (combination_value endless endless_basis e) →
+        Congruent endless.field endless.order.places endless.ideal
+            (word_value endless endless_basis endless_word) (combination_value endless endless_basis e) →
         e ≡ endless_right_side }
 {
     laws::checked_basis::<WordField>();
@@ -48,7 +50,7 @@ pub fn endless_to_degree_4()
 pub fn quotient_to_degree_3()
     ensures basis { IsReducedBasis quotient 3 quotient_basis }
     ensures members { LowMembersAreCombinations quotient quotient_basis 3 }
-    ensures zeros { ZerosStandForTheIdeal quotient quotient_basis 3 ((2 ∷ []) ∷ []) }
+    ensures zeros { ZerosRepresentTheIdeal quotient quotient_basis 3 ((2 ∷ []) ∷ []) }
 {
     laws::checked_basis::<WordField>();
     laws::subduction::<WordField>();
