@@ -4,7 +4,7 @@ use Rattle.std.specs.Prelude.{nat_eq}
 use Rattle.std.proofs.lemmas.Bool.{eqb-true, eq-eqb}
 use Rattle.std.specs.declared.cmp.Ordering.TheVariants.{Less}
 use Rattle.word_field.specs.Field.{FieldOps, IsField, IsValue}
-use Rattle.word_field.specs.laws.Field.{zero-plus-zero, times-zero, negate-zero}
+use Rattle.word_field.specs.laws.Field.{zero-plus-zero, times-zero, negate-zero, negate-negate}
 use Rattle.monomial_order.specs.declared.terms.Term.{Term}
 use Rattle.monomial_order.specs.Monomial.{product, IsMonomial}
 use Rattle.monomial_order.specs.MonomialOrder.{MonomialOrder, IsMonomialOrder}
@@ -19,7 +19,7 @@ use Rattle.polynomials.specs.laws.Degrees.{all_found, component-append, coeffici
 use Rattle.polynomials.specs.laws.Ideal.{IsPoly-append, IsPoly-negated}
 use Rattle.polynomials.specs.laws.Coefficients.{sum_nonzero, minus_nonzero}
 use Rattle.polynomials.specs.laws.Terms.{AllAt-append}
-use Rattle.polynomials.specs.laws.Congruence.{coefficient-minus, negate_negate, congruent_refl, congruent_plus, congruent_negated, congruent_member}
+use Rattle.polynomials.specs.laws.Congruence.{coefficient-minus, congruent_refl, congruent_plus, congruent_negated, congruent_member}
 
 -- different monomials are told apart
 pub same_false : (m n : List ℕ) → m ≢ n → same_monomial m n ≡ false
@@ -73,7 +73,7 @@ module _ {E : Type 0} (K : FieldOps E) (F : IsField K) where
 module _ {E : Type 0} (K : FieldOps E) (F : IsField K) (O : MonomialOrder) (L : IsMonomialOrder O) where
   pub lead_negated : (p : Polynomial E) (m : List ℕ) → IsLead K O p m → IsLead K O (negated K p) m
   lead_negated p m h = record {
-    nonzero = λ z. h.nonzero (sym (negate_negate K F (coefficient K p m) ∙ coefficient_value K F p m) ∙ (ap K.negate (sym (coefficient-negated K F p m) ∙ z) ∙ negate-zero K F));
+    nonzero = λ z. h.nonzero (sym (negate-negate K F (coefficient K p m) ∙ coefficient_value K F p m) ∙ (ap K.negate (sym (coefficient-negated K F p m) ∙ z) ∙ negate-zero K F));
     greatest = λ n c ne. h.greatest n (negated_nonzero K F p n c) ne;
   }
 
