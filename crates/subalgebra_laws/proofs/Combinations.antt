@@ -1,9 +1,7 @@
 -- Sums of irreducible s-words: the greatest image leads the value, so such a sum is determined by its value modulo the ideal.
 use Rattle.std.proofs.Common.{◌≡◌, ◌≢◌, ℕ, ◌≤◌, refl, sym, ◌∙◌, ap, subst, List, [], ◌∷◌, ◌++◌, ◌⊎◌, inl, inr, ⊎_elim, append-nil, arith, cond}
 use Rattle.std.specs.declared.cmp.Ordering.TheVariants.{Less}
-use Rattle.word_field.specs.Field.{IsValue}
 use Rattle.word_field.specs.laws.Field.{times-zero, zero-plus}
-use Rattle.monomial_order.specs.declared.terms.Term.{Term}
 use Rattle.monomial_order.specs.MonomialOrder.{MonomialOrder, IsMonomialOrder}
 use Rattle.word_laws.specs.Words.{word_order_of, image_of, IsWord, IsSWord}
 use Rattle.monomial_order.specs.laws.Comparing.{not_below_self, three_ways, equal_or_not, le_or_not, degree_falls}
@@ -21,7 +19,7 @@ use Rattle.polynomials.specs.laws.Degrees.{all_found, decreasing_all}
 use Rattle.polynomials.specs.laws.Ideal.{IsPoly-append, IsPoly-scaled, InIdeal_same}
 use Rattle.polynomials.specs.laws.Congruence.{congruent_same, congruent_refl, congruent_sym, congruent_trans, congruent_plus, congruent_times_left, minus_zero}
 use Rattle.polynomials.specs.laws.Membership.{IsPoly-value, ArePolys, value-negated}
-use Rattle.subalgebra_laws.specs.Words.{letters, letter_values, word_value, combination_value, IsReducibleWord, IsIrreducibleSum, IsTopWord, IsCombination}
+use Rattle.subalgebra_laws.specs.Words.{letters, letter_values, word_value, IsReducibleWord, IsIrreducibleSum, IsTopWord, IsCombination}
 use Rattle.subalgebra_laws.specs.Bases.{AreMonicElements, HasDegreesTo}
 use Rattle.subalgebra_laws.specs.Statements.{SumsHaveTopWords, SumsAreUnique, SumsAreCombinations, MultiplesAreCombinations, CongruentAreCombinations, IrreducibleWordsAreCombinations}
 use Rattle.polynomials.specs.laws.Coefficients.{nothing_at, single_term, times_one, constant_poly, minus_poly, minus_nonzero, minus_back, lead_sum_right}

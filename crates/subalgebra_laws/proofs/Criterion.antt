@@ -1,5 +1,5 @@
 -- The criterion to a degree: generators and minimal reducible s-words that are combinations make each member one.
-use Rattle.std.proofs.Common.{◌≡◌, ◌≢◌, ℕ, zero, suc, ◌+◌, ◌*◌, ◌≤◌, refl, sym, ◌∙◌, ap, subst, List, [], ◌∷◌, ◌++◌, ◌⊎◌, inl, inr, ⊎_elim, length, arith, Bool, true, false}
+use Rattle.std.proofs.Common.{◌≡◌, ◌≢◌, ℕ, zero, suc, ◌+◌, ◌*◌, ◌≤◌, refl, sym, ◌∙◌, ap, subst, List, [], ◌∷◌, inl, inr, ⊎_elim, length, arith, Bool, true, false}
 use Rattle.std.specs.Prelude.{map, Contains, nat_eq}
 use Rattle.std.proofs.Math.Nat.{mul-le-mul_left}
 use Rattle.std.proofs.lemmas.Bool.{eqb-true, eq-eqb, true≢false}
@@ -11,7 +11,7 @@ use Rattle.monomial_order.specs.laws.Lists.{contains_here, contains_there}
 use Rattle.monomial_order.specs.laws.Cofactors.{cofactor, length-product_right, Divides-product}
 use Rattle.monomial_order.specs.laws.Comparing.{three_ways, degree_falls, degree_one, divisor_degree}
 use Rattle.monomial_order.specs.laws.Rank.{IsWithin, below_induction}
-use Rattle.word_laws.specs.Words.{word_order_of, image_of, IsWord, IsSWord}
+use Rattle.word_laws.specs.Words.{image_of, IsWord, IsSWord}
 use Rattle.word_laws.specs.laws.Words.{image_times, s_divisor}
 use Rattle.polynomials.specs.Polynomial.{Polynomial, coefficient, term_of, times, scaled, negated, minus, constant, component, AllAt, IsTerm, IsPoly, lead_monomial}
 use Rattle.polynomials.specs.Ideal.{InIdeal, Congruent}

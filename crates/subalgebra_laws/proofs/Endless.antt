@@ -1,12 +1,12 @@
 -- The subalgebra that x + y, xy and xy^2 generate, to the degree 4.
-use Rattle.std.proofs.Common.{◌≡◌, ◌≢◌, ℕ, ◌+◌, ◌≤◌, refl, sym, ◌∙◌, ap, subst, List, [], ◌∷◌, ◌++◌, ◌⊎◌, inl, inr, ⊎_elim, arith, false}
+use Rattle.std.proofs.Common.{◌≡◌, ◌≢◌, ℕ, ◌≤◌, refl, sym, ◌∙◌, ap, subst, List, [], ◌∷◌, ◌++◌, ◌⊎◌, inl, inr, ⊎_elim, arith, false}
 use Rattle.std.specs.Prelude.{Contains, map}
 use Rattle.std.specs.declared.cmp.Ordering.TheVariants.{Less}
 use Rattle.word_field.specs.Residues.{residues}
-use Rattle.monomial_order.specs.Monomial.{exponent, IsMonomial}
-use Rattle.monomial_order.specs.laws.Lists.{contains_here, contains_there}
+use Rattle.monomial_order.specs.Monomial.{IsMonomial}
+use Rattle.monomial_order.specs.laws.Lists.{contains_here}
 use Rattle.word_laws.specs.Words.{word_order_of, image_of, IsSWord}
-use Rattle.polynomials.specs.Polynomial.{Polynomial, IsHomogeneous, coefficient, Same, term_of, AllAt, IsDecreasing, lead_monomial}
+use Rattle.polynomials.specs.Polynomial.{Polynomial, IsHomogeneous, coefficient, Same, term_of, lead_monomial}
 use Rattle.polynomials.specs.Ideal.{Congruent}
 use Rattle.polynomials.specs.Value.{value}
 use Rattle.polynomials.specs.Subalgebra.{IsPresentation, IsGenerator, InSubalgebra, LeadsIdeal, IsStandard, IsGenerated}
@@ -21,7 +21,7 @@ use Rattle.subalgebra_laws.proofs.Letters.{letter_laws}
 use Rattle.subalgebra_laws.proofs.Combinations.{IsIrreducible, combination_same, combination_word}
 use Rattle.subalgebra_laws.proofs.Growing.{front_monic}
 use Rattle.subalgebra_laws.proofs.Generated.{generator_sub}
-use Rattle.subalgebra_laws.proofs.SampleTools.{EachOf, each_of, each_part, reducible_listed, same_checked, first_homogeneous, first_monic, first_checked, not_generated, no_leads}
+use Rattle.subalgebra_laws.proofs.SampleTools.{each_of, each_part, reducible_listed, same_checked, first_homogeneous, first_monic, first_checked, not_generated, no_leads}
 
 pub presentation : IsPresentation endless
 presentation = record {
@@ -110,10 +110,13 @@ relation = congruent_same (residues 101) field 2 [] (word_value endless endless_
 -- each generator is the value of its letter
 pub combinations : HasCombinationsTo endless 4 endless_basis
 combinations = record {
-  generators = λ f d k h le. each_of (IsCombination endless endless_basis) endless.generators
-      (letter sum_xy (0 ∷ (0 ∷ (1 ∷ []))) (record { trimmed = λ e. cc; within = omega arith }, refl) (omega arith) (λ e. cc) (λ m. refl),
-      (letter (x_times_y 1) (0 ∷ (0 ∷ (0 ∷ (1 ∷ [])))) (record { trimmed = λ e. cc; within = omega arith }, refl) (omega arith) (λ e. cc) (λ m. refl),
-      (letter (x_times_y 2) (0 ∷ (0 ∷ (0 ∷ (0 ∷ (1 ∷ []))))) (record { trimmed = λ e. cc; within = omega arith }, refl) (omega arith) (λ e. cc) (λ m. refl), tt))) f k;
+  generators = λ f d k h le. each_of (IsCombination endless endless_basis) endless.generators (
+    letter sum_xy (0 ∷ (0 ∷ (1 ∷ []))) (record { trimmed = λ e. cc; within = omega arith }, refl) (omega arith) (λ e. cc) (λ m. refl),
+    (
+      letter (x_times_y 1) (0 ∷ (0 ∷ (0 ∷ (1 ∷ [])))) (record { trimmed = λ e. cc; within = omega arith }, refl) (omega arith) (λ e. cc) (λ m. refl),
+      (letter (x_times_y 2) (0 ∷ (0 ∷ (0 ∷ (0 ∷ (1 ∷ []))))) (record { trimmed = λ e. cc; within = omega arith }, refl) (omega arith) (λ e. cc) (λ m. refl), tt),
+    ),
+  ) f k;
   words = λ u h le. subst (λ w. IsCombination endless endless_basis (word_value endless endless_basis w)) (sym (reducible_is u h.1 le h.0.reducible)) (record { sum = endless_right_side; irreducible = right_side_sum; equal = relation });
 }
   where
@@ -123,10 +126,13 @@ combinations = record {
 
 start_combinations : HasCombinationsTo endless 3 endless.generators
 start_combinations = record {
-  generators = λ f d k h le. each_of (IsCombination endless endless.generators) endless.generators
-      (letter sum_xy (0 ∷ (0 ∷ (1 ∷ []))) (record { trimmed = λ e. cc; within = omega arith }, refl) (omega arith) (λ e. cc) (λ m. refl),
-      (letter (x_times_y 1) (0 ∷ (0 ∷ (0 ∷ (1 ∷ [])))) (record { trimmed = λ e. cc; within = omega arith }, refl) (omega arith) (λ e. cc) (λ m. refl),
-      (letter (x_times_y 2) (0 ∷ (0 ∷ (0 ∷ (0 ∷ (1 ∷ []))))) (record { trimmed = λ e. cc; within = omega arith }, refl) (omega arith) (λ e. cc) (λ m. refl), tt))) f k;
+  generators = λ f d k h le. each_of (IsCombination endless endless.generators) endless.generators (
+    letter sum_xy (0 ∷ (0 ∷ (1 ∷ []))) (record { trimmed = λ e. cc; within = omega arith }, refl) (omega arith) (λ e. cc) (λ m. refl),
+    (
+      letter (x_times_y 1) (0 ∷ (0 ∷ (0 ∷ (1 ∷ [])))) (record { trimmed = λ e. cc; within = omega arith }, refl) (omega arith) (λ e. cc) (λ m. refl),
+      (letter (x_times_y 2) (0 ∷ (0 ∷ (0 ∷ (0 ∷ (1 ∷ []))))) (record { trimmed = λ e. cc; within = omega arith }, refl) (omega arith) (λ e. cc) (λ m. refl), tt),
+    ),
+  ) f k;
   words = λ u h le.
       let four : (word_order_of (letters endless endless.generators)).degree u ≡ 4 = ap (word_order_of (letters endless endless.generators)).degree (start_reducible_is u h.1 (omega arith) h.0.reducible) in
       absurd (omega arith);
@@ -169,16 +175,22 @@ next_to = record {
 pub start_checked : IsCheckedBasis endless 3 endless.generators
 start_checked = record {
   increasing = (refl, (refl, tt));
-  elements = each_of (IsCheckedElement endless 3 endless.generators) endless.generators
-      (first_checked endless presentation (term_of (1 ∷ []) 1) (term_of (0 ∷ (1 ∷ [])) 1 ∷ []) sum_decreasing refl 3 endless.generators (generator_sub endless presentation sum_xy (contains_here sum_xy (x_times_y 1 ∷ (x_times_y 2 ∷ []))))
-      (refl, (refl, tt)) (omega arith) (omega arith) (standard (1 ∷ []) sum_decreasing.0.term.monomial, (standard (0 ∷ (1 ∷ [])) sum_decreasing.1.0.term.monomial, tt))
-      (not_generated (map lead_monomial endless.generators) (refl, (refl, (refl, tt))) (0 ∷ (1 ∷ [])) (omega arith) (λ e. cc) ((λ e. cc), ((λ e. cc), ((λ e. cc), tt))), tt),
-      (product_element 3 endless.generators 1 (omega arith) (generator_sub endless presentation (x_times_y 1) (1, omega arith, refl)) (omega arith),
-      (product_element 3 endless.generators 2 (omega arith) (generator_sub endless presentation (x_times_y 2) (2, omega arith, refl)) (omega arith), tt)));
-  minimal = each_part (λ before s after. IsGenerated (map lead_monomial (before ++ after)) (lead_monomial s) → ⊥) endless.generators
-      (not_generated ((1 ∷ (1 ∷ [])) ∷ ((1 ∷ (2 ∷ [])) ∷ [])) (refl, (refl, tt)) (1 ∷ []) (omega arith) (λ e. cc) ((λ e. cc), ((λ e. cc), tt)),
-      (not_generated ((1 ∷ []) ∷ ((1 ∷ (2 ∷ [])) ∷ [])) (refl, (refl, tt)) (1 ∷ (1 ∷ [])) (omega arith) (λ e. cc) ((λ e. cc), ((λ e. cc), tt)),
-      (not_generated ((1 ∷ []) ∷ ((1 ∷ (1 ∷ [])) ∷ [])) (refl, (refl, tt)) (1 ∷ (2 ∷ [])) (omega arith) (λ e. cc) ((λ e. cc), ((λ e. cc), tt)), tt)));
+  elements = each_of (IsCheckedElement endless 3 endless.generators) endless.generators (
+    first_checked endless presentation (term_of (1 ∷ []) 1) (term_of (0 ∷ (1 ∷ [])) 1 ∷ []) sum_decreasing refl 3 endless.generators (generator_sub endless presentation sum_xy (contains_here sum_xy (x_times_y 1 ∷ (x_times_y 2 ∷ []))))
+        (refl, (refl, tt)) (omega arith) (omega arith) (standard (1 ∷ []) sum_decreasing.0.term.monomial, (standard (0 ∷ (1 ∷ [])) sum_decreasing.1.0.term.monomial, tt))
+        (not_generated (map lead_monomial endless.generators) (refl, (refl, (refl, tt))) (0 ∷ (1 ∷ [])) (omega arith) (λ e. cc) ((λ e. cc), ((λ e. cc), ((λ e. cc), tt))), tt),
+    (
+      product_element 3 endless.generators 1 (omega arith) (generator_sub endless presentation (x_times_y 1) (1, omega arith, refl)) (omega arith),
+      (product_element 3 endless.generators 2 (omega arith) (generator_sub endless presentation (x_times_y 2) (2, omega arith, refl)) (omega arith), tt),
+    ),
+  );
+  minimal = each_part (λ before s after. IsGenerated (map lead_monomial (before ++ after)) (lead_monomial s) → ⊥) endless.generators (
+    not_generated ((1 ∷ (1 ∷ [])) ∷ ((1 ∷ (2 ∷ [])) ∷ [])) (refl, (refl, tt)) (1 ∷ []) (omega arith) (λ e. cc) ((λ e. cc), ((λ e. cc), tt)),
+    (
+      not_generated ((1 ∷ []) ∷ ((1 ∷ (2 ∷ [])) ∷ [])) (refl, (refl, tt)) (1 ∷ (1 ∷ [])) (omega arith) (λ e. cc) ((λ e. cc), ((λ e. cc), tt)),
+      (not_generated ((1 ∷ []) ∷ ((1 ∷ (1 ∷ [])) ∷ [])) (refl, (refl, tt)) (1 ∷ (2 ∷ [])) (omega arith) (λ e. cc) ((λ e. cc), ((λ e. cc), tt)), tt),
+    ),
+  );
   combinations = start_combinations;
 }
 

@@ -1,10 +1,9 @@
 -- From the reduced basis to one degree to that of the next.
 use Rattle.std.proofs.Common.{◌≡◌, ℕ, zero, suc, ◌<◌, ◌≤◌, refl, sym, ◌∙◌, ap, subst, List, [], ◌∷◌, ◌++◌, ◌⊎◌, inl, inr, ⊎_elim, length, get_or, append_assoc, arith}
 use Rattle.std.specs.Prelude.{map, Contains}
-use Rattle.std.proofs.lemmas.List.{map-append, get_or-map, length-map}
+use Rattle.std.proofs.lemmas.List.{map-append}
 use Rattle.std.proofs.lemmas.List.Elements.{Contains-get_or}
 use Rattle.std.specs.declared.cmp.Ordering.TheVariants.{Less}
-use Rattle.monomial_order.specs.declared.terms.Term.{Term}
 use Rattle.monomial_order.specs.Monomial.{product, IsMonomial}
 use Rattle.monomial_order.specs.laws.Lists.{contains_cases, contains_here, contains_there, contains_none, contains_map, contains_left, contains_right, contains_either}
 use Rattle.monomial_order.specs.laws.Monomial.{product-one}
@@ -13,7 +12,7 @@ use Rattle.polynomials.specs.Polynomial.{Polynomial, lead_monomial}
 use Rattle.polynomials.specs.Subalgebra.{Presented, IsPresentation, AllIn, product_of, IsGenerated, IsReducedBasis}
 use Rattle.monomial_order.specs.MonomialOrder.{IsIncreasing}
 use Rattle.polynomials.specs.laws.ReducedBasis.{map_contains}
-use Rattle.subalgebra_laws.specs.Bases.{IsDecidedTo, HaveLeadsFrom, AreStandardAfter, AreNextTo, IsCheckedElement, IsCheckedBasis}
+use Rattle.subalgebra_laws.specs.Bases.{HaveLeadsFrom, AreStandardAfter, AreNextTo, IsCheckedElement}
 use Rattle.subalgebra_laws.specs.Statements.{ProductsSplit, NextBasisIsReduced, FrontsAreReduced, IncreasingListsAreEqual}
 use Rattle.subalgebra_laws.proofs.Generated.{generated_leads}
 use Rattle.subalgebra_laws.proofs.ReducedBases.{basis_monic, basis_combinations, element_checked, element_moved, checked_reduced}

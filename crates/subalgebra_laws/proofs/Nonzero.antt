@@ -1,25 +1,22 @@
 -- Polynomials alone: which coefficients of sums, multiples and components are nonzero, and their leads.
-use Rattle.std.proofs.Common.{◌≡◌, ◌≢◌, ℕ, refl, sym, ◌∙◌, ap, subst, List, [], ◌∷◌, ◌++◌, ◌⊎◌, inl, inr, ⊎_elim, append-nil, arith, cond, Bool, true, false}
+use Rattle.std.proofs.Common.{◌≡◌, ◌≢◌, ℕ, refl, sym, ◌∙◌, ap, subst, List, [], ◌∷◌, ◌++◌, ◌⊎◌, ⊎_elim, cond, true, false}
 use Rattle.std.specs.Prelude.{nat_eq}
 use Rattle.std.proofs.lemmas.Bool.{eqb-true, eq-eqb}
 use Rattle.std.specs.declared.cmp.Ordering.TheVariants.{Less}
 use Rattle.word_field.specs.Field.{FieldOps, IsField, IsValue}
-use Rattle.word_field.specs.laws.Field.{zero-plus-zero, times-zero, negate-zero, negate-negate}
+use Rattle.word_field.specs.laws.Field.{times-zero, negate-zero, negate-negate}
 use Rattle.monomial_order.specs.declared.terms.Term.{Term}
-use Rattle.monomial_order.specs.Monomial.{product, IsMonomial}
+use Rattle.monomial_order.specs.Monomial.{product}
 use Rattle.monomial_order.specs.MonomialOrder.{MonomialOrder, IsMonomialOrder}
 use Rattle.monomial_order.specs.laws.Comparing.{not_below_self, equal_or_not}
-use Rattle.polynomials.specs.Polynomial.{Polynomial, same_monomial, coefficient, Same, term_of, scaled, times, negated, minus, constant, component, AllAt, IsPoly, IsLead, IsHomogeneous}
-use Rattle.polynomials.specs.Ideal.{InIdeal, Congruent}
-use Rattle.polynomials.specs.laws.Ring.{coefficient_value, coefficient-append, times_comm}
-use Rattle.polynomials.specs.laws.Same.{same_true, append_comm, coefficient-negated}
-use Rattle.polynomials.specs.laws.Value.{one_times, coefficient-constant_times}
-use Rattle.polynomials.specs.laws.Canonical.{IsLead_same}
-use Rattle.polynomials.specs.laws.Degrees.{all_found, component-append, coefficient-component}
-use Rattle.polynomials.specs.laws.Ideal.{IsPoly-append, IsPoly-negated}
+use Rattle.polynomials.specs.Polynomial.{Polynomial, same_monomial, coefficient, term_of, scaled, times, negated, minus, constant, component, AllAt, IsLead, IsHomogeneous}
+use Rattle.polynomials.specs.laws.Ring.{coefficient_value, coefficient-append}
+use Rattle.polynomials.specs.laws.Same.{same_true, coefficient-negated}
+use Rattle.polynomials.specs.laws.Value.{coefficient-constant_times}
+use Rattle.polynomials.specs.laws.Degrees.{component-append, coefficient-component}
 use Rattle.polynomials.specs.laws.Coefficients.{sum_nonzero, minus_nonzero}
 use Rattle.polynomials.specs.laws.Terms.{AllAt-append}
-use Rattle.polynomials.specs.laws.Congruence.{coefficient-minus, congruent_refl, congruent_plus, congruent_negated, congruent_member}
+use Rattle.polynomials.specs.laws.Congruence.{coefficient-minus}
 
 -- different monomials are told apart
 pub same_false : (m n : List ℕ) → m ≢ n → same_monomial m n ≡ false

@@ -1,7 +1,6 @@
 -- The leads of an ideal that one polynomial generates are the multiples of its lead.
 use Rattle.std.proofs.Common.{◌≡◌, ℕ, refl, sym, ◌∙◌, ap, subst, List, [], ◌∷◌, ◌++◌, ⊎_elim, append-nil}
 use Rattle.std.specs.Prelude.{Contains}
-use Rattle.monomial_order.specs.declared.terms.Term.{Term}
 use Rattle.monomial_order.specs.Monomial.{product}
 use Rattle.monomial_order.specs.laws.Lists.{contains_cases, contains_here, contains_none}
 use Rattle.polynomials.specs.Polynomial.{Polynomial, coefficient, Same, times, constant, IsPoly, IsLead}

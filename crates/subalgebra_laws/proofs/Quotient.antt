@@ -1,5 +1,5 @@
 -- The subalgebra that x + y generates modulo x^2 - y^2, to the degree 3.
-use Rattle.std.proofs.Common.{◌≡◌, ◌≢◌, ℕ, zero, suc, ◌+◌, ◌≤◌, refl, sym, ◌∙◌, ap, subst, List, [], ◌∷◌, ◌++◌, ◌⊎◌, inl, inr, ⊎_elim, arith, Bool, true}
+use Rattle.std.proofs.Common.{◌≡◌, ◌≢◌, ℕ, zero, suc, ◌+◌, ◌≤◌, refl, sym, ap, subst, List, [], ◌∷◌, ◌++◌, ◌⊎◌, inl, inr, ⊎_elim, arith, true}
 use Rattle.std.specs.Prelude.{map, nat_le}
 use Rattle.std.proofs.lemmas.Bool.Decides.{nat_tests}
 use Rattle.word_field.specs.Residues.{residues}
@@ -90,10 +90,13 @@ second_decreasing : IsDecreasing (residues 101) plane (sum_times_y 2)
 second_decreasing = sum_times_decreasing 2 (omega arith) refl
 
 pub monic : AreMonicElements quotient quotient_basis
-monic = each_of (IsMonicElement quotient) quotient_basis
-    (first_monic quotient presentation (term_of (1 ∷ []) 1) (term_of (0 ∷ (1 ∷ [])) 1 ∷ []) sum_decreasing refl (omega arith),
-    (first_monic quotient presentation (term_of (1 ∷ (1 ∷ [])) 1) (term_of (0 ∷ (2 ∷ [])) 1 ∷ []) first_decreasing refl (omega arith),
-    (first_monic quotient presentation (term_of (1 ∷ (2 ∷ [])) 1) (term_of (0 ∷ (3 ∷ [])) 1 ∷ []) second_decreasing refl (omega arith), tt)))
+monic = each_of (IsMonicElement quotient) quotient_basis (
+  first_monic quotient presentation (term_of (1 ∷ []) 1) (term_of (0 ∷ (1 ∷ [])) 1 ∷ []) sum_decreasing refl (omega arith),
+  (
+    first_monic quotient presentation (term_of (1 ∷ (1 ∷ [])) 1) (term_of (0 ∷ (2 ∷ [])) 1 ∷ []) first_decreasing refl (omega arith),
+    (first_monic quotient presentation (term_of (1 ∷ (2 ∷ [])) 1) (term_of (0 ∷ (3 ∷ [])) 1 ∷ []) second_decreasing refl (omega arith), tt),
+  ),
+)
 
 -- the words s_1^2, s_1*s_2 and s_1^3 are the reducible ones of degree at most 3
 abbrev s1_squared : List ℕ
@@ -169,9 +172,11 @@ second_relation = twice s1_s2 (0 ∷ (0 ∷ (0 ∷ (0 ∷ (1 ∷ []))))) (term_o
 
 combinations : HasCombinationsTo quotient 3 quotient_basis
 combinations = record {
-  generators = λ f d k h le. each_of (IsCombination quotient quotient_basis) quotient.generators
-      (combination_same quotient presentation quotient_basis monic (word_value quotient quotient_basis (0 ∷ (0 ∷ (1 ∷ [])))) sum_xy (λ m. refl)
-      (word_combination (0 ∷ (0 ∷ (1 ∷ []))) (record { trimmed = λ e. cc; within = omega arith }, refl) (omega arith) ((λ e. cc), ((λ e. cc), ((λ e. cc), tt)))), tt) f k;
+  generators = λ f d k h le. each_of (IsCombination quotient quotient_basis) quotient.generators (
+    combination_same quotient presentation quotient_basis monic (word_value quotient quotient_basis (0 ∷ (0 ∷ (1 ∷ [])))) sum_xy (λ m. refl)
+        (word_combination (0 ∷ (0 ∷ (1 ∷ []))) (record { trimmed = λ e. cc; within = omega arith }, refl) (omega arith) ((λ e. cc), ((λ e. cc), ((λ e. cc), tt)))),
+    tt,
+  ) f k;
   words = λ u h le.
       ⊎_elim (λ e. subst (λ w. IsCombination quotient quotient_basis (word_value quotient quotient_basis w)) (sym e) first_relation)
       (λ e. subst (λ w. IsCombination quotient quotient_basis (word_value quotient quotient_basis w)) (sym e) second_relation) (minimal_is u h le);
@@ -211,13 +216,19 @@ element x j f inside one same low high = first_checked quotient presentation (te
 pub checked : IsCheckedBasis quotient 3 quotient_basis
 checked = record {
   increasing = (refl, (refl, tt));
-  elements = each_of (IsCheckedElement quotient 3 quotient_basis) quotient_basis
-      (element (1 ∷ []) 1 sum_decreasing (generator_sub quotient presentation sum_xy (contains_here sum_xy [])) refl refl (omega arith) (omega arith),
-      (element (1 ∷ (1 ∷ [])) 2 first_decreasing first_inside refl refl (omega arith) (omega arith),
-      (element (1 ∷ (2 ∷ [])) 3 second_decreasing second_inside refl refl (omega arith) (omega arith), tt)));
-  minimal = each_part (λ before s after. IsGenerated (map lead_monomial (before ++ after)) (lead_monomial s) → ⊥) quotient_basis
-      (not_generated ((1 ∷ (1 ∷ [])) ∷ ((1 ∷ (2 ∷ [])) ∷ [])) (refl, (refl, tt)) (1 ∷ []) (omega arith) (λ e. cc) ((λ e. cc), ((λ e. cc), tt)),
-      (not_generated ((1 ∷ []) ∷ ((1 ∷ (2 ∷ [])) ∷ [])) (refl, (refl, tt)) (1 ∷ (1 ∷ [])) (omega arith) (λ e. cc) ((λ e. cc), ((λ e. cc), tt)),
-      (not_generated ((1 ∷ []) ∷ ((1 ∷ (1 ∷ [])) ∷ [])) (refl, (refl, tt)) (1 ∷ (2 ∷ [])) (omega arith) (λ e. cc) ((λ e. cc), ((λ e. cc), tt)), tt)));
+  elements = each_of (IsCheckedElement quotient 3 quotient_basis) quotient_basis (
+    element (1 ∷ []) 1 sum_decreasing (generator_sub quotient presentation sum_xy (contains_here sum_xy [])) refl refl (omega arith) (omega arith),
+    (
+      element (1 ∷ (1 ∷ [])) 2 first_decreasing first_inside refl refl (omega arith) (omega arith),
+      (element (1 ∷ (2 ∷ [])) 3 second_decreasing second_inside refl refl (omega arith) (omega arith), tt),
+    ),
+  );
+  minimal = each_part (λ before s after. IsGenerated (map lead_monomial (before ++ after)) (lead_monomial s) → ⊥) quotient_basis (
+    not_generated ((1 ∷ (1 ∷ [])) ∷ ((1 ∷ (2 ∷ [])) ∷ [])) (refl, (refl, tt)) (1 ∷ []) (omega arith) (λ e. cc) ((λ e. cc), ((λ e. cc), tt)),
+    (
+      not_generated ((1 ∷ []) ∷ ((1 ∷ (2 ∷ [])) ∷ [])) (refl, (refl, tt)) (1 ∷ (1 ∷ [])) (omega arith) (λ e. cc) ((λ e. cc), ((λ e. cc), tt)),
+      (not_generated ((1 ∷ []) ∷ ((1 ∷ (1 ∷ [])) ∷ [])) (refl, (refl, tt)) (1 ∷ (2 ∷ [])) (omega arith) (λ e. cc) ((λ e. cc), ((λ e. cc), tt)), tt),
+    ),
+  );
   combinations = combinations;
 }

@@ -3,7 +3,6 @@
 use Rattle.std.proofs.Common.{◌≡◌, ◌≢◌, ℕ, ◌≤◌, ◌↔◌, refl, sym, ◌∙◌, ap, subst, List, [], ◌++◌, ⊎_elim, arith}
 use Rattle.std.specs.Prelude.{map}
 use Rattle.std.specs.declared.cmp.Ordering.TheVariants.{Less}
-use Rattle.monomial_order.specs.declared.terms.Term.{Term}
 use Rattle.monomial_order.specs.laws.Comparing.{degree_falls, equal_or_not}
 use Rattle.monomial_order.specs.laws.Rank.{IsWithin, below_induction}
 use Rattle.word_laws.specs.Words.{word_order_of, image_of}

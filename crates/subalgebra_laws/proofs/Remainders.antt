@@ -1,7 +1,6 @@
 -- A remainder modulo the subalgebra is unique; so are a sum of irreducible s-words and a rest that no product of leads leads.
 use Rattle.std.proofs.Common.{◌≡◌, ℕ, refl, sym, ◌∙◌, List, ◌++◌, ⊎_elim, append-nil, append_assoc, [], ap, subst}
 use Rattle.word_field.specs.Field.{FieldOps, IsField}
-use Rattle.monomial_order.specs.declared.terms.Term.{Term}
 use Rattle.polynomials.specs.Polynomial.{Polynomial, Same, times, constant, negated, minus, IsPoly, IsLead, coefficient}
 use Rattle.polynomials.specs.Ideal.{Congruent}
 use Rattle.polynomials.specs.Subalgebra.{Presented, IsPresentation, InSubalgebra, LeadsSubalgebra, IsStandard}

@@ -1,5 +1,5 @@
 -- The polynomials in x^2 in one variable: x^2 is the reduced basis to the degree 2, and nothing new comes after it.
-use Rattle.std.proofs.Common.{◌≡◌, ◌≢◌, ℕ, zero, suc, ◌+◌, ◌*◌, ◌≤◌, refl, sym, ◌∙◌, ap, subst, List, [], ◌∷◌, ◌++◌, inr, ⊎_elim, length, arith}
+use Rattle.std.proofs.Common.{◌≡◌, ℕ, zero, suc, ◌+◌, ◌*◌, ◌≤◌, refl, sym, ◌∙◌, ap, subst, List, [], ◌∷◌, ◌++◌, inr, ⊎_elim, length, arith}
 use Rattle.std.specs.Prelude.{map, take, sum, Contains}
 use Rattle.std.proofs.lemmas.List.Sums.{sum_by-cons}
 use Rattle.std.specs.declared.cmp.Ordering.TheVariants.{Less}
@@ -14,13 +14,13 @@ use Rattle.monomial_order.specs.laws.Orders.{weight_order_laws, lex_part, lex_eq
 use Rattle.monomial_order.specs.laws.Monomial.{exponent-product, exponent_past}
 use Rattle.monomial_order.specs.laws.Cofactors.{same_exponents}
 use Rattle.monomial_order.specs.laws.Comparing.{not_below_self, le_or_not}
-use Rattle.word_laws.specs.Words.{word_order_of, image_of, IsWord, IsSWord, IsSmaller}
+use Rattle.word_laws.specs.Words.{word_order_of, image_of, IsWord, IsSmaller}
 use Rattle.word_laws.specs.laws.Images.{image_sum}
 use Rattle.word_laws.specs.laws.Words.{degree_same, x_falls}
 use Rattle.polynomials.specs.Polynomial.{Polynomial, term_of, AllAt, IsDecreasing, lead_monomial}
 use Rattle.polynomials.specs.Subalgebra.{IsPresentation, LeadsIdeal, IsGenerated, AllIn, product_of}
 use Rattle.polynomials.specs.laws.Degrees.{all_found}
-use Rattle.subalgebra_laws.specs.Words.{letters, word_value, IsReducibleWord, IsMinimalWord, IsCombination}
+use Rattle.subalgebra_laws.specs.Words.{letters, word_value, IsReducibleWord, IsCombination}
 use Rattle.subalgebra_laws.specs.Bases.{IsMonicElement, AreMonicElements, IsDecidedTo, HasCombinationsTo, IsClosedAt, IsCheckedElement, IsCheckedBasis}
 use Rattle.subalgebra_laws.specs.Samples.{square, squares}
 use Rattle.subalgebra_laws.proofs.Letters.{are_letters, letter_laws}

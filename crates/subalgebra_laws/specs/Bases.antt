@@ -1,6 +1,5 @@
 -- Lists of elements: what is asked of them, what can be checked of them, and when no later degree brings anything new.
 use Rattle.std.specs.Prelude.{◌≡◌, ◌≢◌, ℕ, ◌<◌, ◌≤◌, ◌⊎◌, List, [], ◌∷◌, ◌++◌, length, get_or, map, Contains}
-use Rattle.monomial_order.specs.declared.terms.Term.{Term}
 use Rattle.monomial_order.specs.Monomial.{Exponents, IsMonomial, Divides}
 use Rattle.word_laws.specs.Words.{word_order_of, IsWord}
 use Rattle.polynomials.specs.Polynomial.{Polynomial, coefficient, IsDecreasing, IsHomogeneous, lead_monomial}

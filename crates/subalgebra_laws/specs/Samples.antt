@@ -1,7 +1,6 @@
 -- Sample presentations over the field of 101 elements, with all weights 1 and lex, and their reduced bases.
 use Rattle.std.specs.Prelude.{ℕ, ◌+◌, List, [], ◌∷◌}
 use Rattle.word_field.specs.Residues.{residues}
-use Rattle.monomial_order.specs.declared.terms.Term.{Term}
 use Rattle.monomial_order.specs.Orders.{lex, weight_order}
 use Rattle.monomial_order.specs.Monomial.{Exponents}
 use Rattle.polynomials.specs.Polynomial.{Polynomial, term_of}

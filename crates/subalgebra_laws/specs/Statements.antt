@@ -2,7 +2,6 @@
 use Rattle.std.specs.Prelude.{◌≡◌, ◌≢◌, ℕ, suc, ◌≤◌, ◌⊎◌, ◌↔◌, List, [], ◌++◌, map, Contains}
 use Rattle.std.specs.declared.cmp.Ordering.TheVariants.{Less}
 use Rattle.word_field.specs.Field.{IsValue}
-use Rattle.monomial_order.specs.declared.terms.Term.{Term}
 use Rattle.monomial_order.specs.MonomialOrder.{IsIncreasing}
 use Rattle.word_laws.specs.Words.{word_order_of, image_of, IsWord, IsSWord, IsLeast, IsReducible, IsMinimalReducible}
 use Rattle.monomial_order.specs.Monomial.{Exponents, IsMultiple}
@@ -10,7 +9,7 @@ use Rattle.polynomials.specs.Polynomial.{Polynomial, coefficient, constant, time
 use Rattle.polynomials.specs.Ideal.{Congruent}
 use Rattle.polynomials.specs.Subalgebra.{Presented, IsPresentation, InSubalgebra, LeadsIdeal, LeadsSubalgebra, IsStandard, IsNormalForm, IsGenerated, IsReducedBasis}
 use Rattle.subalgebra_laws.specs.Words.{letters, word_value, combination_value, IsReducibleWord, IsMinimalWord, IsIrreducibleSum, IsTopWord, IsCombination, HasSumAndRest, IsSubductionRemainder}
-use Rattle.subalgebra_laws.specs.Bases.{AreMonicElements, AreMembers, HasDegreesTo, HaveLeadsFrom, IsDecidedTo, AreZerosTo, HasCombinationsTo, IsIdealClosedAt, IsClosedAt, AreAfter, AreStandardAfter, AreNextTo, IsCheckedElement, IsCheckedBasis}
+use Rattle.subalgebra_laws.specs.Bases.{AreMonicElements, AreMembers, HasDegreesTo, HaveLeadsFrom, IsDecidedTo, AreZerosTo, IsIdealClosedAt, IsClosedAt, AreAfter, AreStandardAfter, AreNextTo, IsCheckedElement, IsCheckedBasis}
 
 -- What a law holds of. E is the type of the coefficients.
 
@@ -262,7 +261,7 @@ module _ {E : Type 0} (P : Presented E) where
       NextBasisIsReduced d = (c : ℕ) → suc c ≡ d → IsDecidedTo P d → IsReducedBasis P c S →
           ((t : Polynomial E) → Contains T t → IsCheckedElement P d (S ++ T) t) →
           ((f : Polynomial E) →
-              Contains P.generators f → IsHomogeneous P.field P.order d f → IsCombination P (S ++ T) f) →
+          Contains P.generators f → IsHomogeneous P.field P.order d f → IsCombination P (S ++ T) f) →
           ((u : Exponents) → IsMinimalWord P S u → (word_order_of (letters P S)).degree u ≡ d →
-              IsCombination P (S ++ T) (word_value P S u)) →
+          IsCombination P (S ++ T) (word_value P S u)) →
           IsReducedBasis P d (S ++ T)

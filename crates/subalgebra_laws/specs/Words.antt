@@ -1,7 +1,6 @@
 -- Words over a list of polynomials, their values, and combinations of irreducible ones.
-use Rattle.std.specs.Prelude.{◌≡◌, ◌≢◌, ℕ, List, [], ◌∷◌, ◌++◌, map}
+use Rattle.std.specs.Prelude.{◌≡◌, ◌≢◌, List, [], ◌∷◌, ◌++◌, map}
 use Rattle.std.specs.declared.cmp.Ordering.TheVariants.{Less}
-use Rattle.monomial_order.specs.declared.terms.Term.{Term}
 use Rattle.monomial_order.specs.Monomial.{Exponents}
 use Rattle.word_laws.specs.Words.{Letters, word_order_of, image_of, variables, IsSWord, IsReducible, IsMinimalReducible}
 use Rattle.polynomials.specs.Polynomial.{Polynomial, coefficient, term_of, lead_monomial, minus, IsPoly, IsDecreasing}

@@ -30,11 +30,10 @@ pub fn endless_to_degree_4()
     ensures leads { LeadsAreGenerated endless endless_basis 4 }
     ensures products { IsGenerated (map lead_monomial endless_basis) (2 ∷ (2 ∷ [])) }
     ensures sums { IsCombination endless endless_basis (sum_xy ++ x_times_y 1) }
-    ensures lead {
-        IsLead endless.field endless.order (combination_value endless endless_basis endless_right_side) (2 ∷ (2 ∷ [])) }
+    ensures lead { IsLead endless.field endless.order (combination_value endless endless_basis endless_right_side) (2 ∷ (2 ∷ [])) }
     ensures right_side { (e : Polynomial ℕ) → IsIrreducibleSum endless endless_basis e →
         Congruent endless.field endless.order.places endless.ideal
-            (word_value endless endless_basis endless_word) (combination_value endless endless_basis e) →
+        (word_value endless endless_basis endless_word) (combination_value endless endless_basis e) →
         e ≡ endless_right_side }
 {
     laws::checked_basis::<WordField>();
