@@ -14,7 +14,7 @@ use Rattle.polynomials.specs.laws.Decreasing.{coefficient_first}
 use Rattle.polynomials.specs.laws.Degrees.{all_found}
 use Rattle.polynomials.specs.laws.Congruence.{congruent_same}
 use Rattle.subalgebra_laws.specs.Words.{letters, word_value, combination_value, IsReducibleWord, IsMinimalWord, IsIrreducibleSum, IsTopWord, IsCombination}
-use Rattle.subalgebra_laws.specs.Bases.{IsMonicElement, AreMonicElements, IsDecidedTo, AreNextTo, HasCombinationsTo, IsCheckedElement, IsCheckedBasis}
+use Rattle.subalgebra_laws.specs.Bases.{IsMonicElement, AreMonicElements, IsDecidedTo, AreNextTo, HasCombinationsTo, HasCombinationsAt, IsCheckedElement, IsCheckedBasis}
 use Rattle.subalgebra_laws.specs.Samples.{sum_xy, x_times_y, endless, endless_basis, endless_word, endless_right_side}
 use Rattle.subalgebra_laws.proofs.Plane.{field, plane, plane_laws, term_in, sum_decreasing, product_decreasing}
 use Rattle.subalgebra_laws.proofs.Letters.{letter_laws}
@@ -198,13 +198,13 @@ start_checked = record {
 pub fourth_element : (t : Polynomial ℕ) → Contains (x_times_y 3 ∷ []) t → IsCheckedElement endless 4 endless_basis t
 fourth_element = each_of (IsCheckedElement endless 4 endless_basis) (x_times_y 3 ∷ []) (product_element 4 endless_basis 3 (omega arith) fourth_inside (omega arith), tt)
 
-pub fourth_generators : (f : Polynomial ℕ) → Contains endless.generators f → IsHomogeneous (residues 101) plane 4 f → IsCombination endless endless_basis f
-fourth_generators f k h = combinations.generators f 4 k h (omega arith)
-
-pub fourth_words : (u : List ℕ) → IsMinimalWord endless endless.generators u → (word_order_of (letters endless endless.generators)).degree u ≡ 4 → IsCombination endless endless_basis (word_value endless endless.generators u)
-fourth_words u h e =
-    subst (λ w. IsCombination endless endless_basis (word_value endless endless.generators w)) (sym (start_reducible_is u h.1 (omega arith) h.0.reducible))
-    (record { sum = endless_right_side; irreducible = right_side_sum; equal = relation })
+pub fourth_combinations : HasCombinationsAt endless 4 endless.generators (x_times_y 3 ∷ [])
+fourth_combinations = record {
+  generators = λ f k h. combinations.generators f 4 k h (omega arith);
+  words = λ u h e.
+      subst (λ w. IsCombination endless endless_basis (word_value endless endless.generators w)) (sym (start_reducible_is u h.1 (omega arith) h.0.reducible))
+      (record { sum = endless_right_side; irreducible = right_side_sum; equal = relation });
+}
 
 pub generators_combine : IsCombination endless endless_basis sum_xy × IsCombination endless endless_basis (x_times_y 1)
 generators_combine = (

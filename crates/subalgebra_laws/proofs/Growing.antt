@@ -24,7 +24,7 @@ use Rattle.polynomials.specs.Subalgebra.{Presented, IsPresentation, LeadsIdeal, 
 use Rattle.polynomials.specs.laws.Decreasing.{IsDecreasing_IsPoly}
 use Rattle.polynomials.specs.laws.Degrees.{decreasing_all}
 use Rattle.subalgebra_laws.specs.Words.{letters, letter_values, word_value, combination_value, IsReducibleWord, IsMinimalWord, IsCombination}
-use Rattle.subalgebra_laws.specs.Bases.{AreMonicElements, HasDegreesTo, HaveLeadsFrom, HasCombinationsTo, AreAfter, AreStandardAfter}
+use Rattle.subalgebra_laws.specs.Bases.{AreMonicElements, HasDegreesTo, HaveLeadsFrom, HasCombinationsTo, HasCombinationsAt, AreAfter, AreStandardAfter}
 use Rattle.subalgebra_laws.specs.Statements.{ValuesStay, SumsStay, SumsWithoutNewLettersStay, CombinationsStay, ElementsAreCombinations, MinimalWordsStay}
 use Rattle.subalgebra_laws.proofs.Letters.{order_over, letter_degrees, places_letters, letter, letter_word, letter_image, letter_value, are_letters, letter_laws, word_degree, word_monic}
 use Rattle.subalgebra_laws.proofs.Combinations.{combination_same, combination_congruent, combination_word, combination_linear, sum_low}
@@ -311,12 +311,11 @@ module _ {E : Type 0} (P : Presented E) (H : IsPresentation P) (d : ℕ) (S T : 
   )
 
   -- the combinations to the next degree
-  pub next_combinations : (c : ℕ) → suc c ≡ d → HasCombinationsTo P c S → ((f : Polynomial E) → Contains P.generators f → IsHomogeneous K O d f → IsCombination P (S ++ T) f) →
-      ((u : List ℕ) → IsMinimalWord P S u → (order_over P S).degree u ≡ d → IsCombination P (S ++ T) (word_value P S u)) → HasCombinationsTo P d (S ++ T)
-  next_combinations c next comb generators words = record {
+  pub next_combinations : (c : ℕ) → suc c ≡ d → HasCombinationsTo P c S → HasCombinationsAt P d S T → HasCombinationsTo P d (S ++ T)
+  next_combinations c next comb here = record {
     generators = λ f e k h le. ⊎_elim
         (λ low. combination_grows P H S T HT d A.after.degree A.after.new f (generator_poly P H f k) (λ n z. let x = h.each n z in omega arith) (comb.generators f e k h low))
-        (λ top. let z : e ≡ d = ⊎_elim (λ r. absurd (top r)) (λ r. omega (arith, r)) (le_or_not e c) in generators f k (subst (λ x. IsHomogeneous K O x f) z h)) (le_or_not e c);
+        (λ top. let z : e ≡ d = ⊎_elim (λ r. absurd (top r)) (λ r. omega (arith, r)) (le_or_not e c) in here.generators f k (subst (λ x. IsHomogeneous K O x f) z h)) (le_or_not e c);
     words = λ u h le.
         let m = minimal_back u le h in
         let ds = degree_stays P S T u m.0.word.within in
@@ -324,7 +323,7 @@ module _ {E : Type 0} (P : Presented E) (H : IsPresentation P) (d : ℕ) (S T : 
         subst (IsCombination P (S ++ T)) (sym (value_stays P S T u m.0.word))
         (⊎_elim
         (λ low. combination_grows P H S T HT d A.after.degree A.after.new (word_value P S u) (word_monic P H S HS u).poly (word_low P H S HS d u (omega arith)) (comb.words u m low))
-        (λ top. words u m (⊎_elim (λ r. absurd (top r)) (λ r. omega (arith, r)) (le_or_not ((order_over P S).degree u) c))) (le_or_not ((order_over P S).degree u) c));
+        (λ top. here.words u m (⊎_elim (λ r. absurd (top r)) (λ r. omega (arith, r)) (le_or_not ((order_over P S).degree u) c))) (le_or_not ((order_over P S).degree u) c));
   }
 
 -- the elements at the end may be exchanged

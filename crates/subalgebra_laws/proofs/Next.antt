@@ -190,7 +190,7 @@ module _ {E : Type 0} (P : Presented E) (H : IsPresentation P) where
         (products_split S (front ++ rest) d (positive S (front ++ rest) (λ s k. k) part) (λ x k. N.after.degree x (part x k)) (lead_monomial t) (elements t inner).at_most g)
 
   pub next_reduced : (S T : List (Polynomial E)) (d : ℕ) → AreNextTo P d S T → NextBasisIsReduced P S T d
-  next_reduced S T d N c next dec red elements generators words = checked_reduced P H d (S ++ T) dec (record {
+  next_reduced S T d N c next dec red elements here = checked_reduced P H d (S ++ T) dec (record {
     increasing = subst (IsIncreasing P.order) (sym (map-append lead_monomial S T)) (increasing_append (map lead_monomial S) (map lead_monomial T) red.increasing N.increasing
         (λ m n km kn.
         let p = of_lead (λ x. O.degree x ≤ c) S (λ s k. (red.elements s k).at_most) m km in
@@ -202,5 +202,5 @@ module _ {E : Type 0} (P : Presented E) (H : IsPresentation P) where
         (λ r. λ g. new_minimal S T c d next red N elements r.0 rest s r.2
         (subst (λ X. IsGenerated (map lead_monomial X) (lead_monomial s)) (append_assoc S r.0 rest) (subst (λ X. IsGenerated (map lead_monomial (X ++ rest)) (lead_monomial s)) r.1 g)))
         (split_append S T before s rest e);
-    combinations = next_combinations P H d S T (next_standard d S T N) c next (basis_combinations P H c S (λ m hm l. dec m hm (omega arith)) red) generators words;
+    combinations = next_combinations P H d S T (next_standard d S T N) c next (basis_combinations P H c S (λ m hm l. dec m hm (omega arith)) red) here;
   })

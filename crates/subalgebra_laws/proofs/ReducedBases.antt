@@ -15,7 +15,7 @@ use Rattle.polynomials.specs.laws.Ideal.{IsPoly-times}
 use Rattle.polynomials.specs.laws.Congruence.{congruent_member}
 use Rattle.polynomials.specs.laws.Membership.{sub_times, sub_congruent, sub_minus}
 use Rattle.subalgebra_laws.specs.Words.{letters, word_value, IsMinimalWord, IsCombination}
-use Rattle.subalgebra_laws.specs.Bases.{AreMonicElements, HasDegreesTo, IsDecidedTo, HasCombinationsTo, IsClosedAt, IsCheckedElement, IsCheckedBasis}
+use Rattle.subalgebra_laws.specs.Bases.{AreMonicElements, HasDegreesTo, IsDecidedTo, HasCombinationsTo, IsClosedAt, IsStandardElement, IsCheckedElement, IsCheckedBasis}
 use Rattle.subalgebra_laws.specs.Statements.{LowMembersAreCombinations}
 use Rattle.polynomials.specs.laws.Coefficients.{constant_poly, minus_poly, minus_back, found_monomial}
 use Rattle.subalgebra_laws.proofs.Nonzero.{lowered, cancelling}
@@ -45,10 +45,9 @@ module _ {E : Type 0} (P : Presented E) (H : IsPresentation P) where
   pub leads_exactly : (c : ℕ) (S : List (Polynomial E)) → IsReducedBasis P c S → (m : List ℕ) → (LeadsSubalgebra P m → IsGenerated (map lead_monomial S) m) → LeadsSubalgebra P m ↔ (IsStandard P m × IsGenerated (map lead_monomial S) m)
   leads_exactly c S red m generated = ((λ h. (h.standard, generated h)), (λ k. generated_leads P H S (basis_monic c S red) (λ s i. (red.elements s i).inside) m k.0 k.1))
 
-  -- what is checked of an element, but for its tail
-  pub element_checked : (c d : ℕ) (S : List (Polynomial E)) (s : Polynomial E) → O.degree (lead_monomial s) ≤ d → IsElement P c s →
-      ((m : List ℕ) → coefficient K s m ≢ K.zero → m ≢ lead_monomial s → ¬ IsGenerated (map lead_monomial S) m) → IsCheckedElement P d S s
-  element_checked c d S s le e tail = record {
+  -- an element without its tail, and with it again
+  without_tail : (c d : ℕ) (s : Polynomial E) → O.degree (lead_monomial s) ≤ d → IsElement P c s → IsStandardElement P d s
+  without_tail c d s le e = record {
     decreasing = e.decreasing;
     inside = e.inside;
     monic = e.monic;
@@ -56,24 +55,10 @@ module _ {E : Type 0} (P : Presented E) (H : IsPresentation P) where
     at_least = e.at_least;
     at_most = le;
     standard = e.standard;
-    tail = tail;
   }
 
-  pub element_moved : (c d : ℕ) (s : Polynomial E) → O.degree (lead_monomial s) ≤ d → IsElement P c s → IsElement P d s
-  element_moved c d s le e = record {
-    decreasing = e.decreasing;
-    inside = e.inside;
-    monic = e.monic;
-    homogeneous = e.homogeneous;
-    at_least = e.at_least;
-    at_most = le;
-    standard = e.standard;
-    tail = e.tail;
-  }
-
-  checked_element : (c : ℕ) (S : List (Polynomial E)) (s : Polynomial E) → IsCheckedElement P c S s →
-      ((m : List ℕ) → coefficient K s m ≢ K.zero → m ≢ lead_monomial s → ¬ LeadsSubalgebra P m) → IsElement P c s
-  checked_element c S s e tail = record {
+  with_tail : (c : ℕ) (s : Polynomial E) → IsStandardElement P c s → ((m : List ℕ) → coefficient K s m ≢ K.zero → m ≢ lead_monomial s → ¬ LeadsSubalgebra P m) → IsElement P c s
+  with_tail c s e tail = record {
     decreasing = e.decreasing;
     inside = e.inside;
     monic = e.monic;
@@ -83,6 +68,13 @@ module _ {E : Type 0} (P : Presented E) (H : IsPresentation P) where
     standard = e.standard;
     tail = tail;
   }
+
+  pub element_checked : (c d : ℕ) (S : List (Polynomial E)) (s : Polynomial E) → O.degree (lead_monomial s) ≤ d → IsElement P c s →
+      ((m : List ℕ) → coefficient K s m ≢ K.zero → m ≢ lead_monomial s → ¬ IsGenerated (map lead_monomial S) m) → IsCheckedElement P d S s
+  element_checked c d S s le e tail = record { element = without_tail c d s le e; tail = tail }
+
+  pub element_moved : (c d : ℕ) (s : Polynomial E) → O.degree (lead_monomial s) ≤ d → IsElement P c s → IsElement P d s
+  element_moved c d s le e = with_tail d s (without_tail c d s le e) e.tail
 
   module _ (c : ℕ) (S : List (Polynomial E)) (dec : IsDecidedTo P c) (red : IsReducedBasis P c S) where
     HS : AreMonicElements P S
@@ -196,7 +188,7 @@ module _ {E : Type 0} (P : Presented E) (H : IsPresentation P) where
         increasing = h.increasing;
         elements = λ s k.
             let e = h.elements s k in
-            checked_element c S s e (λ m z ne l. e.tail m z ne (generates m l (let d = e.homogeneous.each m z in let a = e.at_most in omega arith)));
+            with_tail c s e.element (λ m z ne l. e.tail m z ne (generates m l (let d = e.homogeneous.each m z in let a = e.at_most in omega arith)));
         minimal = h.minimal;
         generates = generates;
       }

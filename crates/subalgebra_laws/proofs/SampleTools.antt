@@ -239,13 +239,15 @@ module _ {E : Type 0} (P : Presented E) (H : IsPresentation P) (t : Term E) (p :
   pub first_checked : (c : ℕ) (S : List (Polynomial E)) → InSubalgebra P (t ∷ p) → AllAt (λ m. O.degree m ≡ O.degree t.at) (t ∷ p) → 1 ≤ O.degree t.at → O.degree t.at ≤ c →
       AllAt (IsStandard P) (t ∷ p) → AllAt (λ m. ¬ IsGenerated (map lead_monomial S) m) p → IsCheckedElement P c S (t ∷ p)
   first_checked c S inside same low high st tail = record {
-    decreasing = f;
-    inside = inside;
-    monic = coefficient_first K F O L t p f.0 ∙ one;
-    homogeneous = first_homogeneous K F O L (O.degree t.at) t p f same;
-    at_least = low;
-    at_most = high;
-    standard = all_found K F O L (IsStandard P) (t ∷ p) st;
+    element = record {
+      decreasing = f;
+      inside = inside;
+      monic = coefficient_first K F O L t p f.0 ∙ one;
+      homogeneous = first_homogeneous K F O L (O.degree t.at) t p f same;
+      at_least = low;
+      at_most = high;
+      standard = all_found K F O L (IsStandard P) (t ∷ p) st;
+    };
     tail = λ m k ne. ⊎_elim (λ e. absurd (ne e)) (λ n. n) (all_found K F O L (λ m. (m ≡ t.at) ⊎ (¬ IsGenerated (map lead_monomial S) m)) (t ∷ p)
         (inl refl, AllAt-map (λ m. ¬ IsGenerated (map lead_monomial S) m) (λ m. (m ≡ t.at) ⊎ (¬ IsGenerated (map lead_monomial S) m)) (λ m n. inr n) p tail) m k);
   }

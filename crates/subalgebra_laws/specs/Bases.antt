@@ -46,6 +46,13 @@ module _ {E : Type 0} (P : Presented E) where
     pub words : (u : Exponents) →
         IsMinimalWord P S u → (word_order_of (letters P S)).degree u ≤ c → IsCombination P S (word_value P S u)
 
+  -- the generators and the minimal reducible s-words over S of the degree d are combinations over S and T
+  pub record HasCombinationsAt (d : ℕ) (S T : List (Polynomial E)) : Type 0 where
+    pub generators : (f : Polynomial E) →
+        Contains P.generators f → IsHomogeneous P.field P.order d f → IsCombination P (S ++ T) f
+    pub words : (u : Exponents) →
+        IsMinimalWord P S u → (word_order_of (letters P S)).degree u ≡ d → IsCombination P (S ++ T) (word_value P S u)
+
   -- each lead of a member of the ideal is a multiple of one of degree at most D
   abbrev pub IsIdealClosedAt : ℕ → Type 0
   IsIdealClosedAt D = (m : Exponents) →
@@ -83,8 +90,8 @@ module _ {E : Type 0} (P : Presented E) where
     pub standard : (t : Polynomial E) → Contains T t → IsStandard P (lead_monomial t)
     pub increasing : IsIncreasing P.order (map lead_monomial T)
 
-  -- an element of S, by conditions that look at S alone
-  pub record IsCheckedElement (c : ℕ) (S : List (Polynomial E)) (s : Polynomial E) : Type 0 where
+  -- a monic homogeneous member of the subalgebra of a degree from 1 to c, a decreasing list of standard monomials
+  pub record IsStandardElement (c : ℕ) (s : Polynomial E) : Type 0 where
     pub decreasing : IsDecreasing P.field P.order s
     pub inside : InSubalgebra P s
     pub monic : coefficient P.field s (lead_monomial s) ≡ P.field.one
@@ -92,6 +99,11 @@ module _ {E : Type 0} (P : Presented E) where
     pub at_least : 1 ≤ P.order.degree (lead_monomial s)
     pub at_most : P.order.degree (lead_monomial s) ≤ c
     pub standard : (m : Exponents) → coefficient P.field s m ≢ P.field.zero → IsStandard P m
+
+  -- and of S, by conditions that look at S alone: no other monomial of it is a product of leads
+  pub record IsCheckedElement (c : ℕ) (S : List (Polynomial E)) (s : Polynomial E) : Type 0 where
+    pub element : IsStandardElement c s
+    pub open element use *
     pub tail : (m : Exponents) → coefficient P.field s m ≢ P.field.zero → m ≢ lead_monomial s →
         ¬ IsGenerated (map lead_monomial S) m
 

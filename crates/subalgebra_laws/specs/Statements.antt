@@ -9,7 +9,7 @@ use Rattle.polynomials.specs.Polynomial.{Polynomial, coefficient, constant, time
 use Rattle.polynomials.specs.Ideal.{Congruent}
 use Rattle.polynomials.specs.Subalgebra.{Presented, IsPresentation, InSubalgebra, LeadsIdeal, LeadsSubalgebra, IsStandard, IsNormalForm, IsGenerated, IsReducedBasis}
 use Rattle.subalgebra_laws.specs.Words.{letters, word_value, combination_value, IsReducibleWord, IsMinimalWord, IsIrreducibleSum, IsTopWord, IsCombination, HasSumAndRest, IsSubductionRemainder}
-use Rattle.subalgebra_laws.specs.Bases.{AreMonicElements, AreMembers, HasDegreesTo, HaveLeadsFrom, IsDecidedTo, AreZerosTo, IsIdealClosedAt, IsClosedAt, AreAfter, AreStandardAfter, AreNextTo, IsCheckedElement, IsCheckedBasis}
+use Rattle.subalgebra_laws.specs.Bases.{AreMonicElements, AreMembers, HasDegreesTo, HaveLeadsFrom, IsDecidedTo, AreZerosTo, HasCombinationsAt, IsIdealClosedAt, IsClosedAt, AreAfter, AreStandardAfter, AreNextTo, IsCheckedElement, IsCheckedBasis}
 
 -- What a law holds of. E is the type of the coefficients.
 
@@ -259,9 +259,5 @@ module _ {E : Type 0} (P : Presented E) where
       -- basis to d, if the generators and the minimal reducible s-words over S of that degree are combinations.
       abbrev pub NextBasisIsReduced : ℕ → Type 0
       NextBasisIsReduced d = (c : ℕ) → suc c ≡ d → IsDecidedTo P d → IsReducedBasis P c S →
-          ((t : Polynomial E) → Contains T t → IsCheckedElement P d (S ++ T) t) →
-          ((f : Polynomial E) →
-          Contains P.generators f → IsHomogeneous P.field P.order d f → IsCombination P (S ++ T) f) →
-          ((u : Exponents) → IsMinimalWord P S u → (word_order_of (letters P S)).degree u ≡ d →
-          IsCombination P (S ++ T) (word_value P S u)) →
+          ((t : Polynomial E) → Contains T t → IsCheckedElement P d (S ++ T) t) → HasCombinationsAt P d S T →
           IsReducedBasis P d (S ++ T)
