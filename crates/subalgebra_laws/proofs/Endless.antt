@@ -159,7 +159,7 @@ product_element : (c : ℕ) (S : List (Polynomial ℕ)) (e : ℕ) → 1 ≤ e �
 product_element c S e n inside le = first_checked endless presentation (term_of (1 ∷ (e ∷ [])) 1) [] (product_decreasing e n) refl c S inside (refl, tt) (omega arith) le
     (standard (1 ∷ (e ∷ [])) (product_decreasing e n).0.term.monomial, tt) tt
 
--- from the degree 3, where the generators are the basis, to the degree 4
+-- from the degree 3, to which the generators are the basis, to the degree 4
 pub next_to : AreNextTo endless 4 endless.generators (x_times_y 3 ∷ [])
 next_to = record {
   after = record {

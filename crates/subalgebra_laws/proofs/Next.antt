@@ -18,7 +18,7 @@ use Rattle.subalgebra_laws.proofs.Generated.{generated_leads}
 use Rattle.subalgebra_laws.proofs.ReducedBases.{basis_monic, basis_combinations, element_checked, element_moved, checked_reduced}
 use Rattle.subalgebra_laws.proofs.Growing.{next_combinations}
 
--- a member of two lists in a row stands in the first or in the second
+-- a member in the middle of two lists in a row is in the middle of the first or of the second
 split_append : {A : Type 0} (S T before : List A) (s : A) (after : List A) → S ++ T ≡ before ++ (s ∷ after) →
     ((rest : List A) × (S ≡ before ++ (s ∷ rest)) × (after ≡ rest ++ T)) ⊎ ((front : List A) × (before ≡ S ++ front) × (T ≡ front ++ (s ∷ after)))
 split_append [] T before s after e = inr (before, refl, e)

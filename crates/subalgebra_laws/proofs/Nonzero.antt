@@ -18,7 +18,7 @@ use Rattle.polynomials.specs.laws.Coefficients.{sum_nonzero, minus_nonzero}
 use Rattle.polynomials.specs.laws.Terms.{AllAt-append}
 use Rattle.polynomials.specs.laws.Congruence.{coefficient-minus}
 
--- different monomials are told apart
+-- different monomials are not the same
 pub same_false : (m n : List ℕ) → m ≢ n → same_monomial m n ≡ false
 same_false m n h = elim (same_monomial m n) as (λ b. same_monomial m n ≡ b → b ≡ false) [ true ↦ λ e. absurd (h (same_true m n e)) | false ↦ λ e. refl ] refl
 
@@ -48,7 +48,7 @@ module _ {E : Type 0} (K : FieldOps E) where
           elim (nat_eq (O.degree t.at) d) as (λ b. cond b (term_of t.at (K.negate t.by) ∷ negated K (component O d q)) (negated K (component O d q)) ≡ negated K (cond b (t ∷ component O d q) (component O d q))) [ true ↦ refl | false ↦ refl ]
 
 module _ {E : Type 0} (K : FieldOps E) (F : IsField K) where
-  -- where a coefficient is zero
+  -- a coefficient that is not nonzero is zero
   pub no_coefficient : (p : Polynomial E) (m : List ℕ) → (coefficient K p m ≢ K.zero → ⊥) → coefficient K p m ≡ K.zero
   no_coefficient p m h = ⊎_elim (λ z. z) (λ n. absurd (h n)) (F.equal_or_not (coefficient K p m) K.zero)
 

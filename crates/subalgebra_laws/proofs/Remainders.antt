@@ -1,16 +1,21 @@
 -- A remainder modulo the subalgebra is unique; so are a sum of irreducible s-words and a rest that no product of leads leads.
-use Rattle.std.proofs.Common.{◌≡◌, ℕ, refl, sym, ◌∙◌, List, ◌++◌, ⊎_elim, append-nil, append_assoc, [], ap, subst}
-use Rattle.word_field.specs.Field.{FieldOps, IsField}
-use Rattle.polynomials.specs.Polynomial.{Polynomial, Same, times, constant, negated, minus, IsPoly, IsLead, coefficient}
+use Rattle.std.proofs.Common.{◌≡◌, ◌≢◌, ℕ, zero, suc, ◌<◌, refl, sym, ◌∙◌, List, ◌∷◌, ◌++◌, length, get_or, arith, ⊎_elim, append-nil, append_assoc, [], ap, subst}
+use Rattle.word_field.specs.Field.{FieldOps, IsField, IsValue}
+use Rattle.polynomials.specs.Polynomial.{Polynomial, Same, times, constant, negated, minus, IsPoly, IsLead, lead_monomial, coefficient}
 use Rattle.polynomials.specs.Ideal.{Congruent}
 use Rattle.polynomials.specs.Subalgebra.{Presented, IsPresentation, InSubalgebra, LeadsSubalgebra, IsStandard}
 use Rattle.polynomials.specs.laws.Canonical.{zero_or_lead}
 use Rattle.polynomials.specs.laws.Same.{append_same, append_comm, minus_self}
 use Rattle.polynomials.specs.laws.Congruence.{congruent_same, congruent_refl, congruent_trans, congruent_plus, congruent_negated, negated_is, minus_zero, minus_chain, negated-minus, minus_same}
 use Rattle.polynomials.specs.laws.Membership.{sub_congruent, sub_minus}
-use Rattle.subalgebra_laws.specs.Words.{combination_value, IsIrreducibleSum, IsCombination, HasSumAndRest, IsSubductionRemainder}
+use Rattle.subalgebra_laws.specs.Words.{combination_value, IsIrreducibleSum, IsCombination, HasSumAndRest, linear_sum, IsSubductionRemainder}
 use Rattle.subalgebra_laws.specs.Bases.{AreMonicElements}
-use Rattle.subalgebra_laws.specs.Statements.{RestsDecideCombinations}
+use Rattle.subalgebra_laws.specs.Statements.{RestsDecideCombinations, LeadsDetermineLinearSums}
+use Rattle.subalgebra_laws.proofs.Nonzero.{no_coefficient, append_nonzero, multiple_nonzero}
+use Rattle.polynomials.specs.laws.Ring.{coefficient_value, coefficient-append}
+use Rattle.polynomials.specs.laws.Value.{coefficient-constant_times}
+use Rattle.word_field.specs.laws.Field.{zero-plus}
+use Rattle.std.proofs.lemmas.List.Elements.{Contains-get_or}
 use Rattle.subalgebra_laws.proofs.Combinations.{sums_unique, combination_congruent, combination_same, combination_plus, combination_multiple}
 use Rattle.subalgebra_laws.proofs.Criterion.{lead_generated}
 use Rattle.polynomials.specs.laws.Coefficients.{minus_poly, minus_nonzero, nothing_at}
@@ -41,7 +46,7 @@ module _ {E : Type 0} (P : Presented E) (H : IsPresentation P) (a r q : Polynomi
   remainder_unique =
       minus_zero P.field H.field r q (⊎_elim (λ z. z) (λ l. absurd (no_lead l.0 l.1)) (zero_or_lead P.field H.field P.order H.order (minus P.field r q) (minus_poly P.field H.field P.order.places r q hr.poly hq.poly)))
 
--- so a polynomial is a member exactly where its remainder is zero
+-- so a polynomial is a member exactly if its remainder is zero
 module _ {E : Type 0} (P : Presented E) (H : IsPresentation P) (a r : Polynomial E) (hr : IsSubductionRemainder P a r) where
   minus_nothing : Same P.field (minus P.field a []) a
   minus_nothing m = ap (λ p. coefficient P.field p m) (append-nil a)
@@ -125,3 +130,32 @@ module _ {E : Type 0} (P : Presented E) (H : IsPresentation P) (S : List (Polyno
           (congruent_same K F O.places P.ideal (value_of e ++ r) (value_of e) (λ m. append_same K F (value_of e) (value_of e) r [] (λ i. refl) z m ∙ ap (λ p. coefficient K p m) (append-nil (value_of e))));
     },
   )
+
+-- the coefficients of a linear sum at the leads
+module _ {E : Type 0} (P : Presented E) (H : IsPresentation P) where
+  open P use {field as K, order as O}
+  open H use {field as F, order as L}
+
+  linear_zero : (m : List ℕ) (cs : List E) (S : List (Polynomial E)) → ((i : ℕ) → i < length S → coefficient K (get_or S i []) m ≡ K.zero) → coefficient K (linear_sum P cs S) m ≡ K.zero
+  linear_zero m [] S h = sym (nothing_at K m)
+  linear_zero m (c ∷ cs) [] h = sym (nothing_at K m)
+  linear_zero m (c ∷ cs) (s ∷ S) h = no_coefficient K F (linear_sum P (c ∷ cs) (s ∷ S)) m (λ k. ⊎_elim
+      (λ x. multiple_nonzero K F c s m x (h 0 (omega arith))) (λ x. x (linear_zero m cs S (λ i l. h (suc i) (omega arith)))) (append_nonzero K F (times K (constant K c) s) (linear_sum P cs S) m k))
+
+  linear_at : (m : List ℕ) (cs : List E) (S : List (Polynomial E)) (i : ℕ) → i < length cs → i < length S → IsValue K (get_or cs i K.zero) → coefficient K (get_or S i []) m ≡ K.one →
+      ((j : ℕ) → j < length S → j ≢ i → coefficient K (get_or S j []) m ≡ K.zero) → coefficient K (linear_sum P cs S) m ≡ get_or cs i K.zero
+  linear_at m [] S i lc l v one h = absurd (omega arith)
+  linear_at m (c ∷ cs) [] i lc l v one h = absurd (omega arith)
+  linear_at m (c ∷ cs) (s ∷ S) zero lc l v one h =
+      coefficient-append K F (times K (constant K c) s) (linear_sum P cs S) m ∙
+      (ap (λ x. K.plus x (coefficient K (linear_sum P cs S) m)) (coefficient-constant_times K F c s m ∙ (ap (K.times c) one ∙ (F.times_one c ∙ v))) ∙
+      (ap (K.plus c) (linear_zero m cs S (λ j k. h (suc j) (omega arith) (λ e. cc))) ∙ (F.plus_zero c ∙ v)))
+  linear_at m (c ∷ cs) (s ∷ S) (suc i) lc l v one h =
+      coefficient-append K F (times K (constant K c) s) (linear_sum P cs S) m ∙
+      (ap (λ x. K.plus x (coefficient K (linear_sum P cs S) m)) (no_coefficient K F (times K (constant K c) s) m (λ k. multiple_nonzero K F c s m k (h 0 (omega arith) (λ e. cc)))) ∙
+      (zero-plus K F (coefficient K (linear_sum P cs S) m) ∙ (coefficient_value K F (linear_sum P cs S) m ∙
+      linear_at m cs S i (omega arith) (omega arith) v one (λ j k n. h (suc j) (omega arith) (λ e. n (let z : j ≡ i = cc in z))))))
+
+  pub leads_determine : (S : List (Polynomial E)) → AreMonicElements P S → LeadsDetermineLinearSums P S
+  leads_determine S HS reduced cs i lc l v =
+      linear_at (lead_monomial (get_or S i [])) cs S i lc l v (HS (get_or S i []) (Contains-get_or S i [] l)).monic (λ j k n. reduced j i k l n)

@@ -14,7 +14,7 @@ use Rattle.monomial_order.specs.Monomial.{exponent, IsTrimmed, weighted_degree}
 use Rattle.monomial_order.specs.MonomialOrder.{MonomialOrder, IsMonomialOrder}
 use Rattle.monomial_order.specs.laws.Comparing.{le_or_not}
 use Rattle.monomial_order.specs.laws.Lists.{contains_none, contains_cases, contains_here, contains_there, contains_map, contains_left, contains_right}
-use Rattle.monomial_order.specs.laws.Monomial.{exponent-product, product-one}
+use Rattle.monomial_order.specs.laws.Monomial.{exponent-product, product-one, trimmed_tail}
 use Rattle.word_laws.specs.Words.{word_order_of, image_of, lead_degrees, IsSWord, IsSmaller}
 use Rattle.word_laws.specs.laws.Words.{degree_same, s_smaller}
 use Rattle.polynomials.specs.Polynomial.{Polynomial, same_monomial, coefficient, Same, AllAt, IsDecreasing, IsHomogeneous, lead_monomial}
@@ -39,7 +39,7 @@ module _ {A : Type 0} (Q : A → Type 0) where
   each_of [] h x k = absurd (contains_none x k)
   each_of (y ∷ xs) h x k = ⊎_elim (λ e. subst Q e h.0) (λ r. each_of xs h.1 x r) (contains_cases y xs x k)
 
--- each part of a list, with what stands before and after it
+-- a fact of each member of a list with what is before and after it
 module _ {A : Type 0} (Q : List A → A → List A → Type 0) where
   abbrev pub EachPart : List A → List A → Type 0
   EachPart front [] = Unit {0}
@@ -74,18 +74,18 @@ module _ {A : Type 0} (p : A → Bool) where
       or_true true = refl
       or_true false = refl
 
-  abbrev kept : List A → List A
-  kept [] = []
-  kept (x ∷ xs) = cond (p x) (x ∷ kept xs) (kept xs)
+  abbrev passing : List A → List A
+  passing [] = []
+  passing (x ∷ xs) = cond (p x) (x ∷ passing xs) (passing xs)
 
-  kept_has : (xs : List A) (x : A) → Contains xs x → p x ≡ true → Contains (kept xs) x
-  kept_has [] x k h = absurd (contains_none x k)
-  kept_has (y ∷ xs) x k h = ⊎_elim
-      (λ e. subst (λ b. Contains (cond b (y ∷ kept xs) (kept xs)) x) (sym (ap p e ∙ h)) (subst (Contains (y ∷ kept xs)) e (contains_here y (kept xs))))
-      (λ i. either (p y) (kept_has xs x i h)) (contains_cases y xs x k)
+  passing_has : (xs : List A) (x : A) → Contains xs x → p x ≡ true → Contains (passing xs) x
+  passing_has [] x k h = absurd (contains_none x k)
+  passing_has (y ∷ xs) x k h = ⊎_elim
+      (λ e. subst (λ b. Contains (cond b (y ∷ passing xs) (passing xs)) x) (sym (ap p e ∙ h)) (subst (Contains (y ∷ passing xs)) e (contains_here y (passing xs))))
+      (λ i. either (p y) (passing_has xs x i h)) (contains_cases y xs x k)
     where
-      either : (b : Bool) → Contains (kept xs) x → Contains (cond b (y ∷ kept xs) (kept xs)) x
-      either true i = contains_there y (kept xs) x i
+      either : (b : Bool) → Contains (passing xs) x → Contains (cond b (y ∷ passing xs) (passing xs)) x
+      either true i = contains_there y (passing xs) x i
       either false i = i
 
 -- the words of degree at most c in letters of the degrees ds
@@ -98,10 +98,6 @@ cons_is : (e : ℕ) (w : List ℕ) → IsTrimmed (e ∷ w) → trimmed_cons e w 
 cons_is zero [] h = absurd (h refl)
 cons_is zero (f ∷ w) h = refl
 cons_is (suc e) w h = refl
-
-trimmed_rest : (e : ℕ) (w : List ℕ) → IsTrimmed (e ∷ w) → IsTrimmed w
-trimmed_rest e [] h = tt
-trimmed_rest e (f ∷ w) h = h
 
 abbrev with_exponents : (ℕ → List (List ℕ)) → ℕ → ℕ → ℕ → List (List ℕ)
 with_exponents rest d c zero = map (trimmed_cons 0) (rest c)
@@ -145,7 +141,7 @@ words_all (d ∷ ds) c [] p l t le = at_exponent (λ b. words_to ds b) d c c 0 [
 words_all (d ∷ ds) c (e ∷ w) p l t le =
     let q = mul-le-mul_left e p.0 in
     subst (Contains (words_to (d ∷ ds) c)) (cons_is e w t)
-    (at_exponent (λ b. words_to ds b) d c c e w (omega arith) (omega arith) (words_all ds (c - d * e) w p.1 (omega arith) (trimmed_rest e w t) (omega arith)))
+    (at_exponent (λ b. words_to ds b) d c c e w (omega arith) (omega arith) (words_all ds (c - d * e) w p.1 (omega arith) (trimmed_tail e w t) (omega arith)))
 
 s_words_all : (xs ds : List ℕ) (c : ℕ) (w : List ℕ) → EachOf (λ d. 1 ≤ d) ds → length w ≤ length xs + length ds → IsTrimmed w → sum (take (length xs) w) ≡ 0 → weighted_degree (xs ++ ds) w ≤ c →
     Contains (s_words_to (length xs) ds c) w
@@ -159,7 +155,7 @@ s_words_all (x ∷ xs) ds c (e ∷ w) p l t z le =
     let a = sum_by-cons (λ (y : ℕ). y) e (take (length xs) w) in
     let zero : 0 ≡ e = omega arith in
     subst (Contains (s_words_to (suc (length xs)) ds c)) (cons_is 0 w (subst (λ k. IsTrimmed (k ∷ w)) (sym zero) t) ∙ ap (λ k. k ∷ w) zero)
-    (contains_map (trimmed_cons 0) (s_words_to (length xs) ds c) w (s_words_all xs ds c w p (omega arith) (trimmed_rest e w t) (omega arith) (omega arith)))
+    (contains_map (trimmed_cons 0) (s_words_to (length xs) ds c) w (s_words_all xs ds c w p (omega arith) (trimmed_tail e w t) (omega arith) (omega arith)))
 
 abbrev is_less : Ordering → Bool
 is_less Less = true
@@ -173,11 +169,11 @@ module _ {E : Type 0} (P : Presented E) (H : IsPresentation P) (S : List (Polyno
       any (λ v. same_monomial (image_of (letters P S) v) (image_of (letters P S) u) && is_less ((word_order_of (letters P S)).compare v u)) (s_words_to (length (letter_degrees P S)) (lead_degrees (letters P S)) c)
 
   abbrev pub reducible_words : List (List ℕ)
-  reducible_words = kept reduces (s_words_to (length (letter_degrees P S)) (lead_degrees (letters P S)) c)
+  reducible_words = passing reduces (s_words_to (length (letter_degrees P S)) (lead_degrees (letters P S)) c)
 
   pub reducible_listed : EachOf (λ d. 1 ≤ d) (lead_degrees (letters P S)) → ((m : List ℕ) → LeadsIdeal P m → leads m ≡ true) →
       (u : List ℕ) → IsSWord (letters P S) u → (word_order_of (letters P S)).degree u ≤ c → IsReducibleWord P S u → Contains reducible_words u
-  reducible_listed pos sees u hu le r = kept_has reduces (s_words_to (length (letter_degrees P S)) (lead_degrees (letters P S)) c) u (listed u hu le)
+  reducible_listed pos sees u hu le r = passing_has reduces (s_words_to (length (letter_degrees P S)) (lead_degrees (letters P S)) c) u (listed u hu le)
       (⊎_elim (λ l. ap (λ b. b || any smaller words) (sees (image_of (letters P S) u) l)) (λ s. ap (λ b. leads (image_of (letters P S) u) || b) (by_smaller s.0 s.1) ∙ or_true (leads (image_of (letters P S) u))) r)
     where
       words : List (List ℕ)

@@ -20,6 +20,11 @@ module _ {E : Type 0} (P : Presented E) where
   abbrev pub AreMembers : List (Polynomial E) → Type 0
   AreMembers S = (s : Polynomial E) → Contains S s → InSubalgebra P s
 
+  -- no lead of S is a monomial of another element
+  abbrev pub AreReducedByEachOther : List (Polynomial E) → Type 0
+  AreReducedByEachOther S = (i j : ℕ) → i < length S → j < length S → i ≢ j →
+      coefficient P.field (get_or S i []) (lead_monomial (get_or S j [])) ≡ P.field.zero
+
   -- each monomial of a has a degree of at most d
   abbrev pub HasDegreesTo : ℕ → Polynomial E → Type 0
   HasDegreesTo d a = (m : Exponents) → coefficient P.field a m ≢ P.field.zero → P.order.degree m ≤ d

@@ -1,5 +1,5 @@
 -- The laws. The contracts of `laws` say of which presentations and lists of elements each of them holds.
-use Rattle.std.specs.Prelude.{◌≡◌, ◌≢◌, ℕ, suc, ◌≤◌, ◌⊎◌, ◌↔◌, List, [], ◌++◌, map, Contains}
+use Rattle.std.specs.Prelude.{◌≡◌, ◌≢◌, ℕ, suc, ◌<◌, ◌≤◌, ◌⊎◌, ◌↔◌, List, [], ◌++◌, length, get_or, map, Contains}
 use Rattle.std.specs.declared.cmp.Ordering.TheVariants.{Less}
 use Rattle.word_field.specs.Field.{IsValue}
 use Rattle.monomial_order.specs.MonomialOrder.{IsIncreasing}
@@ -8,8 +8,8 @@ use Rattle.monomial_order.specs.Monomial.{Exponents, IsMultiple}
 use Rattle.polynomials.specs.Polynomial.{Polynomial, coefficient, constant, times, Same, IsPoly, IsLead, IsHomogeneous, lead_monomial}
 use Rattle.polynomials.specs.Ideal.{Congruent}
 use Rattle.polynomials.specs.Subalgebra.{Presented, IsPresentation, InSubalgebra, LeadsIdeal, LeadsSubalgebra, IsStandard, IsNormalForm, IsGenerated, IsReducedBasis}
-use Rattle.subalgebra_laws.specs.Words.{letters, word_value, combination_value, IsReducibleWord, IsMinimalWord, IsIrreducibleSum, IsTopWord, IsCombination, HasSumAndRest, IsSubductionRemainder}
-use Rattle.subalgebra_laws.specs.Bases.{AreMonicElements, AreMembers, HasDegreesTo, HaveLeadsFrom, IsDecidedTo, AreZerosTo, HasCombinationsAt, IsIdealClosedAt, IsClosedAt, AreAfter, AreStandardAfter, AreNextTo, IsCheckedElement, IsCheckedBasis}
+use Rattle.subalgebra_laws.specs.Words.{letters, word_value, combination_value, IsReducibleWord, IsMinimalWord, IsIrreducibleSum, IsTopWord, IsCombination, HasSumAndRest, linear_sum, IsSubductionRemainder}
+use Rattle.subalgebra_laws.specs.Bases.{AreMonicElements, AreMembers, AreReducedByEachOther, HasDegreesTo, HaveLeadsFrom, IsDecidedTo, AreZerosTo, HasCombinationsAt, IsIdealClosedAt, IsClosedAt, AreAfter, AreStandardAfter, AreNextTo, IsCheckedElement, IsCheckedBasis}
 
 -- What a law holds of. E is the type of the coefficients.
 
@@ -128,6 +128,12 @@ module _ {E : Type 0} (P : Presented E) where
     SumsAreUnique = (a e g : Polynomial E) → IsIrreducibleSum P S e → IsIrreducibleSum P S g →
         Congruent P.field P.order.places P.ideal a (combination_value P S e) →
         Congruent P.field P.order.places P.ideal a (combination_value P S g) → e ≡ g
+
+    -- if the elements are reduced by each other, a sum of multiples has their constants for coefficients at the leads
+    abbrev pub LeadsDetermineLinearSums : Type 0
+    LeadsDetermineLinearSums = AreReducedByEachOther P S → (cs : List E) (i : ℕ) → i < length cs → i < length S →
+        IsValue P.field (get_or cs i P.field.zero) →
+        coefficient P.field (linear_sum P cs S) (lead_monomial (get_or S i [])) ≡ get_or cs i P.field.zero
 
     -- a sum with a rest is unique, and a combination exactly if the rest is zero
     abbrev pub SumsAndRestsAreUnique : Type 0

@@ -3,7 +3,7 @@ use Rattle.std.specs.Prelude.{◌≡◌, ◌≢◌, List, [], ◌∷◌, ◌++�
 use Rattle.std.specs.declared.cmp.Ordering.TheVariants.{Less}
 use Rattle.monomial_order.specs.Monomial.{Exponents}
 use Rattle.word_laws.specs.Words.{Letters, word_order_of, image_of, variables, IsSWord, IsReducible, IsMinimalReducible}
-use Rattle.polynomials.specs.Polynomial.{Polynomial, coefficient, term_of, lead_monomial, minus, IsPoly, IsDecreasing}
+use Rattle.polynomials.specs.Polynomial.{Polynomial, coefficient, constant, times, term_of, lead_monomial, minus, IsPoly, IsDecreasing}
 use Rattle.polynomials.specs.Ideal.{Congruent}
 use Rattle.polynomials.specs.Value.{value, monomial_value}
 use Rattle.polynomials.specs.Subalgebra.{Presented, LeadsIdeal, IsStandard, IsGenerated, InSubalgebra, LeadsSubalgebra}
@@ -57,6 +57,13 @@ module _ {E : Type 0} (P : Presented E) (S : List (Polynomial E)) where
     pub reduced : (m : Exponents) →
         coefficient P.field r m ≢ P.field.zero → IsStandard P m × (¬ IsGenerated (map lead_monomial S) m)
     pub equal : Congruent P.field P.order.places P.ideal a (combination_value e ++ r)
+
+module _ {E : Type 0} (P : Presented E) where
+  -- the sum of the elements, each times its constant
+  abbrev pub linear_sum : List E → List (Polynomial E) → Polynomial E
+  linear_sum [] S = []
+  linear_sum (c ∷ cs) [] = []
+  linear_sum (c ∷ cs) (s ∷ S) = times P.field (constant P.field c) s ++ linear_sum cs S
 
 -- r differs from a by a member of the subalgebra, and each monomial of r is standard and leads no member of it
 pub record IsSubductionRemainder {E : Type 0} (P : Presented E) (a r : Polynomial E) : Type 0 where

@@ -4,7 +4,7 @@ ghost use Rattle.monomial_order.specs.declared.terms.Term.{Term};
 ghost use Rattle.monomial_order.specs.Monomial.{Exponents};
 ghost use Rattle.polynomials.specs.Subalgebra.{IsPresentation, IsReducedBasis, Presented};
 ghost use Rattle.subalgebra_laws.specs.Bases.{AreMonicElements, AreStandardAfter, AreZerosTo, HasCombinationsTo, HaveLeadsFrom, IsDecidedTo, IsIdealClosedAt};
-ghost use Rattle.subalgebra_laws.specs.Statements.{CheckingIsExact, ClosedIdealsAreDecided, ClosedIdealsKeepZeros, CombinationsHaveGeneratedLeads, CombinationsStay, CongruentAreCombinations, ElementsAreCombinations, EndsCanBeExchanged, ForClosedBases, ForDecidedIdeals, ForMonicElements, ForMonicMembers, ForNewElements, ForNextElements, ForPresentations, ForStandardElements, FrontsAreReduced, IncreasingListsAreEqual, IrreducibleWordsAreCombinations, LeadsAreExactly, LeadsAreGenerated, LeastWordsAreIrreducible, LowMembersAreCombinations, MembersAreCombinations, MinimalWordsStay, MultiplesAreCombinations, NextBasisIsReduced, ProductsAreImages, ProductsSplit, RemaindersAreUnique, RemaindersDecideMembership, RestsDecideCombinations, StandardProductsLead, SumsAndRestsAreUnique, SumsAreCombinations, SumsAreUnique, SumsHaveTopWords, SumsOfSWordsAreMembers, SumsStay, SumsWithoutNewLettersStay, SWordsAreMembers, TopImagesAreLeast, TopImagesLead, TopImagesLeadNormalForms, ValuesStay, WordsAreDecided, ZerosDecide, ZerosRepresentTheIdeal};
+ghost use Rattle.subalgebra_laws.specs.Statements.{CheckingIsExact, ClosedIdealsAreDecided, ClosedIdealsKeepZeros, CombinationsHaveGeneratedLeads, CombinationsStay, CongruentAreCombinations, ElementsAreCombinations, EndsCanBeExchanged, ForClosedBases, ForDecidedIdeals, ForMonicElements, ForMonicMembers, ForNewElements, ForNextElements, ForPresentations, ForStandardElements, FrontsAreReduced, IncreasingListsAreEqual, IrreducibleWordsAreCombinations, LeadsAreExactly, LeadsAreGenerated, LeadsDetermineLinearSums, LeastWordsAreIrreducible, LowMembersAreCombinations, MembersAreCombinations, MinimalWordsStay, MultiplesAreCombinations, NextBasisIsReduced, ProductsAreImages, ProductsSplit, RemaindersAreUnique, RemaindersDecideMembership, RestsDecideCombinations, StandardProductsLead, SumsAndRestsAreUnique, SumsAreCombinations, SumsAreUnique, SumsHaveTopWords, SumsOfSWordsAreMembers, SumsStay, SumsWithoutNewLettersStay, SWordsAreMembers, TopImagesAreLeast, TopImagesLead, TopImagesLeadNormalForms, ValuesStay, WordsAreDecided, ZerosDecide, ZerosRepresentTheIdeal};
 ghost use Rattle.polynomials.specs.Polynomial.{Polynomial};
 
 use word_field::Field;
@@ -41,6 +41,7 @@ pub fn uniqueness<F: Field>()
     ensures members { ForPresentations F.Elem RemaindersDecideMembership }
     ensures rests { ForMonicElements F.Elem SumsAndRestsAreUnique }
     ensures combinations { ForMonicElements F.Elem RestsDecideCombinations }
+    ensures linear { ForMonicElements F.Elem LeadsDetermineLinearSums }
     ensures lists { ForPresentations F.Elem IncreasingListsAreEqual }
 {}
 

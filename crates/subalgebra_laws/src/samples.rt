@@ -1,4 +1,4 @@
-//! The laws at presentations that were worked by hand, where their premises are met.
+//! The laws at presentations that were worked by hand and meet their premises.
 ghost use Rattle.std.specs.Prelude.{◌≡◌, ◌≤◌, ◌++◌, map, List, [], ◌∷◌, ℕ};
 ghost use Rattle.monomial_order.specs.declared.terms.Term.{Term};
 ghost use Rattle.polynomials.specs.Polynomial.{Polynomial, lead_monomial, IsLead};
@@ -22,7 +22,7 @@ pub fn squares_to_every_degree()
     laws::decisions::<WordField>();
 }
 
-/// A subalgebra without a finite basis, from its generators to degree 4, where one relation comes.
+/// A subalgebra without a finite basis, from its generators to degree 4, with one relation.
 pub fn endless_to_degree_4()
     ensures start { IsReducedBasis endless 3 endless.generators }
     ensures basis { IsReducedBasis endless 4 endless_basis }
@@ -45,7 +45,7 @@ pub fn endless_to_degree_4()
     laws::words::<WordField>();
 }
 
-/// A subalgebra modulo an ideal, to degree 3, where x^2 stands for the ideal.
+/// A subalgebra modulo an ideal, to degree 3. The multiples of x^2 represent the leads of the ideal.
 pub fn quotient_to_degree_3()
     ensures basis { IsReducedBasis quotient 3 quotient_basis }
     ensures members { LowMembersAreCombinations quotient quotient_basis 3 }
