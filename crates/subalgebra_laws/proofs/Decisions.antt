@@ -18,6 +18,20 @@ use Rattle.polynomials.specs.laws.Coefficients.{found_monomial}
 use Rattle.subalgebra_laws.proofs.Letters.{letter_degrees, word_monic, letter_laws, word_degree, are_letters}
 use Rattle.polynomials.specs.Polynomial.{Polynomial}
 
+-- the members of a list with a decided property
+decided_members : {A : Type 0} (D : A → Type 0) → ((v : A) → D v ⊎ (D v → ⊥)) → (ks : List A) → (zs : List A) × ((v : A) → Contains zs v ↔ (Contains ks v × D v))
+decided_members D dec [] = ([], λ v. ((λ k. absurd (contains_none v k)), (λ k. absurd (contains_none v k.0))))
+decided_members {A} D dec (x ∷ ks) = more (decided_members D dec ks)
+  where
+    more : (zs : List A) × ((v : A) → Contains zs v ↔ (Contains ks v × D v)) → (zs : List A) × ((v : A) → Contains zs v ↔ (Contains (x ∷ ks) v × D v))
+    more (zs, r) = ⊎_elim
+        (λ d. (x ∷ zs, λ v. (
+          (λ k. ⊎_elim (λ e. subst (λ y. Contains (x ∷ ks) y × D y) e (contains_here x ks, d)) (λ i. let p = (r v).0 i in (contains_there x ks v p.0, p.1)) (contains_cases x zs v k)),
+          (λ k. ⊎_elim (λ e. subst (Contains (x ∷ zs)) e (contains_here x zs)) (λ i. contains_there x zs v ((r v).1 (i, k.1))) (contains_cases x ks v k.0)),
+        )))
+        (λ n. (zs, λ v. ((λ k. let p = (r v).0 k in (contains_there x ks v p.0, p.1)), (λ k. ⊎_elim (λ e. absurd (n (subst D (sym e) k.1))) (λ i. (r v).1 (i, k.1)) (contains_cases x ks v k.0)))))
+        (dec x)
+
 module _ {E : Type 0} (P : Presented E) (H : IsPresentation P) where
   pub monomial_of_lead : (m : List ℕ) → LeadsIdeal P m → IsMonomial P.order.places m
   monomial_of_lead m h = found_monomial P.field H.field P.order H.order h.member h.poly m h.leads.nonzero
@@ -34,42 +48,24 @@ module _ {E : Type 0} (P : Presented E) (H : IsPresentation P) where
       })
       l)
 
-  -- the leads of the ideal among the monomials of a list
-  record AreLeadsAmong (c : ℕ) (ks zs : List (List ℕ)) : Type 0 where
-    lead : (n : List ℕ) → Contains zs n → LeadsIdeal P n
-    all : (m : List ℕ) → Contains ks m → LeadsIdeal P m → P.order.degree m ≤ c → Contains zs m
-
-  with_lead : (c : ℕ) (x : List ℕ) (ks zs : List (List ℕ)) → AreLeadsAmong c ks zs → LeadsIdeal P x → AreLeadsAmong c (x ∷ ks) (x ∷ zs)
-  with_lead c x ks zs r l = record {
-    lead = λ n k. ⊎_elim (λ e. subst (LeadsIdeal P) e l) (λ i. r.lead n i) (contains_cases x zs n k);
-    all = λ m k lm d. ⊎_elim (λ e. subst (Contains (x ∷ zs)) e (contains_here x zs)) (λ i. contains_there x zs m (r.all m i lm d)) (contains_cases x ks m k);
-  }
-
-  without_lead : (c : ℕ) (x : List ℕ) (ks zs : List (List ℕ)) → AreLeadsAmong c ks zs → (LeadsIdeal P x → P.order.degree x ≤ c → ⊥) → AreLeadsAmong c (x ∷ ks) zs
-  without_lead c x ks zs r n = record {
-    lead = r.lead;
-    all = λ m k lm d. ⊎_elim (λ e. absurd (n (subst (LeadsIdeal P) (sym e) lm) (subst (λ y. P.order.degree y ≤ c) (sym e) d))) (λ i. r.all m i lm d) (contains_cases x ks m k);
-  }
-
-  leads_among : (c : ℕ) → IsDecidedTo P c → (ks : List (List ℕ)) → (zs : List (List ℕ)) × AreLeadsAmong c ks zs
-  leads_among c dec [] = ([], record { lead = λ n k. absurd (contains_none n k); all = λ m k l d. absurd (contains_none m k) })
-  leads_among c dec (x ∷ ks) =
-      let r = leads_among c dec ks in
-      let none : (LeadsIdeal P x → P.order.degree x ≤ c → ⊥) → (zs : List (List ℕ)) × AreLeadsAmong c (x ∷ ks) zs = λ n. (r.0, without_lead c x ks r.0 r.1 n) in
-      ⊎_elim
-      (λ mono. ⊎_elim (λ le. ⊎_elim (λ l. (x ∷ r.0, with_lead c x ks r.0 r.1 l)) (λ n. none (λ l d. n l)) (dec x mono le)) (λ n. none (λ l d. n d)) (le_or_not (P.order.degree x) c))
-      (λ n. none (λ l d. n (monomial_of_lead x l))) (monomial_or_not P.order.places x)
-
   -- a decided ideal has a list of zeros
   pub decided_zeros : (c : ℕ) → IsDecidedTo P c → (zs : List (List ℕ)) × AreZerosTo P c zs
   decided_zeros c dec =
-      let r = leads_among c dec (lists P.order.places c) in (
+      let r = decided_members LeadsTo leads_or_not (lists P.order.places c) in (
         r.0,
         record {
-          lead = r.1.lead;
-          divide = λ m l d. (m, r.1.all m (within_listed P.order H.order c m (record { monomial = monomial_of_lead m l; degree = d })) l d, λ i. omega arith);
+          lead = λ n k. ((r.1 n).0 k).1.0;
+          divide = λ m l d. (m, (r.1 m).1 (within_listed P.order H.order c m (record { monomial = monomial_of_lead m l; degree = d }), (l, d)), λ i. omega arith);
         },
       )
+    where
+      LeadsTo : List ℕ → Type 0
+      LeadsTo m = LeadsIdeal P m × (P.order.degree m ≤ c)
+
+      leads_or_not : (m : List ℕ) → LeadsTo m ⊎ (LeadsTo m → ⊥)
+      leads_or_not m = ⊎_elim
+          (λ le. ⊎_elim (λ mono. ⊎_elim (λ l. inl (l, le)) (λ n. inr (λ h. n h.0)) (dec m mono le)) (λ n. inr (λ h. n (monomial_of_lead m h.0))) (monomial_or_not P.order.places m))
+          (λ n. inr (λ h. n h.1)) (le_or_not (P.order.degree m) c)
 
   module _ (c : ℕ) (zeros : List (List ℕ)) (Z : AreZerosTo P c zeros) where
     multiple_leads : (m : List ℕ) → IsMonomial P.order.places m → IsMultiple zeros m → LeadsIdeal P m

@@ -15,7 +15,7 @@ use Rattle.polynomials.specs.laws.Degrees.{all_found}
 use Rattle.polynomials.specs.laws.Congruence.{congruent_same}
 use Rattle.subalgebra_laws.specs.Words.{letters, word_value, combination_value, IsReducibleWord, IsMinimalWord, IsIrreducibleSum, IsTopWord, IsCombination}
 use Rattle.subalgebra_laws.specs.Bases.{IsMonicElement, AreMonicElements, IsDecidedTo, AreNextTo, HasCombinationsTo, HasCombinationsAt, IsCheckedElement, IsCheckedBasis}
-use Rattle.subalgebra_laws.specs.Samples.{sum_xy, x_times_y, endless, endless_basis, endless_word, endless_right_side}
+use Rattle.subalgebra_laws.specs.Samples.{sum_xy, x_times_y, endless, endless_basis, endless_word, right_side}
 use Rattle.subalgebra_laws.proofs.Plane.{field, plane, plane_laws, term_in, sum_decreasing, product_decreasing}
 use Rattle.subalgebra_laws.proofs.Letters.{letter_laws}
 use Rattle.subalgebra_laws.proofs.Combinations.{IsIrreducible, combination_same, combination_word}
@@ -78,7 +78,7 @@ irreducible : (w : List ℕ) → IsSWord (letters endless endless_basis) w → (
 irreducible w h le ne = (h, λ r. ne (reducible_is w h le r))
 
 -- s_2^2 + s_4 is a sum of irreducible words, and s_2^2 its word with the greatest image
-pub right_side_sum : IsIrreducibleSum endless endless_basis endless_right_side
+pub right_side_sum : IsIrreducibleSum endless endless_basis right_side
 right_side_sum = record {
   decreasing = (record { term = record { monomial = a.0; value = refl }; nonzero = λ e. cc; above = (refl, tt) }, (record { term = record { monomial = b.0; value = refl }; nonzero = λ e. cc; above = tt }, tt));
   words = λ w k. (at_word w k).0;
@@ -91,21 +91,21 @@ right_side_sum = record {
     b : IsSWord (letters endless endless_basis) (0 ∷ (0 ∷ (0 ∷ (0 ∷ (0 ∷ (1 ∷ []))))))
     b = (record { trimmed = λ e. cc; within = omega arith }, refl)
 
-    at_word : (w : List ℕ) → coefficient (residues 101) endless_right_side w ≢ 0 → IsIrreducible endless presentation endless_basis monic w
-    at_word = all_found (residues 101) field (word_order_of (letters endless endless_basis)) (letter_laws endless presentation endless_basis monic) (IsIrreducible endless presentation endless_basis monic) endless_right_side
+    at_word : (w : List ℕ) → coefficient (residues 101) right_side w ≢ 0 → IsIrreducible endless presentation endless_basis monic w
+    at_word = all_found (residues 101) field (word_order_of (letters endless endless_basis)) (letter_laws endless presentation endless_basis monic) (IsIrreducible endless presentation endless_basis monic) right_side
         (irreducible s2_squared a (omega arith) (λ e. cc), (irreducible (0 ∷ (0 ∷ (0 ∷ (0 ∷ (0 ∷ (1 ∷ [])))))) b (omega arith) (λ e. cc), tt))
 
-pub right_side_top : IsTopWord endless endless_basis endless_right_side s2_squared
+pub right_side_top : IsTopWord endless endless_basis right_side s2_squared
 right_side_top = record {
   nonzero = λ z. right_side_sum.decreasing.0.nonzero (sym (coefficient_first (residues 101) field (word_order_of (letters endless endless_basis)) (letter_laws endless presentation endless_basis monic)
       (term_of s2_squared 1) (term_of (0 ∷ (0 ∷ (0 ∷ (0 ∷ (0 ∷ (1 ∷ [])))))) 1 ∷ []) right_side_sum.decreasing.0) ∙ z);
   greatest = λ v k ne. ⊎_elim (λ e. absurd (ne e)) (λ e. subst (λ w. plane.compare (image_of (letters endless endless_basis) w) (2 ∷ (2 ∷ [])) ≡ Less) (sym e) refl)
       (all_found (residues 101) field (word_order_of (letters endless endless_basis)) (letter_laws endless presentation endless_basis monic)
-      (λ w. (w ≡ s2_squared) ⊎ (w ≡ 0 ∷ (0 ∷ (0 ∷ (0 ∷ (0 ∷ (1 ∷ []))))))) endless_right_side (inl refl, (inr refl, tt)) v k);
+      (λ w. (w ≡ s2_squared) ⊎ (w ≡ 0 ∷ (0 ∷ (0 ∷ (0 ∷ (0 ∷ (1 ∷ []))))))) right_side (inl refl, (inr refl, tt)) v k);
 }
 
-pub relation : Congruent (residues 101) 2 [] (word_value endless endless_basis endless_word) (combination_value endless endless_basis endless_right_side)
-relation = congruent_same (residues 101) field 2 [] (word_value endless endless_basis endless_word) (combination_value endless endless_basis endless_right_side) (λ m. refl)
+pub relation : Congruent (residues 101) 2 [] (word_value endless endless_basis endless_word) (combination_value endless endless_basis right_side)
+relation = congruent_same (residues 101) field 2 [] (word_value endless endless_basis endless_word) (combination_value endless endless_basis right_side) (λ m. refl)
 
 -- each generator is the value of its letter
 pub combinations : HasCombinationsTo endless 4 endless_basis
@@ -117,7 +117,7 @@ combinations = record {
       (letter (x_times_y 2) (0 ∷ (0 ∷ (0 ∷ (0 ∷ (1 ∷ []))))) (record { trimmed = λ e. cc; within = omega arith }, refl) (omega arith) (λ e. cc) (λ m. refl), tt),
     ),
   ) f k;
-  words = λ u h le. subst (λ w. IsCombination endless endless_basis (word_value endless endless_basis w)) (sym (reducible_is u h.1 le h.0.reducible)) (record { sum = endless_right_side; irreducible = right_side_sum; equal = relation });
+  words = λ u h le. subst (λ w. IsCombination endless endless_basis (word_value endless endless_basis w)) (sym (reducible_is u h.1 le h.0.reducible)) (record { sum = right_side; irreducible = right_side_sum; equal = relation });
 }
   where
     letter : (f : Polynomial ℕ) (w : List ℕ) → IsSWord (letters endless endless_basis) w → (word_order_of (letters endless endless_basis)).degree w ≤ 4 → w ≢ endless_word → Same (residues 101) f (word_value endless endless_basis w) →
@@ -203,7 +203,7 @@ fourth_combinations = record {
   generators = λ f k h. combinations.generators f 4 k h (omega arith);
   words = λ u h e.
       subst (λ w. IsCombination endless endless_basis (word_value endless endless.generators w)) (sym (start_reducible_is u h.1 (omega arith) h.0.reducible))
-      (record { sum = endless_right_side; irreducible = right_side_sum; equal = relation });
+      (record { sum = right_side; irreducible = right_side_sum; equal = relation });
 }
 
 pub generators_combine : IsCombination endless endless_basis sum_xy × IsCombination endless endless_basis (x_times_y 1)

@@ -39,9 +39,12 @@ endless_basis = sum_xy ∷ (x_times_y 1 ∷ (x_times_y 2 ∷ (x_times_y 3 ∷ []
 abbrev pub endless_word : Exponents
 endless_word = 0 ∷ (0 ∷ (1 ∷ (0 ∷ (1 ∷ []))))
 
-abbrev pub endless_right_side : Polynomial ℕ
-endless_right_side =
+abbrev pub right_side : Polynomial ℕ
+right_side =
     term_of (0 ∷ (0 ∷ (0 ∷ (2 ∷ [])))) 1 ∷ (term_of (0 ∷ (0 ∷ (0 ∷ (0 ∷ (0 ∷ (1 ∷ [])))))) 1 ∷ [])
+
+abbrev pub xy_squared : Exponents
+xy_squared = 2 ∷ (2 ∷ [])
 
 -- nor has that of x + y modulo x^2 - y^2, whose elements are x + y, xy + y^2, xy^2 + y^3, ..
 abbrev pub difference_of_squares : Polynomial ℕ

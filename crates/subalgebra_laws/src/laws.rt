@@ -34,7 +34,7 @@ pub fn words<F: Field>()
     ensures sums { ForMonicMembers F.Elem SumsOfSWordsAreMembers }
 {}
 
-/// Sums of irreducible s-words are unique, with or without a rest. So are remainders, which are zero exactly for members.
+/// Sums of irreducible s-words are unique, with or without a rest. So are remainders.
 pub fn uniqueness<F: Field>()
     ensures sums { ForMonicElements F.Elem SumsAreUnique }
     ensures remainders { ForPresentations F.Elem RemaindersAreUnique }
