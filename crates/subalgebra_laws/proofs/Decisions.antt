@@ -25,10 +25,13 @@ decided_members {A} D dec (x ∷ ks) = more (decided_members D dec ks)
   where
     more : (zs : List A) × ((v : A) → Contains zs v ↔ (Contains ks v × D v)) → (zs : List A) × ((v : A) → Contains zs v ↔ (Contains (x ∷ ks) v × D v))
     more (zs, r) = ⊎_elim
-        (λ d. (x ∷ zs, λ v. (
-          (λ k. ⊎_elim (λ e. subst (λ y. Contains (x ∷ ks) y × D y) e (contains_here x ks, d)) (λ i. let p = (r v).0 i in (contains_there x ks v p.0, p.1)) (contains_cases x zs v k)),
-          (λ k. ⊎_elim (λ e. subst (Contains (x ∷ zs)) e (contains_here x zs)) (λ i. contains_there x zs v ((r v).1 (i, k.1))) (contains_cases x ks v k.0)),
-        )))
+        (λ d. (
+          x ∷ zs,
+          λ v. (
+            (λ k. ⊎_elim (λ e. subst (λ y. Contains (x ∷ ks) y × D y) e (contains_here x ks, d)) (λ i. let p = (r v).0 i in (contains_there x ks v p.0, p.1)) (contains_cases x zs v k)),
+            (λ k. ⊎_elim (λ e. subst (Contains (x ∷ zs)) e (contains_here x zs)) (λ i. contains_there x zs v ((r v).1 (i, k.1))) (contains_cases x ks v k.0)),
+          ),
+        ))
         (λ n. (zs, λ v. ((λ k. let p = (r v).0 k in (contains_there x ks v p.0, p.1)), (λ k. ⊎_elim (λ e. absurd (n (subst D (sym e) k.1))) (λ i. (r v).1 (i, k.1)) (contains_cases x ks v k.0)))))
         (dec x)
 
