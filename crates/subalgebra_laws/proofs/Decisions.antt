@@ -36,13 +36,10 @@ decided_members {A} D dec (x ∷ ks) = more (decided_members D dec ks)
         (dec x)
 
 module _ {E : Type 0} (P : Presented E) (H : IsPresentation P) where
-  pub monomial_of_lead : (m : List ℕ) → LeadsIdeal P m → IsMonomial P.order.places m
-  monomial_of_lead m h = found_monomial P.field H.field P.order H.order h.member h.poly m h.leads.nonzero
-
   -- a monomial that a lead of the ideal divides is one
   pub lead_multiple : (n m : List ℕ) → LeadsIdeal P n → IsMonomial P.order.places m → Divides n m → LeadsIdeal P m
   lead_multiple n m l hm d =
-      let k = cofactor n m (monomial_of_lead n l).trimmed hm.trimmed d in
+      let k = cofactor n m (found_monomial P.field H.field P.order H.order l.member l.poly n l.leads.nonzero).trimmed hm.trimmed d in
       subst (LeadsIdeal P) (product_comm k.0 n ∙ k.2)
       (lead_times P H k.0 n
       (record {
@@ -58,7 +55,7 @@ module _ {E : Type 0} (P : Presented E) (H : IsPresentation P) where
         r.0,
         record {
           lead = λ n k. ((r.1 n).0 k).1.0;
-          divide = λ m l d. (m, (r.1 m).1 (within_listed P.order H.order c m (record { monomial = monomial_of_lead m l; degree = d }), (l, d)), λ i. omega arith);
+          divide = λ m l d. (m, (r.1 m).1 (within_listed P.order H.order c m (record { monomial = found_monomial P.field H.field P.order H.order l.member l.poly m l.leads.nonzero; degree = d }), (l, d)), λ i. omega arith);
         },
       )
     where
@@ -67,7 +64,7 @@ module _ {E : Type 0} (P : Presented E) (H : IsPresentation P) where
 
       leads_or_not : (m : List ℕ) → LeadsTo m ⊎ (LeadsTo m → ⊥)
       leads_or_not m = ⊎_elim
-          (λ le. ⊎_elim (λ mono. ⊎_elim (λ l. inl (l, le)) (λ n. inr (λ h. n h.0)) (dec m mono le)) (λ n. inr (λ h. n (monomial_of_lead m h.0))) (monomial_or_not P.order.places m))
+          (λ le. ⊎_elim (λ mono. ⊎_elim (λ l. inl (l, le)) (λ n. inr (λ h. n h.0)) (dec m mono le)) (λ n. inr (λ h. n (found_monomial P.field H.field P.order H.order h.0.member h.0.poly m h.0.leads.nonzero))) (monomial_or_not P.order.places m))
           (λ n. inr (λ h. n h.1)) (le_or_not (P.order.degree m) c)
 
   module _ (c : ℕ) (zeros : List (List ℕ)) (Z : AreZerosTo P c zeros) where

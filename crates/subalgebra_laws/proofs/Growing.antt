@@ -25,7 +25,7 @@ use Rattle.polynomials.specs.laws.Decreasing.{IsDecreasing_IsPoly}
 use Rattle.polynomials.specs.laws.Degrees.{decreasing_all}
 use Rattle.subalgebra_laws.specs.Words.{letters, letter_values, word_value, combination_value, IsReducibleWord, IsMinimalWord, IsCombination}
 use Rattle.subalgebra_laws.specs.Bases.{AreMonicElements, HasDegreesTo, HaveLeadsFrom, HasCombinationsTo, HasCombinationsAt, AreAfter, AreStandardAfter}
-use Rattle.subalgebra_laws.specs.Statements.{ValuesStay, SumsStay, SumsWithoutNewLettersStay, CombinationsStay, ElementsAreCombinations, MinimalWordsStay}
+use Rattle.subalgebra_laws.specs.Statements.{ValuesStay, SumsStay, SumsWithoutNewLettersStay, CombinationsStay, ElementsAreCombinations, MinimalWordsStay, OrderDoesNotMatter, NextAreCombinations}
 use Rattle.subalgebra_laws.proofs.Letters.{order_over, letter_degrees, places_letters, letter, letter_word, letter_image, letter_value, are_letters, letter_laws, word_degree, word_monic}
 use Rattle.subalgebra_laws.proofs.Combinations.{combination_same, combination_congruent, combination_word, combination_linear, sum_low}
 use Rattle.subalgebra_laws.proofs.Generated.{generated_images, generator_poly}
@@ -311,7 +311,7 @@ module _ {E : Type 0} (P : Presented E) (H : IsPresentation P) (d : ℕ) (S T : 
   )
 
   -- the combinations to the next degree
-  pub next_combinations : (c : ℕ) → suc c ≡ d → HasCombinationsTo P c S → HasCombinationsAt P d S T → HasCombinationsTo P d (S ++ T)
+  pub next_combinations : NextAreCombinations P S T d
   next_combinations c next comb here = record {
     generators = λ f e k h le. ⊎_elim
         (λ low. combination_grows P H S T HT d A.after.degree A.after.new f (generator_poly P H f k) (λ n z. let x = h.each n z in omega arith) (comb.generators f e k h low))
@@ -352,3 +352,16 @@ module _ {E : Type 0} (P : Presented E) (H : IsPresentation P) (d : ℕ) (S T U 
       (combination_linear P H (S ++ T) A.monic (order_over P (S ++ U)).places (letter_values P (S ++ U)) h.sum (IsDecreasing_IsPoly P.field (order_over P (S ++ U)) h.sum h.irreducible.decreasing)
       (decreasing_all P.field H.field (order_over P (S ++ U)) (letter_laws P H (S ++ U) HU) (λ w. IsCombination P (S ++ T) (word_value P (S ++ U) w)) h.sum h.irreducible.decreasing
       (λ w k. word_exchange w (h.irreducible.words w k) (h.irreducible.irreducible w k) (sum_low P H (S ++ U) HU d a ha low h w k))))
+
+-- the order of the elements at the end does not matter
+pub order_does_not_matter : {E : Type 0} (P : Presented E) (H : IsPresentation P) (d : ℕ) (S T : List (Polynomial E)) → AreStandardAfter P d S T → OrderDoesNotMatter P S T d
+order_does_not_matter {E} P H d S T A U HU same h = record {
+  generators = λ f k hf. exchange f (generator_poly P H f k) (λ m z. let x = hf.each m z in omega arith) (h.generators f k hf);
+  words = λ u m e. exchange (word_value P S u) (word_monic P H S HS u).poly (word_low P H S HS d u (omega arith)) (h.words u m e);
+}
+  where
+    HS : AreMonicElements P S
+    HS = front_monic P H S T A.after.monic
+
+    exchange : (a : Polynomial E) → IsPoly P.field P.order.places a → HasDegreesTo P d a → IsCombination P (S ++ U) a → IsCombination P (S ++ T) a
+    exchange = ends_exchange P H d S T U A.after HU (λ u k. A.after.degree u (same u k).0) (λ u k. element_combines P H d S T A u (same u k).0 (same u k).1)

@@ -9,7 +9,7 @@ use Rattle.polynomials.specs.Polynomial.{Polynomial, coefficient, constant, time
 use Rattle.polynomials.specs.Ideal.{Congruent}
 use Rattle.polynomials.specs.Subalgebra.{Presented, IsPresentation, InSubalgebra, LeadsIdeal, LeadsSubalgebra, IsStandard, IsNormalForm, IsGenerated, IsReducedBasis}
 use Rattle.subalgebra_laws.specs.Words.{letters, word_value, combination_value, IsReducibleWord, IsMinimalWord, IsIrreducibleSum, IsTopWord, IsCombination, HasSumAndRest, linear_sum, IsSubductionRemainder}
-use Rattle.subalgebra_laws.specs.Bases.{AreMonicElements, AreMembers, AreReducedByEachOther, HasDegreesTo, HaveLeadsFrom, IsDecidedTo, AreZerosTo, HasCombinationsAt, IsIdealClosedAt, IsClosedAt, AreAfter, AreStandardAfter, AreNextTo, IsCheckedElement, IsCheckedBasis}
+use Rattle.subalgebra_laws.specs.Bases.{AreMonicElements, AreMembers, AreReducedByEachOther, HasDegreesTo, HaveLeadsFrom, IsDecidedTo, AreZerosTo, HasCombinationsTo, HasCombinationsAt, IsIdealClosedAt, IsClosedAt, AreAfter, AreStandardAfter, AreNextTo, IsCheckedElement, IsCheckedBasis}
 
 -- What a law holds of. E is the type of the coefficients.
 
@@ -260,6 +260,17 @@ module _ {E : Type 0} (P : Presented E) where
       abbrev pub MinimalWordsStay : ℕ → Type 0
       MinimalWordsStay d = (u : Exponents) →
           (word_order_of (letters P (S ++ T))).degree u ≤ d → IsMinimalWord P (S ++ T) u ↔ IsMinimalWord P S u
+
+      -- in whatever order elements of the degree d were found, what is a combination with them is one with T
+      abbrev pub OrderDoesNotMatter : ℕ → Type 0
+      OrderDoesNotMatter d = (U : List (Polynomial E)) → AreMonicElements P (S ++ U) →
+          ((u : Polynomial E) → Contains U u → Contains T u × (P.order.degree (lead_monomial u) ≤ d)) →
+          HasCombinationsAt P d S U → HasCombinationsAt P d S T
+
+      -- the step to the next degree d, of combinations
+      abbrev pub NextAreCombinations : ℕ → Type 0
+      NextAreCombinations d = (c : ℕ) → suc c ≡ d →
+          HasCombinationsTo P c S → HasCombinationsAt P d S T → HasCombinationsTo P d (S ++ T)
 
       -- The step to the next degree d: the reduced basis to c and checked elements of that degree are the reduced
       -- basis to d, if the generators and the minimal reducible s-words over S of that degree are combinations.

@@ -1,4 +1,4 @@
-use Rattle.subalgebra_laws.proofs.Growing.{value_stays, combination_grows, sums_stay, sums_back, ends_exchange, element_combines, minimal_stays}
+use Rattle.subalgebra_laws.proofs.Growing.{value_stays, combination_grows, sums_stay, sums_back, ends_exchange, element_combines, minimal_stays, next_combinations, order_does_not_matter}
 use Rattle.subalgebra_laws.proofs.Next.{products_split, next_standard, next_reduced}
 use Rattle.subalgebra_laws.proofs.laws.growing.Goals as goal
 
@@ -13,5 +13,7 @@ returns g c = record {
   elements = λ P S T d H. element_combines P H d S T;
   minimal = λ P S T d H. minimal_stays P H d S T;
   differ = λ P S T d H. next_standard P H d S T;
+  order = λ P S T d H. order_does_not_matter P H d S T;
+  step = λ P S T d H. next_combinations P H d S T;
   next = λ P S T d H. next_reduced P H S T d;
 }
