@@ -15,3 +15,4 @@ mod Squares
 mod Plane
 mod Endless
 mod Quotient
+mod Compositions

@@ -2,7 +2,8 @@
 use Rattle.std.specs.Prelude.{◌≡◌, ◌≢◌, ℕ, ◌<◌, ◌≤◌, ◌⊎◌, List, [], ◌∷◌, ◌++◌, length, get_or, map, Contains}
 use Rattle.monomial_order.specs.Monomial.{Exponents, IsMonomial, Divides}
 use Rattle.word_laws.specs.Words.{word_order_of, IsWord}
-use Rattle.polynomials.specs.Polynomial.{Polynomial, coefficient, IsDecreasing, IsHomogeneous, lead_monomial}
+use Rattle.polynomials.specs.Polynomial.{Polynomial, coefficient, IsPoly, IsDecreasing, IsHomogeneous, lead_monomial}
+use Rattle.polynomials.specs.Ideal.{Congruent}
 use Rattle.polynomials.specs.Subalgebra.{Presented, InSubalgebra, LeadsIdeal, IsStandard, IsGenerated}
 use Rattle.monomial_order.specs.MonomialOrder.{IsIncreasing}
 use Rattle.subalgebra_laws.specs.Words.{letters, word_value, IsReducibleWord, IsMinimalWord, IsCombination}
@@ -19,6 +20,13 @@ module _ {E : Type 0} (P : Presented E) where
 
   abbrev pub AreMembers : List (Polynomial E) → Type 0
   AreMembers S = (s : Polynomial E) → Contains S s → InSubalgebra P s
+
+  -- two lists of polynomials that are congruent modulo the ideal, one by one
+  pub record AreCongruent (fs gs : List (Polynomial E)) : Type 0 where
+    pub same_length : length fs ≡ length gs
+    pub left : (f : Polynomial E) → Contains fs f → IsPoly P.field P.order.places f
+    pub right : (g : Polynomial E) → Contains gs g → IsPoly P.field P.order.places g
+    pub each : (i : ℕ) → i < length fs → Congruent P.field P.order.places P.ideal (get_or fs i []) (get_or gs i [])
 
   -- no lead of S is a monomial of another element
   abbrev pub AreReducedByEachOther : List (Polynomial E) → Type 0

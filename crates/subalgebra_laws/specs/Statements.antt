@@ -7,9 +7,10 @@ use Rattle.word_laws.specs.Words.{word_order_of, image_of, IsWord, IsSWord, IsLe
 use Rattle.monomial_order.specs.Monomial.{Exponents, IsMultiple}
 use Rattle.polynomials.specs.Polynomial.{Polynomial, coefficient, constant, times, Same, IsPoly, IsLead, IsHomogeneous, lead_monomial}
 use Rattle.polynomials.specs.Ideal.{Congruent}
+use Rattle.polynomials.specs.Value.{value}
 use Rattle.polynomials.specs.Subalgebra.{Presented, IsPresentation, InSubalgebra, LeadsIdeal, LeadsSubalgebra, IsStandard, IsNormalForm, IsGenerated, IsReducedBasis}
 use Rattle.subalgebra_laws.specs.Words.{letters, word_value, combination_value, IsReducibleWord, IsMinimalWord, IsIrreducibleSum, IsTopWord, IsCombination, HasSumAndRest, linear_sum, IsSubductionRemainder}
-use Rattle.subalgebra_laws.specs.Bases.{AreMonicElements, AreMembers, AreReducedByEachOther, HasDegreesTo, HaveLeadsFrom, IsDecidedTo, AreZerosTo, HasCombinationsTo, HasCombinationsAt, IsIdealClosedAt, IsClosedAt, AreAfter, AreStandardAfter, AreNextTo, IsCheckedElement, IsCheckedBasis}
+use Rattle.subalgebra_laws.specs.Bases.{AreMonicElements, AreMembers, AreReducedByEachOther, AreCongruent, HasDegreesTo, HaveLeadsFrom, IsDecidedTo, AreZerosTo, HasCombinationsTo, HasCombinationsAt, IsIdealClosedAt, IsClosedAt, AreAfter, AreStandardAfter, AreNextTo, IsCheckedElement, IsCheckedBasis}
 
 -- What a law holds of. E is the type of the coefficients.
 
@@ -63,6 +64,17 @@ module _ {E : Type 0} (P : Presented E) where
   abbrev pub RemaindersDecideMembership : Type 0
   RemaindersDecideMembership = (a r : Polynomial E) →
       IsSubductionRemainder P a r → InSubalgebra P a ↔ Same P.field r []
+
+  -- the value of e at the values of the polynomials hs is the value of e with hs put in
+  abbrev pub ValuesCompose : Type 0
+  ValuesCompose = (e : Polynomial E) (hs fs : List (Polynomial E)) →
+      Same P.field (value P.field e (map (λ h. value P.field h fs) hs)) (value P.field (value P.field e hs) fs)
+
+  -- values at polynomials that are congruent modulo the ideal are congruent
+  abbrev pub ValuesAreCongruent : Type 0
+  ValuesAreCongruent = (k : ℕ) (e : Polynomial E) (fs gs : List (Polynomial E)) →
+      IsPoly P.field k e → AreCongruent P fs gs →
+      Congruent P.field P.order.places P.ideal (value P.field e fs) (value P.field e gs)
 
   -- increasing lists with the same members are equal
   abbrev pub IncreasingListsAreEqual : Type 0

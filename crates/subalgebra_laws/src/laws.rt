@@ -4,7 +4,7 @@ ghost use Rattle.monomial_order.specs.declared.terms.Term.{Term};
 ghost use Rattle.monomial_order.specs.Monomial.{Exponents};
 ghost use Rattle.polynomials.specs.Subalgebra.{IsPresentation, IsReducedBasis, Presented};
 ghost use Rattle.subalgebra_laws.specs.Bases.{AreMonicElements, AreStandardAfter, AreZerosTo, HasCombinationsTo, HaveLeadsFrom, IsDecidedTo, IsIdealClosedAt};
-ghost use Rattle.subalgebra_laws.specs.Statements.{CheckingIsExact, ClosedIdealsAreDecided, ClosedIdealsKeepZeros, CombinationsHaveGeneratedLeads, CombinationsStay, CongruentAreCombinations, ElementsAreCombinations, EndsCanBeExchanged, ForClosedBases, ForDecidedIdeals, ForMonicElements, ForMonicMembers, ForNewElements, ForNextElements, ForPresentations, ForStandardElements, FrontsAreReduced, IncreasingListsAreEqual, IrreducibleWordsAreCombinations, LeadsAreExactly, LeadsAreGenerated, LeadsDetermineLinearSums, LeastWordsAreIrreducible, LowMembersAreCombinations, MembersAreCombinations, MinimalWordsStay, MultiplesAreCombinations, NextAreCombinations, NextBasisIsReduced, OrderDoesNotMatter, ProductsAreImages, ProductsSplit, RemaindersAreUnique, RemaindersDecideMembership, RestsDecideCombinations, StandardProductsLead, SumsAndRestsAreUnique, SumsAreCombinations, SumsAreUnique, SumsHaveTopWords, SumsOfSWordsAreMembers, SumsStay, SumsWithoutNewLettersStay, SWordsAreMembers, TopImagesAreLeast, TopImagesLead, TopImagesLeadNormalForms, ValuesStay, WordsAreDecided, ZerosDecide, ZerosRepresentTheIdeal};
+ghost use Rattle.subalgebra_laws.specs.Statements.{CheckingIsExact, ClosedIdealsAreDecided, ClosedIdealsKeepZeros, CombinationsHaveGeneratedLeads, CombinationsStay, CongruentAreCombinations, ElementsAreCombinations, EndsCanBeExchanged, ForClosedBases, ForDecidedIdeals, ForMonicElements, ForMonicMembers, ForNewElements, ForNextElements, ForPresentations, ForStandardElements, FrontsAreReduced, IncreasingListsAreEqual, IrreducibleWordsAreCombinations, LeadsAreExactly, LeadsAreGenerated, LeadsDetermineLinearSums, LeastWordsAreIrreducible, LowMembersAreCombinations, MembersAreCombinations, MinimalWordsStay, MultiplesAreCombinations, NextAreCombinations, NextBasisIsReduced, OrderDoesNotMatter, ProductsAreImages, ProductsSplit, RemaindersAreUnique, RemaindersDecideMembership, RestsDecideCombinations, StandardProductsLead, SumsAndRestsAreUnique, SumsAreCombinations, SumsAreUnique, SumsHaveTopWords, SumsOfSWordsAreMembers, SumsStay, SumsWithoutNewLettersStay, SWordsAreMembers, TopImagesAreLeast, TopImagesLead, TopImagesLeadNormalForms, ValuesAreCongruent, ValuesCompose, ValuesStay, WordsAreDecided, ZerosDecide, ZerosRepresentTheIdeal};
 ghost use Rattle.polynomials.specs.Polynomial.{Polynomial};
 
 use word_field::Field;
@@ -16,6 +16,12 @@ pub fn combinations<F: Field>()
     ensures normal_forms { ForMonicElements F.Elem TopImagesLeadNormalForms }
     ensures least { ForMonicElements F.Elem TopImagesAreLeast }
     ensures generated { ForMonicElements F.Elem CombinationsHaveGeneratedLeads }
+{}
+
+/// Values of values, and values at congruent polynomials.
+pub fn compositions<F: Field>()
+    ensures values { ForPresentations F.Elem ValuesCompose }
+    ensures congruent { ForPresentations F.Elem ValuesAreCongruent }
 {}
 
 /// What combinations are closed under.
