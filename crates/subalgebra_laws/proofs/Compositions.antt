@@ -1,9 +1,9 @@
 -- Values of values, and values at congruent polynomials.
-use Rattle.std.proofs.Common.{◌≡◌, ℕ, zero, suc, ◌<◌, refl, sym, ◌∙◌, ap, List, [], ◌∷◌, ◌++◌, length, get_or, arith}
+use Rattle.std.proofs.Common.{◌≡◌, ℕ, zero, suc, ◌<◌, refl, sym, ◌∙◌, ap, List, [], ◌∷◌, length, get_or, arith}
 use Rattle.std.specs.Prelude.{map, Contains}
 use Rattle.word_field.specs.Field.{FieldOps, IsField}
 use Rattle.monomial_order.specs.laws.Lists.{contains_here, contains_there}
-use Rattle.polynomials.specs.Polynomial.{Polynomial, coefficient, Same, times, constant, IsPoly}
+use Rattle.polynomials.specs.Polynomial.{Polynomial, coefficient, Same, constant, IsPoly}
 use Rattle.polynomials.specs.Ideal.{Congruent}
 use Rattle.polynomials.specs.Value.{power, value, monomial_value, term_value}
 use Rattle.polynomials.specs.Subalgebra.{Presented, IsPresentation}
@@ -12,7 +12,7 @@ use Rattle.polynomials.specs.laws.Value.{value-append, value-times, value-consta
 use Rattle.polynomials.specs.laws.Coefficients.{constant_poly}
 use Rattle.polynomials.specs.laws.Congruence.{congruent_refl, congruent_plus, congruent_times, congruent_times_left}
 use Rattle.polynomials.specs.laws.Membership.{ArePolys, IsPoly-power, IsPoly-monomial_value}
-use Rattle.subalgebra_laws.specs.Statements.{ValuesCompose, ValuesAreCongruent}
+use Rattle.subalgebra_laws.specs.Statements.{ValuesAreCongruent}
 
 module _ {E : Type 0} (K : FieldOps E) (F : IsField K) (fs : List (Polynomial E)) where
   abbrev at : Polynomial E → Polynomial E
