@@ -13,16 +13,16 @@ use Rattle.poly_core.specs.FallingLaws.{Falls_IsPoly}
 use Rattle.poly_core.specs.IdealLaws.{IsPoly-scaled, InIdeal_same, InIdeal_plus, InIdeal_times}
 use Rattle.poly_core.specs.CongruenceLaws.{InIdeal_negated, congruent_sym, congruent_trans, congruent_member, member_congruent}
 use Rattle.monomial_order.specs.Lists.{contains_cases, contains_here, contains_there, contains_none}
-use Rattle.quotient_gb.specs.Combinations.{HasDivisor}
-use Rattle.quotient_gb.specs.Criterion.{critical_pair, ReducesGenerators, JoinsPairs}
+use Rattle.quotient_gb.specs.Combinations.{HasLeadDivisor}
+use Rattle.quotient_gb.specs.Criterion.{s_polynomial, ReducesGenerators, RepresentsPairs}
 use Rattle.quotient_gb.specs.IdealBasis.{IsMonicMember}
-use Rattle.quotient_gb.specs.Remainder.{IsRemainder}
+use Rattle.quotient_gb.specs.Remainder.{IsRemainderBy}
 use Rattle.quotient_gb.proofs.Multiples.{degree-lcm, divides_left}
 use Rattle.quotient_gb.proofs.Combinations.{scaled_is, combines_inside}
 use Rattle.quotient_gb.proofs.Criterion.{IsReducer, monomials, scaled_leads}
 
 -- whether a lead of a member divides m is decided
-pub has_divisor_or_not : {E : Type 0} (G : List (List (Term E))) (m : List ℕ) → HasDivisor G m ⊎ (HasDivisor G m → ⊥)
+pub has_divisor_or_not : {E : Type 0} (G : List (List (Term E))) (m : List ℕ) → HasLeadDivisor G m ⊎ (HasLeadDivisor G m → ⊥)
 has_divisor_or_not [] m = inr (λ h. contains_none h.0 h.1)
 has_divisor_or_not (g ∷ G) m =
     ⊎_elim
@@ -49,7 +49,7 @@ module _ {E : Type 0} (P : Presented E) (H : IsPresentation P) (G : List (List (
         (InIdeal_times P.field H.field P.order.places P.ideal (t ∷ []) g (ht, tt) (members g h).inside)
 
     -- a multiple of the lead of a member leads a member of the ideal
-    pub divided_leads : (m : List ℕ) → IsMonomial P.order.places m → HasDivisor G m → LeadsIdeal P m
+    pub divided_leads : (m : List ℕ) → IsMonomial P.order.places m → HasLeadDivisor G m → LeadsIdeal P m
     divided_leads m hm (g, h, d) =
         let u = cofactor (lead g) m (lead_is g h).trimmed hm.trimmed d in
         let is : product u.0 (lead g) ≡ m = product_comm u.0 (lead g) ∙ u.2 in
@@ -64,16 +64,16 @@ module _ {E : Type 0} (P : Presented E) (H : IsPresentation P) (G : List (List (
         }
 
     -- a critical pair lies in the ideal
-    pub pair_inside : (u v : List ℕ) (g h : List (Term E)) → IsMonomial P.order.places u → IsMonomial P.order.places v → Contains G g → Contains G h →
-        InIdeal P.field P.order.places P.ideal (critical_pair P.field u g v h)
-    pair_inside u v g h hu hv hg hh =
+    pub s_polynomial_inside : (u v : List ℕ) (g h : List (Term E)) → IsMonomial P.order.places u → IsMonomial P.order.places v → Contains G g → Contains G h →
+        InIdeal P.field P.order.places P.ideal (s_polynomial P.field u g v h)
+    s_polynomial_inside u v g h hu hv hg hh =
         InIdeal_plus P.field H.field P.order.places P.ideal (scaled P.field (term_of u P.field.one) g) (negated P.field (scaled P.field (term_of v P.field.one) h))
         (scaled_inside (term_of u P.field.one) g (record { monomial = hu; value = H.field.one_value }) hg)
         (InIdeal_negated P.field H.field P.order.places P.ideal (scaled P.field (term_of v P.field.one) h) (scaled_inside (term_of v P.field.one) h (record { monomial = hv; value = H.field.one_value }) hh))
 
     -- the lead of what is left of a member of the ideal is a lead of the ideal, and new
-    pub remainder_leads : (B : List ℕ → Type 0) (a r : List (Term E)) → InIdeal P.field P.order.places P.ideal a → IsRemainder P.field P.order G B a r →
-        (m : List ℕ) → IsLead P.field P.order r m → LeadsIdeal P m × (¬ HasDivisor G m)
+    pub remainder_leads : (B : List ℕ → Type 0) (a r : List (Term E)) → InIdeal P.field P.order.places P.ideal a → IsRemainderBy P.field P.order G B a r →
+        (m : List ℕ) → IsLead P.field P.order r m → LeadsIdeal P m × (¬ HasLeadDivisor G m)
     remainder_leads B a r ha hr m l = (
       record {
         member = r;
@@ -88,8 +88,8 @@ module _ {E : Type 0} (P : Presented E) (H : IsPresentation P) (G : List (List (
     )
 
     -- where each pair to the degree D + D is joined, each pair is
-    pub joins_all : (D : ℕ) → ((g : List (Term E)) → Contains G g → P.order.degree (lead g) ≤ D) → JoinsPairs P (D + D) G → (c : ℕ) → JoinsPairs P c G
-    joins_all D degrees h c g k hg hk l =
+    pub represents_all : (D : ℕ) → ((g : List (Term E)) → Contains G g → P.order.degree (lead g) ≤ D) → RepresentsPairs P (D + D) G → (c : ℕ) → RepresentsPairs P c G
+    represents_all D degrees h c g k hg hk l =
         h g k hg hk (let e = degree-lcm P.order H.order P.order.places (lead g) (lead k) (lead_is g hg) (lead_is k hk) in let a = degrees g hg in let b = degrees k hk in omega arith)
 
     -- where the generators have a degree of at most D too, the premises at the degree D + D are those at every degree

@@ -22,15 +22,15 @@ use Rattle.poly_core.specs.FallingLaws.{Falls_IsPoly}
 use Rattle.poly_core.specs.CanonicalLaws.{zero_or_lead}
 use Rattle.poly_core.specs.CongruenceLaws.{coefficient-minus, minus_zero, InIdeal_negated}
 use Rattle.poly_core.specs.IdealLaws.{IsPoly-append, IsPoly-scaled, IsPoly-negated, InIdeal_plus}
-use Rattle.quotient_gb.specs.Combinations.{AtMost, HasDivisor, Combines, ReducesToZero}
-use Rattle.quotient_gb.specs.Criterion.{critical_pair, JoinsPairs}
+use Rattle.quotient_gb.specs.Combinations.{AtMost, HasLeadDivisor, Combines, HasStandardRepresentation}
+use Rattle.quotient_gb.specs.Criterion.{s_polynomial, RepresentsPairs}
 use Rattle.quotient_gb.specs.IdealBasis.{IsMonicMember}
 use Rattle.quotient_gb.proofs.Basics.{sum_nonzero, found_monomial}
 use Rattle.quotient_gb.proofs.Multiples.{divides_left}
 use Rattle.quotient_gb.proofs.Combinations.{combines_same, combines_plus, combines_one, combines_weaken}
 use Rattle.quotient_gb.proofs.Criterion.{coefficient-front, scaled_leads}
-use Rattle.quotient_gb.proofs.Pairs.{scaled_monic, pair_under, pair_poly, joined_reduction}
-use Rattle.quotient_gb.proofs.Bases.{reducer, lead_is, scaled_inside, pair_inside}
+use Rattle.quotient_gb.proofs.Pairs.{scaled_monic, pair_below, s_polynomial_poly, below_standard}
+use Rattle.quotient_gb.proofs.Bases.{reducer, lead_is, scaled_inside, s_polynomial_inside}
 
 -- a generator lies in the ideal
 pub generator_inside : {E : Type 0} (K : FieldOps E) (F : IsField K) (n : ℕ) (rs : List (List (Term E))) (r : List (Term E)) → Contains rs r → InIdeal K n rs r
@@ -66,7 +66,7 @@ module _ {E : Type 0} (K : FieldOps E) (F : IsField K) (O : MonomialOrder) (L : 
       other q = k (ap (coefficient K (minus K a s)) q ∙ (coefficient-minus K F a s M ∙ (ap (λ x. K.plus x (K.negate (coefficient K s M))) e ∙ F.plus_negate (coefficient K s M))))
 
 module _ {E : Type 0} (P : Presented E) (H : IsPresentation P) (G : List (List (Term E))) (members : (g : List (Term E)) → Contains G g → IsMonicMember P g)
-    (c : ℕ) (divides : (m : List ℕ) → LeadsIdeal P m → P.order.degree m ≤ c → HasDivisor G m) where
+    (c : ℕ) (divides : (m : List ℕ) → LeadsIdeal P m → P.order.degree m ≤ c → HasLeadDivisor G m) where
   abbrev Reduces : List ℕ → Type 0
   Reduces M = (a : List (Term E)) → IsPoly P.field P.order.places a → InIdeal P.field P.order.places P.ideal a → IsLead P.field P.order a M → Combines P.field P.order G (AtMost P.order M) a
 
@@ -78,7 +78,7 @@ module _ {E : Type 0} (P : Presented E) (H : IsPresentation P) (G : List (List (
     leads : IsLead P.field P.order s M
     front : coefficient P.field s M ≡ d
 
-  cancelling : (M : List ℕ) → IsMonomial P.order.places M → (d : E) → IsValue P.field d → d ≢ P.field.zero → HasDivisor G M → (s : List (Term E)) × IsCancelling M d s
+  cancelling : (M : List ℕ) → IsMonomial P.order.places M → (d : E) → IsValue P.field d → d ≢ P.field.zero → HasLeadDivisor G M → (s : List (Term E)) × IsCancelling M d s
   cancelling M hM d v nz (g, hg, dv) =
       let lg = lead_is P H G members g hg in
       let r = reducer P H G members g hg in
@@ -131,19 +131,19 @@ module _ {E : Type 0} (P : Presented E) (H : IsPresentation P) (G : List (List (
   complete_reduces a hp ha M l d =
       below_induction P.order H.order c Reduces step M (record { monomial = found_monomial P.field H.field P.order H.order a hp M l.nonzero; degree = d }) a hp ha l
 
-  pub complete_joins : JoinsPairs P c G
-  complete_joins g h hg hh d =
-      joined_reduction P.field H.field P.order H.order G (reducer P H G members) g h hg hh
+  pub complete_pairs : RepresentsPairs P c G
+  complete_pairs g h hg hh d =
+      below_standard P.field H.field P.order H.order G (reducer P H G members) g h hg hh
       (λ u v w M l.
-      let lt = pair_under P.field H.field P.order H.order G (reducer P H G members) g h hg hh u v w M l.nonzero in
+      let lt = pair_below P.field H.field P.order H.order G (reducer P H G members) g h hg hh u v w M l.nonzero in
       let mM = IsMonomial-least_common_multiple P.order.places (lead g) (lead h) (lead_is P H G members g hg) (lead_is P H G members h hh) in
-      complete_reduces (critical_pair P.field u g v h) (pair_poly P.field H.field P.order H.order G (reducer P H G members) g h hg hh u v w)
-      (pair_inside P H G members u v g h
+      complete_reduces (s_polynomial P.field u g v h) (s_polynomial_poly P.field H.field P.order H.order G (reducer P H G members) g h hg hh u v w)
+      (s_polynomial_inside P H G members u v g h
       (divides_left u (lead g) P.order.places (subst (IsMonomial P.order.places) (sym w.left) mM) w.left_trimmed)
       (divides_left v (lead h) P.order.places (subst (IsMonomial P.order.places) (sym w.right) mM) w.right_trimmed) hg hh) M l
       (let e = degree_falls P.order H.order M (least_common_multiple (lead g) (lead h)) lt in omega arith))
 
-  pub complete_generators : (r : List (Term E)) → Contains P.ideal r → (d : ℕ) → d ≤ c → IsHomogeneous P.field P.order d r → ReducesToZero P.field P.order G r
+  pub complete_generators : (r : List (Term E)) → Contains P.ideal r → (d : ℕ) → d ≤ c → IsHomogeneous P.field P.order d r → HasStandardRepresentation P.field P.order G r
   complete_generators r k d le h M l =
       complete_reduces r (generator_of P.field P.order P.ideal H.ideal r k).poly (generator_inside P.field H.field P.order.places P.ideal r k) M l
       (let e = h.each M l.nonzero in omega arith)

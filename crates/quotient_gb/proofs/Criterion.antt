@@ -25,8 +25,8 @@ use Rattle.poly_core.specs.LeadLaws.{below_found}
 use Rattle.poly_core.specs.IdealLaws.{IsPoly-scaled}
 use Rattle.monomial_order.specs.Rank.{IsWithin, below_induction}
 use Rattle.poly_core.specs.DegreeLaws.{component-append, coefficient-component, component_same, IsGraded, graded_component, graded_no_component, graded_times}
-use Rattle.quotient_gb.specs.Combinations.{AtMost, Under, HasDivisor, Step, sum_of_steps, AreSteps, Combines, ReducesToZero}
-use Rattle.quotient_gb.specs.Criterion.{critical_pair, IsJoined, ReducesGenerators, JoinsPairs}
+use Rattle.quotient_gb.specs.Combinations.{AtMost, Under, HasLeadDivisor, Step, sum_of_steps, AreSteps, Combines, HasStandardRepresentation}
+use Rattle.quotient_gb.specs.Criterion.{s_polynomial, HasRepresentationBelow, ReducesGenerators, RepresentsPairs}
 use Rattle.quotient_gb.proofs.Basics.{single_term, lead_sum, scaled_below}
 use Rattle.quotient_gb.proofs.Multiples.{common, product_divides}
 use Rattle.quotient_gb.proofs.Combinations.{scaled-append, scaled_scaled, scaled_is, scaled_same, combines_same, combines_zero, combines_plus, combines_one, combines_scaled, combines_constant, top}
@@ -114,7 +114,7 @@ module _ {E : Type 0} (K : FieldOps E) (F : IsField K) (O : MonomialOrder) (L : 
       all [] q = tt
       all (s ∷ ss) q = IsBelow-append K O M (scaled K s.term s.of) (sum_of_steps K ss) (below_scaled K F O L s.term s.of M q.0 (HG s.of q.1).falls q.2) (all ss q.3)
 
-  module _ (c : ℕ) (pairs : (g h : List (Term E)) → Contains G g → Contains G h → O.degree (lcm (lead g) (lead h)) ≤ c → IsJoined K O G g h) where
+  module _ (c : ℕ) (pairs : (g h : List (Term E)) → Contains G g → Contains G h → O.degree (lcm (lead g) (lead h)) ≤ c → HasRepresentationBelow K O G g h) where
     -- two multiples of members with the same lead
     pub same_multiple : (M a b : List ℕ) (g h : List (Term E)) → Contains G g → Contains G h → IsMonomial O.places a → IsMonomial O.places b →
         product a (lead g) ≡ M → product b (lead h) ≡ M → O.degree M ≤ c → Combines K O G (Under O M) (minus K (scaled K (term_of a K.one) g) (scaled K (term_of b K.one) h))
@@ -124,12 +124,12 @@ module _ {E : Type 0} (K : FieldOps E) (F : IsField K) (O : MonomialOrder) (L : 
         let small : O.degree (lcm (lead g) (lead h)) ≤ c =
         let p = L.degree_product C.by (lcm (lead g) (lead h)) in let q : O.degree (product C.by (lcm (lead g) (lead h))) ≡ O.degree M = ap O.degree whole in omega arith in
         let j = pairs g h hg hh small C.left C.right (record { left_trimmed = C.left_monomial.trimmed; right_trimmed = C.right_monomial.trimmed; left = C.left_is; right = C.right_is }) in
-        let is : scaled K (term_of C.by K.one) (critical_pair K C.left g C.right h) ≡ minus K (scaled K (term_of a K.one) g) (scaled K (term_of b K.one) h) =
+        let is : scaled K (term_of C.by K.one) (s_polynomial K C.left g C.right h) ≡ minus K (scaled K (term_of a K.one) g) (scaled K (term_of b K.one) h) =
         scaled-minus K F (term_of C.by K.one) (scaled K (term_of C.left K.one) g) (scaled K (term_of C.right K.one) h) ∙
         (ap (λ x. minus K x (scaled K (term_of C.by K.one) (scaled K (term_of C.right K.one) h))) (scaled_product K F C.by C.left a g C.left_by) ∙
         ap (minus K (scaled K (term_of a K.one) g)) (scaled_product K F C.by C.right b h C.right_by)) in
         subst (Combines K O G (Under O M)) is
-        (combines_scaled K F O L G monomials (Under O (lcm (lead g) (lead h))) (Under O M) (term_of C.by K.one) (critical_pair K C.left g C.right h)
+        (combines_scaled K F O L G monomials (Under O (lcm (lead g) (lead h))) (Under O M) (term_of C.by K.one) (s_polynomial K C.left g C.right h)
         (record { monomial = C.by_monomial; value = F.one_value })
         (λ m hm lt. subst (λ x. O.compare (product C.by m) x ≡ Less) whole (L.kept C.by m (lcm (lead g) (lead h)) C.by_monomial.trimmed hm.trimmed (top_trimmed g h hg hh) ∙ lt)) j)
       where
@@ -219,7 +219,7 @@ module _ {E : Type 0} (K : FieldOps E) (F : IsField K) (O : MonomialOrder) (L : 
     -- a combination whose products are at most M reduces to zero: it has its lead as the greatest product, and that is a multiple of a lead
     pub record IsLed (a : List (Term E)) (m : List ℕ) : Type 0 where
       pub combines : Combines K O G (AtMost O m) a
-      pub divisor : HasDivisor G m
+      pub divisor : HasLeadDivisor G m
 
     abbrev AllLed : List ℕ → Type 0
     AllLed M = (a : List (Term E)) → Combines K O G (AtMost O M) a → (m : List ℕ) → IsLead K O a m → IsLed a m
@@ -261,7 +261,7 @@ module _ {E : Type 0} (K : FieldOps E) (F : IsField K) (O : MonomialOrder) (L : 
                 }
 
     module _ (rs : List (List (Term E))) (HR : AreGenerators K O rs)
-        (reduces : (r : List (Term E)) → Contains rs r → (d : ℕ) → d ≤ c → IsHomogeneous K O d r → ReducesToZero K O G r) where
+        (reduces : (r : List (Term E)) → Contains rs r → (d : ℕ) → d ≤ c → IsHomogeneous K O d r → HasStandardRepresentation K O G r) where
       abbrev pub Small : List ℕ → Type 0
       Small m = O.degree m ≤ c
 
@@ -329,7 +329,7 @@ module _ {E : Type 0} (K : FieldOps E) (F : IsField K) (O : MonomialOrder) (L : 
               (times_part d l w.by w.of k.0 (generator_of rs HR w.of k.1) k.1) (all ws k.2))
 
       -- the lead of a member of the ideal, of a degree at most c
-      pub lead_divided : (a : List (Term E)) (m : List ℕ) → InIdeal K O.places rs a → IsLead K O a m → O.degree m ≤ c → HasDivisor G m
+      pub lead_divided : (a : List (Term E)) (m : List ℕ) → InIdeal K O.places rs a → IsLead K O a m → O.degree m ≤ c → HasLeadDivisor G m
       unfolding coefficient
       lead_divided a m h lm l = ⊎_elim
           (λ z. absurd (part_lead.nonzero (z m)))
@@ -349,16 +349,16 @@ module _ {E : Type 0} (K : FieldOps E) (F : IsField K) (O : MonomialOrder) (L : 
             greatest = λ n k ne. lm.greatest n (λ z. k (coefficient-component K F O L (O.degree m) a n ∙ (ap (λ x. cond (nat_eq (O.degree n) (O.degree m)) x K.zero) z ∙ if_zero (nat_eq (O.degree n) (O.degree m))))) ne;
           }
 
-module _ {E : Type 0} (P : Presented E) (H : IsPresentation P) (c : ℕ) (G : List (List (Term E))) (HG : ReducesGenerators P c G) (HP : JoinsPairs P c G) where
+module _ {E : Type 0} (P : Presented E) (H : IsPresentation P) (c : ℕ) (G : List (List (Term E))) (HG : ReducesGenerators P c G) (HP : RepresentsPairs P c G) where
   pub reducers : (g : List (Term E)) → Contains G g → IsReducer P.field P.order g
   reducers g h = let m = HG.members g h in record { falls = m.falls; monic = m.monic }
 
-  pub criterion : (m : List ℕ) → LeadsIdeal P m → P.order.degree m ≤ c → HasDivisor G m
+  pub criterion : (m : List ℕ) → LeadsIdeal P m → P.order.degree m ≤ c → HasLeadDivisor G m
   criterion m h l =
       lead_divided P.field H.field P.order H.order G reducers c HP P.ideal H.ideal HG.generators h.member m h.inside h.leads l
 
   -- a homogeneous member of the ideal of degree at most c reduces to zero
-  pub member_reduces : (d : ℕ) → d ≤ c → (a : List (Term E)) → IsPoly P.field P.order.places a → IsHomogeneous P.field P.order d a → InIdeal P.field P.order.places P.ideal a → ReducesToZero P.field P.order G a
+  pub member_reduces : (d : ℕ) → d ≤ c → (a : List (Term E)) → IsPoly P.field P.order.places a → IsHomogeneous P.field P.order d a → InIdeal P.field P.order.places P.ideal a → HasStandardRepresentation P.field P.order G a
   member_reduces d l a hp hd h M lm =
       ⊎_elim
       (λ z. absurd (zero_no_lead P.field P.order a M (λ m. sym (whole m) ∙ z m) lm))

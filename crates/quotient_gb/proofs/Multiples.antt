@@ -4,7 +4,7 @@ use Rattle.monomial_order.specs.Monomial.{exponent, product, least_common_multip
 use Rattle.monomial_order.specs.MonomialOrder.{MonomialOrder, IsMonomialOrder}
 use Rattle.monomial_order.specs.MonomialLaws.{exponent-product, IsTrimmed-product, IsMonomial-product, product_assoc, product_comm, length-product, exponent-least_common_multiple as exponent-lcm, IsTrimmed-least_common_multiple as IsTrimmed-lcm, IsMonomial-least_common_multiple as IsMonomial-lcm}
 use Rattle.monomial_order.specs.Cofactors.{cofactor, same_exponents}
-use Rattle.quotient_gb.specs.Waiting.{AreCoprime}
+use Rattle.quotient_gb.specs.CriticalPairs.{AreCoprime}
 
 pub product_divides : (k m : List ℕ) → Divides m (product k m)
 product_divides k m i = let e = exponent-product k m i in omega arith

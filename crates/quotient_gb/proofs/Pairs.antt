@@ -19,8 +19,8 @@ use Rattle.poly_core.specs.CongruenceLaws.{coefficient-minus, negated-minus}
 use Rattle.poly_core.specs.IdealLaws.{IsPoly-append, IsPoly-scaled, IsPoly-negated}
 use Rattle.poly_core.specs.KeptLaws.{Falls-scaled}
 use Rattle.quotient_gb.specs.Combinations.{AtMost, Under, Combines}
-use Rattle.quotient_gb.specs.Waiting.{AreCoprime}
-use Rattle.quotient_gb.specs.Criterion.{AreCofactors, critical_pair, IsReduced, IsJoined}
+use Rattle.quotient_gb.specs.CriticalPairs.{AreCoprime}
+use Rattle.quotient_gb.specs.Criterion.{AreCofactors, s_polynomial, HasStandardSPolynomial, HasRepresentationBelow}
 use Rattle.quotient_gb.proofs.Basics.{nothing_at}
 use Rattle.quotient_gb.proofs.Multiples.{product_cancel, divides_left, lcm_coprime}
 use Rattle.quotient_gb.proofs.Combinations.{combines_same, combines_zero, combines_plus, combines_one, combines_weaken, combines_negated, combines_minus}
@@ -73,36 +73,36 @@ module _ {E : Type 0} (K : FieldOps E) (F : IsField K) (O : MonomialOrder) (L : 
   mono : (g : List (Term E)) → Contains G g → IsMonomial O.places (lead g)
   mono g h = monomials K F O L G HG g h
 
-  pub joined_sym : (g h : List (Term E)) → IsJoined K O G g h → IsJoined K O G h g
-  joined_sym g h j u v k =
+  pub below_sym : (g h : List (Term E)) → HasRepresentationBelow K O G g h → HasRepresentationBelow K O G h g
+  below_sym g h j u v k =
       let e = lcm_comm (lead h) (lead g) in
-      subst (λ x. Combines K O G (Under O x) (critical_pair K u h v g)) (sym e)
-      (combines_same K F O L G (Under O (lcm (lead g) (lead h))) (negated K (critical_pair K v g u h)) (critical_pair K u h v g)
+      subst (λ x. Combines K O G (Under O x) (s_polynomial K u h v g)) (sym e)
+      (combines_same K F O L G (Under O (lcm (lead g) (lead h))) (negated K (s_polynomial K v g u h)) (s_polynomial K u h v g)
       (negated-minus K F (scaled K (term_of v K.one) g) (scaled K (term_of u K.one) h))
-      (combines_negated K F O L G mono (Under O (lcm (lead g) (lead h))) (critical_pair K v g u h) (j v u (record { left_trimmed = k.right_trimmed; right_trimmed = k.left_trimmed; left = k.right ∙ e; right = k.left ∙ e }))))
+      (combines_negated K F O L G mono (Under O (lcm (lead g) (lead h))) (s_polynomial K v g u h) (j v u (record { left_trimmed = k.right_trimmed; right_trimmed = k.left_trimmed; left = k.right ∙ e; right = k.left ∙ e }))))
 
-  pub joined_self : (g : List (Term E)) → IsJoined K O G g g
-  joined_self g u v k =
+  pub below_self : (g : List (Term E)) → HasRepresentationBelow K O G g g
+  below_self g u v k =
       let same : u ≡ v = product_cancel u v (lead g) k.left_trimmed k.right_trimmed (k.left ∙ sym k.right) in
-      combines_same K F O L G (Under O (lcm (lead g) (lead g))) [] (critical_pair K u g v g)
-      (λ m. sym (ap (λ x. coefficient K (critical_pair K x g v g) m) same ∙ minus_self K F (scaled K (term_of v K.one) g) m))
+      combines_same K F O L G (Under O (lcm (lead g) (lead g))) [] (s_polynomial K u g v g)
+      (λ m. sym (ap (λ x. coefficient K (s_polynomial K x g v g) m) same ∙ minus_self K F (scaled K (term_of v K.one) g) m))
       (combines_zero K F O L G (Under O (lcm (lead g) (lead g))))
 
   -- it is enough to look at each pair of two places once
-  pub joined_all : (c : ℕ) →
-      ((i j : ℕ) → i < j → j < length G → O.degree (lcm (lead (get_or G i [])) (lead (get_or G j []))) ≤ c → IsJoined K O G (get_or G i []) (get_or G j [])) →
-      (g h : List (Term E)) → Contains G g → Contains G h → O.degree (lcm (lead g) (lead h)) ≤ c → IsJoined K O G g h
-  joined_all c some g h hg hh l =
-      elim (nat_lt hg.0 hh.0) as (λ b. nat_lt hg.0 hh.0 ≡ b → IsJoined K O G g h) [
+  pub below_all_pairs : (c : ℕ) →
+      ((i j : ℕ) → i < j → j < length G → O.degree (lcm (lead (get_or G i [])) (lead (get_or G j []))) ≤ c → HasRepresentationBelow K O G (get_or G i []) (get_or G j [])) →
+      (g h : List (Term E)) → Contains G g → Contains G h → O.degree (lcm (lead g) (lead h)) ≤ c → HasRepresentationBelow K O G g h
+  below_all_pairs c some g h hg hh l =
+      elim (nat_lt hg.0 hh.0) as (λ b. nat_lt hg.0 hh.0 ≡ b → HasRepresentationBelow K O G g h) [
         | true ↦ λ e. at hg.0 hh.0 g h (ltb-true hg.0 hh.0 e) hh.1 (found hg.0 g hg.1 hg.2) (found hh.0 h hh.1 hh.2) l
-        | false ↦ λ e. elim (nat_lt hh.0 hg.0) as (λ b. nat_lt hh.0 hg.0 ≡ b → IsJoined K O G g h) [
-          | true ↦ λ e2. joined_sym h g (at hh.0 hg.0 h g (ltb-true hh.0 hg.0 e2) hg.1 (found hh.0 h hh.1 hh.2) (found hg.0 g hg.1 hg.2)
+        | false ↦ λ e. elim (nat_lt hh.0 hg.0) as (λ b. nat_lt hh.0 hg.0 ≡ b → HasRepresentationBelow K O G g h) [
+          | true ↦ λ e2. below_sym h g (at hh.0 hg.0 h g (ltb-true hh.0 hg.0 e2) hg.1 (found hh.0 h hh.1 hh.2) (found hg.0 g hg.1 hg.2)
               (let q : O.degree (lcm (lead h) (lead g)) ≡ O.degree (lcm (lead g) (lead h)) = ap O.degree (lcm_comm (lead h) (lead g)) in omega arith))
           | false ↦ λ e2.
               let a : hh.0 ≤ hg.0 = ltb-false hg.0 hh.0 e in
               let b : hg.0 ≤ hh.0 = ltb-false hh.0 hg.0 e2 in
               let same : hg.0 ≡ hh.0 = omega arith in
-              subst (IsJoined K O G g) (sym (found hg.0 g hg.1 hg.2) ∙ (ap (λ i. get_or G i []) same ∙ found hh.0 h hh.1 hh.2)) (joined_self g)
+              subst (HasRepresentationBelow K O G g) (sym (found hg.0 g hg.1 hg.2) ∙ (ap (λ i. get_or G i []) same ∙ found hh.0 h hh.1 hh.2)) (below_self g)
         ] refl
       ] refl
     where
@@ -114,15 +114,15 @@ module _ {E : Type 0} (K : FieldOps E) (F : IsField K) (O : MonomialOrder) (L : 
       found : (i : ℕ) (x : List (Term E)) → i < length G → get_or G i x ≡ x → get_or G i [] ≡ x
       found i x l e = found_in G i x l e
 
-      at : (i j : ℕ) (g h : List (Term E)) → i < j → j < length G → get_or G i [] ≡ g → get_or G j [] ≡ h → O.degree (lcm (lead g) (lead h)) ≤ c → IsJoined K O G g h
+      at : (i j : ℕ) (g h : List (Term E)) → i < j → j < length G → get_or G i [] ≡ g → get_or G j [] ≡ h → O.degree (lcm (lead g) (lead h)) ≤ c → HasRepresentationBelow K O G g h
       at i j g h lt l eg eh d =
-          subst (λ x. IsJoined K O G x h) eg (subst (IsJoined K O G (get_or G i [])) eh
+          subst (λ x. HasRepresentationBelow K O G x h) eg (subst (HasRepresentationBelow K O G (get_or G i [])) eh
           (some i j lt l (subst (λ x. O.degree (lcm (lead x) (lead (get_or G j []))) ≤ c) (sym eg) (subst (λ x. O.degree (lcm (lead g) (lead x)) ≤ c) (sym eh) d))))
 
   module _ (g h : List (Term E)) (hg : Contains G g) (hh : Contains G h) where
     -- the monomials of a critical pair are below the least common multiple
-    pub pair_under : (u v : List ℕ) → AreCofactors u (lead g) v (lead h) → (n : List ℕ) → coefficient K (critical_pair K u g v h) n ≢ K.zero → O.compare n (lcm (lead g) (lead h)) ≡ Less
-    pair_under u v w n k =
+    pub pair_below : (u v : List ℕ) → AreCofactors u (lead g) v (lead h) → (n : List ℕ) → coefficient K (s_polynomial K u g v h) n ≢ K.zero → O.compare n (lcm (lead g) (lead h)) ≡ Less
+    pair_below u v w n k =
         let tu = w.left_trimmed in
         let tv = w.right_trimmed in
         let eu = w.left in
@@ -139,14 +139,14 @@ module _ {E : Type 0} (K : FieldOps E) (F : IsField K) (O : MonomialOrder) (L : 
         let b : coefficient K B M ≡ K.one = ap (coefficient K B) (sym ev) ∙ scaled_monic K F O L v h mv rh in
         let la : IsLead K O A M = subst (IsLead K O A) eu (scaled_leads K F O L (term_of u K.one) g (record { monomial = mu; value = F.one_value }) F.one_not_zero rg.falls rg.monic) in
         let lb : IsLead K O B M = subst (IsLead K O B) ev (scaled_leads K F O L (term_of v K.one) h (record { monomial = mv; value = F.one_value }) F.one_not_zero rh.falls rh.monic) in
-        let ne : n ≢ M = λ e. k (ap (coefficient K (critical_pair K u g v h)) e ∙ (coefficient-minus K F A B M ∙ (ap (λ x. K.plus x (K.negate (coefficient K B M))) a ∙ (ap (λ x. K.plus K.one (K.negate x)) b ∙ F.plus_negate K.one)))) in
+        let ne : n ≢ M = λ e. k (ap (coefficient K (s_polynomial K u g v h)) e ∙ (coefficient-minus K F A B M ∙ (ap (λ x. K.plus x (K.negate (coefficient K B M))) a ∙ (ap (λ x. K.plus K.one (K.negate x)) b ∙ F.plus_negate K.one)))) in
         ⊎_elim
         (λ z. lb.greatest n (λ y. k (coefficient-minus K F A B n ∙ (ap (λ x. K.plus x (K.negate (coefficient K B n))) z ∙ (ap (λ x. K.plus K.zero (K.negate x)) y ∙ (ap (K.plus K.zero) (negate-zero K F) ∙ zero-plus-zero K F))))) ne)
         (λ nz. la.greatest n nz ne)
         (F.equal_or_not (coefficient K A n) K.zero)
 
-    pub pair_poly : (u v : List ℕ) → AreCofactors u (lead g) v (lead h) → IsPoly K O.places (critical_pair K u g v h)
-    pair_poly u v w =
+    pub s_polynomial_poly : (u v : List ℕ) → AreCofactors u (lead g) v (lead h) → IsPoly K O.places (s_polynomial K u g v h)
+    s_polynomial_poly u v w =
         let mM = IsMonomial-lcm O.places (lead g) (lead h) (mono g hg) (mono h hh) in
         IsPoly-append K F O.places (scaled K (term_of u K.one) g) (negated K (scaled K (term_of v K.one) h))
         (IsPoly-scaled K F O.places (term_of u K.one) g (record { monomial = divides_left u (lead g) O.places (subst (IsMonomial O.places) (sym w.left) mM) w.left_trimmed; value = F.one_value }) (Falls_IsPoly K O g (HG g hg).falls))
@@ -154,22 +154,22 @@ module _ {E : Type 0} (K : FieldOps E) (F : IsField K) (O : MonomialOrder) (L : 
         (IsPoly-scaled K F O.places (term_of v K.one) h (record { monomial = divides_left v (lead h) O.places (subst (IsMonomial O.places) (sym w.right) mM) w.right_trimmed; value = F.one_value }) (Falls_IsPoly K O h (HG h hh).falls)))
 
     -- a pair that reduces to zero is joined
-    pub joined_reduction : IsReduced K O G g h → IsJoined K O G g h
-    joined_reduction r u v w =
+    pub below_standard : HasStandardSPolynomial K O G g h → HasRepresentationBelow K O G g h
+    below_standard r u v w =
         ⊎_elim
-        (λ z. combines_same K F O L G (Under O (lcm (lead g) (lead h))) [] (critical_pair K u g v h) (λ m. sym (z m)) (combines_zero K F O L G (Under O (lcm (lead g) (lead h)))))
-        (λ M. let lt = pair_under u v w M.0 M.1.nonzero in
-        combines_weaken K F O L G mono (AtMost O M.0) (Under O (lcm (lead g) (lead h))) (critical_pair K u g v h)
+        (λ z. combines_same K F O L G (Under O (lcm (lead g) (lead h))) [] (s_polynomial K u g v h) (λ m. sym (z m)) (combines_zero K F O L G (Under O (lcm (lead g) (lead h)))))
+        (λ M. let lt = pair_below u v w M.0 M.1.nonzero in
+        combines_weaken K F O L G mono (AtMost O M.0) (Under O (lcm (lead g) (lead h))) (s_polynomial K u g v h)
         (λ m hm b. ⊎_elim (λ e. subst (λ x. O.compare x (lcm (lead g) (lead h)) ≡ Less) (sym e) lt) (λ less. L.total.trans m M.0 (lcm (lead g) (lead h)) less lt) b)
         (r u v w M.0 M.1))
-        (zero_or_lead K F O L (critical_pair K u g v h) (pair_poly u v w))
+        (zero_or_lead K F O L (s_polynomial K u g v h) (s_polynomial_poly u v w))
 
     -- the cofactors of a pair are determined
-    pub same_cofactors : (Q : List (Term E) → Type 0) (u v : List ℕ) → AreCofactors u (lead g) v (lead h) → Q (critical_pair K u g v h) →
-        (x y : List ℕ) → AreCofactors x (lead g) y (lead h) → Q (critical_pair K x g y h)
+    pub same_cofactors : (Q : List (Term E) → Type 0) (u v : List ℕ) → AreCofactors u (lead g) v (lead h) → Q (s_polynomial K u g v h) →
+        (x y : List ℕ) → AreCofactors x (lead g) y (lead h) → Q (s_polynomial K x g y h)
     same_cofactors Q u v w q x y k =
-        subst (λ z. Q (critical_pair K z g y h)) (product_cancel u x (lead g) w.left_trimmed k.left_trimmed (w.left ∙ sym k.left))
-        (subst (λ z. Q (critical_pair K u g z h)) (product_cancel v y (lead h) w.right_trimmed k.right_trimmed (w.right ∙ sym k.right)) q)
+        subst (λ z. Q (s_polynomial K z g y h)) (product_cancel u x (lead g) w.left_trimmed k.left_trimmed (w.left ∙ sym k.left))
+        (subst (λ z. Q (s_polynomial K u g z h)) (product_cancel v y (lead h) w.right_trimmed k.right_trimmed (w.right ∙ sym k.right)) q)
 
   -- terms below m times a member
   tail_combines : (M m : List ℕ) (p h : List (Term E)) → Contains G h → IsMonomial O.places m → product m (lead h) ≡ M → IsPoly K O.places p → IsBelow K O m p → Combines K O G (Under O M) (times K p h)
@@ -182,11 +182,11 @@ module _ {E : Type 0} (K : FieldOps E) (F : IsField K) (O : MonomialOrder) (L : 
       (tail_combines M m p h hh hm e hp.1 b.1)
 
   -- a pair with coprime leads is joined
-  pub joined_coprime : (g h : List (Term E)) → Contains G g → Contains G h → AreCoprime (lead g) (lead h) → IsJoined K O G g h
-  joined_coprime g h hg hh co u v w =
-      subst (λ x. Combines K O G (Under O (lcm (lead g) (lead h))) (critical_pair K x g v h)) (sym is_u)
-      (subst (λ x. Combines K O G (Under O (lcm (lead g) (lead h))) (critical_pair K (lead h) g x h)) (sym is_v)
-      (combines_same K F O L G (Under O (lcm (lead g) (lead h))) (minus K (times K p h) (times K q g)) (critical_pair K (lead h) g (lead g) h) (λ m. sym (moved m))
+  pub below_coprime : (g h : List (Term E)) → Contains G g → Contains G h → AreCoprime (lead g) (lead h) → HasRepresentationBelow K O G g h
+  below_coprime g h hg hh co u v w =
+      subst (λ x. Combines K O G (Under O (lcm (lead g) (lead h))) (s_polynomial K x g v h)) (sym is_u)
+      (subst (λ x. Combines K O G (Under O (lcm (lead g) (lead h))) (s_polynomial K (lead h) g x h)) (sym is_v)
+      (combines_same K F O L G (Under O (lcm (lead g) (lead h))) (minus K (times K p h) (times K q g)) (s_polynomial K (lead h) g (lead g) h) (λ m. sym (moved m))
       (combines_minus K F O L G mono (Under O (lcm (lead g) (lead h))) (times K p h) (times K q g)
       (tail_combines (lcm (lead g) (lead h)) (lead g) p h hh (mono g hg) (sym whole) pg.poly pg.below)
       (tail_combines (lcm (lead g) (lead h)) (lead h) q g hg (mono h hh) (product_comm (lead h) (lead g) ∙ sym whole) ph.poly ph.below))))
@@ -212,7 +212,7 @@ module _ {E : Type 0} (K : FieldOps E) (F : IsField K) (O : MonomialOrder) (L : 
       q : List (Term E)
       q = ph.rest
 
-      moved : Same K (critical_pair K (lead h) g (lead g) h) (minus K (times K pg.rest h) (times K ph.rest g))
+      moved : Same K (s_polynomial K (lead h) g (lead g) h) (minus K (times K pg.rest h) (times K ph.rest g))
       moved m =
           let A = scaled K (term_of (lead h) K.one) g in
           let B = times K ph.rest g in

@@ -17,45 +17,22 @@ use Rattle.poly_core.specs.KeptLaws.{Falls-scaled}
 use Rattle.monomial_order.specs.Rank.{rank, rank_falls}
 use Rattle.monomial_order.specs.Lists.{contains_map}
 use Rattle.poly_core.specs.DegreeLaws.{falls_all}
-use Rattle.quotient_gb.specs.Combinations.{HasDivisor, AtMost, Combines}
-use Rattle.quotient_gb.specs.Remainder.{IsRemainder}
+use Rattle.quotient_gb.specs.Combinations.{HasLeadDivisor, AtMost, Combines}
+use Rattle.quotient_gb.specs.Remainder.{IsRemainderBy}
 use Rattle.quotient_gb.proofs.Basics.{nothing_at, single_term, scaled_small}
 use Rattle.quotient_gb.proofs.Multiples.{divides_left}
 use Rattle.quotient_gb.proofs.Combinations.{combines_same, combines_zero, combines_plus, combines_one, combines_negated}
 use Rattle.quotient_gb.proofs.Criterion.{IsReducer, monomials, coefficient-front, scaled_leads}
 use Rattle.quotient_gb.proofs.Pairs.{scaled_monic}
 
--- a list with a member has a first one
-pub first_of : {A : Type 0} (p : List A) (t : A) → 0 < length p → t ≡ get_or p 0 t → (w : List A) × (p ≡ t ∷ w)
-first_of [] t l e = absurd (omega arith)
-first_of (x ∷ w) t l e = (w, ap (λ y. y ∷ w) (sym e))
-
--- a divisor among the leads is the lead of a member
-pub divisor_of : {E : Type 0} (G : List (List (Term E))) (m : List ℕ) → ((n : List ℕ) → Contains (map lead G) n → Divides n m → ⊥) → HasDivisor G m → ⊥
-divisor_of G m h (g, k, d) = h (lead g) (contains_map lead G g k) d
-
-pub lead_first : {E : Type 0} (ts p : List (Term E)) (t : Term E) → ts ≡ p → 0 < length p → lead p ≡ (get_or ts 0 t).at
-lead_first {E = E} ts p t e l = first p l ∙ ap (λ x. (get_or x 0 t).at) (sym e)
-  where
-    first : (p : List (Term E)) → 0 < length p → lead p ≡ (get_or p 0 t).at
-    first [] l = absurd (omega arith)
-    first (y ∷ p) l = refl
-
-pub not_empty : {A : Type 0} (xs : List A) → length xs ≤ 0 → xs ≡ []
-not_empty [] h = refl
-not_empty (x ∷ xs) h = absurd (omega arith)
-
 -- what the loop keeps: p is a combination, the work, which is at most the lead of p, and what is done, which is irreducible
 pub record IsReducing {E : Type 0} (K : FieldOps E) (O : MonomialOrder) (G : List (List (Term E))) (p work done : List (Term E)) : Type 0 where
   pub combines : Combines K O G (AtMost O (lead p)) (minus K p (work ++ done))
   pub at_most : AllAt (AtMost O (lead p)) work
   pub has : (m : List ℕ) → coefficient K done m ≢ K.zero → AtMost O (lead p) m
-  pub reduced : (m : List ℕ) → coefficient K done m ≢ K.zero → ¬ HasDivisor G m
+  pub reduced : (m : List ℕ) → coefficient K done m ≢ K.zero → ¬ HasLeadDivisor G m
 
 module _ {E : Type 0} (K : FieldOps E) (F : IsField K) where
-  pub reducer_some : (g : List (Term E)) → coefficient K g (lead g) ≡ K.one → g ≡ [] → ⊥
-  reducer_some g m e = F.one_not_zero (sym (ap (λ x. coefficient K x (lead x)) (sym e) ∙ m) ∙ sym (nothing_at K []))
-
   pub negate_not_zero : (a : E) → IsValue K a → a ≢ K.zero → K.negate a ≢ K.zero
   negate_not_zero a v n z = n (sym v ∙ (sym (negate_negate K F a) ∙ (ap K.negate z ∙ negate-zero K F)))
 
@@ -76,24 +53,15 @@ module _ {E : Type 0} (K : FieldOps E) (F : IsField K) (O : MonomialOrder) (L : 
       (λ na. ha n na ne)
       (F.equal_or_not (coefficient K A n) K.zero)))
 
-  module _ (p : List (Term E)) (t : Term E) (kp : IsKept K O p) (some : 0 < length p) (first : t ≡ get_or p 0 t) where
-    pub first_term : IsTerm K O.places t
-    first_term = let r = first_of p t some first in let f : Falls K O (t ∷ r.0) = subst (Falls K O) r.1 kp.falls in f.0.term
+  module _ (p : List (Term E)) (t : Term E) (w : List (Term E)) (is : p ≡ t ∷ w) (kp : IsKept K O p) where
+    parts : IsKept K O (t ∷ w)
+    parts = subst (IsKept K O) is kp
 
-    pub first_nonzero : t.by ≢ K.zero
-    first_nonzero = let r = first_of p t some first in let f : Falls K O (t ∷ r.0) = subst (Falls K O) r.1 kp.falls in f.0.nonzero
+    first_leads : IsLead K O p t.at
+    first_leads = subst (λ x. IsLead K O x t.at) (sym is) (IsLead_first K F O L t w parts.falls)
 
-    pub first_small : O.degree t.at ≤ 65535
-    first_small = let r = first_of p t some first in let f : IsSmall O (t ∷ r.0) = subst (IsSmall O) r.1 kp.small in f.0
-
-    pub first_lead : lead p ≡ t.at
-    first_lead = let r = first_of p t some first in ap lead r.1
-
-    pub first_leads : IsLead K O p t.at
-    first_leads = let r = first_of p t some first in subst (λ x. IsLead K O x t.at) (sym r.1) (IsLead_first K F O L t r.0 (subst (Falls K O) r.1 kp.falls))
-
-    pub first_coefficient : coefficient K p t.at ≡ t.by
-    first_coefficient = let r = first_of p t some first in let f : Falls K O (t ∷ r.0) = subst (Falls K O) r.1 kp.falls in ap (λ x. coefficient K x t.at) r.1 ∙ coefficient_first K F O L t r.0 f.0
+    first_coefficient : coefficient K p t.at ≡ t.by
+    first_coefficient = ap (λ x. coefficient K x t.at) is ∙ coefficient_first K F O L t w parts.falls.0
 
     -- without its first term
     single_at : (m : List ℕ) (c : E) → IsValue K c → coefficient K (term_of m c ∷ []) m ≡ c
@@ -101,7 +69,7 @@ module _ {E : Type 0} (K : FieldOps E) (F : IsField K) (O : MonomialOrder) (L : 
     single_at m c v = ap (λ b. K.plus (cond b c K.zero) K.zero) (same_refl m) ∙ (F.plus_zero c ∙ v)
 
     pub one_kept : (c : E) → IsValue K c → c ≢ K.zero → IsKept K O (term_of t.at c ∷ [])
-    one_kept c v n = record { falls = (record { term = record { monomial = first_term.monomial; value = v }; nonzero = n; above = tt }, tt); small = (first_small, tt) }
+    one_kept c v n = record { falls = (record { term = record { monomial = parts.falls.0.term.monomial; value = v }; nonzero = n; above = tt }, tt); small = (parts.small.0, tt) }
 
     pub rest_below : (r : List (Term E)) → Falls K O r → Same K r (p ++ (term_of t.at (K.negate t.by) ∷ [])) → IsBelow K O t.at r
     rest_below r fr s =
@@ -132,21 +100,21 @@ module _ {E : Type 0} (K : FieldOps E) (F : IsField K) (O : MonomialOrder) (L : 
         (λ n. inr n)
         (F.equal_or_not (coefficient K done m) K.zero)
 
-    module _ (g : List (Term E)) (u : List ℕ) (kg : IsKept K O g) (monic : coefficient K g (lead g) ≡ K.one) (tu : IsTrimmed u) (at : product (lead g) u ≡ lead p) where
+    module _ (g : List (Term E)) (u : List ℕ) (kg : IsKept K O g) (monic : coefficient K g (lead g) ≡ K.one) (tu : IsTrimmed u) (at : product (lead g) u ≡ t.at) where
       whole : product u (lead g) ≡ t.at
-      whole = product_comm u (lead g) ∙ (at ∙ first_lead)
+      whole = product_comm u (lead g) ∙ at
 
-      by_monomial : IsMonomial O.places u
-      by_monomial = divides_left u (lead g) O.places (subst (IsMonomial O.places) (sym whole) first_term.monomial) tu
+      pub by_monomial : IsMonomial O.places u
+      by_monomial = divides_left u (lead g) O.places (subst (IsMonomial O.places) (sym whole) parts.falls.0.term.monomial) tu
 
       pub cancel_term : IsTerm K O.places (term_of u (K.negate t.by))
       cancel_term = record { monomial = by_monomial; value = F.negate_value t.by }
 
       cancel_nonzero : K.negate t.by ≢ K.zero
-      cancel_nonzero = negate_not_zero K F t.by first_term.value first_nonzero
+      cancel_nonzero = negate_not_zero K F t.by parts.falls.0.term.value parts.falls.0.nonzero
 
       pub cancel_small : IsSmall O (scaled K (term_of u (K.negate t.by)) g)
-      cancel_small = scaled_small K F O L (term_of u (K.negate t.by)) g cancel_term kg.falls (let e : O.degree (product u (lead g)) ≡ O.degree t.at = ap O.degree whole in let l = first_small in omega arith)
+      cancel_small = scaled_small K F O L (term_of u (K.negate t.by)) g cancel_term kg.falls (let e : O.degree (product u (lead g)) ≡ O.degree t.at = ap O.degree whole in let l = parts.small.0 in omega arith)
 
       pub cancel_kept : IsKept K O (scaled K (term_of u (K.negate t.by)) g)
       cancel_kept = record { falls = Falls-scaled K F O L (term_of u (K.negate t.by)) g cancel_term cancel_nonzero kg.falls; small = cancel_small }
@@ -159,7 +127,7 @@ module _ {E : Type 0} (K : FieldOps E) (F : IsField K) (O : MonomialOrder) (L : 
           coefficient-front K F u (K.negate t.by) g t.at (F.negate_value t.by) ∙
           (ap (K.times (K.negate t.by)) (ap (coefficient K (scaled K (term_of u K.one) g)) (sym whole) ∙ scaled_monic K F O L u g by_monomial (record { falls = kg.falls; monic = monic })) ∙
           (F.times_one (K.negate t.by) ∙ F.negate_value t.by)) in
-          subst (λ x. IsBelow K O x r) (sym first_lead)
+          subst (λ x. IsBelow K O x r) (sym (ap lead is))
           (two_below p B t.at first_leads.greatest lb.greatest (ap (λ x. K.plus x (coefficient K B t.at)) first_coefficient ∙ (ap (K.plus t.by) one ∙ F.plus_negate t.by)) r fr s)
 
   -- the measure: how many monomials are below the lead
@@ -167,9 +135,9 @@ module _ {E : Type 0} (K : FieldOps E) (F : IsField K) (O : MonomialOrder) (L : 
   height [] = 0
   height (t ∷ p) = suc (rank O t.at)
 
-  pub height_less : (p r : List (Term E)) → 0 < length p → IsKept K O r → IsBelow K O (lead p) r → height r < height p
+  pub height_less : (p r : List (Term E)) → p ≢ [] → IsKept K O r → IsBelow K O (lead p) r → height r < height p
   unfolding height
-  height_less [] r some kr b = absurd (omega arith)
+  height_less [] r some kr b = absurd (some refl)
   height_less (t ∷ p) [] some kr b = omega arith
   height_less (t ∷ p) (s ∷ r) some kr b =
       let l = rank_falls O L s.at t.at kr.falls.0.term.monomial b.0 in omega arith
@@ -189,8 +157,8 @@ module _ {E : Type 0} (K : FieldOps E) (F : IsField K) (O : MonomialOrder) (L : 
   lower M m [] h b = tt
   lower M m (t ∷ r) h b = (inr (⊎_elim (λ e. subst (λ x. O.compare t.at x ≡ Less) e b.0) (λ l. L.total.trans t.at m M b.0 l) h), lower M m r h b.1)
 
-  lead_at_most : (M : List ℕ) (work : List (Term E)) → 0 < length work → AllAt (AtMost O M) work → AtMost O M (lead work)
-  lead_at_most M [] l h = absurd (omega arith)
+  lead_at_most : (M : List ℕ) (work : List (Term E)) → work ≢ [] → AllAt (AtMost O M) work → AtMost O M (lead work)
+  lead_at_most M [] l h = absurd (l refl)
   lead_at_most M (t ∷ w) l h = h.0
 
   module _ (G : List (List (Term E))) (HG : (g : List (Term E)) → Contains G g → IsReducer K O g) (p : List (Term E)) where
@@ -205,38 +173,33 @@ module _ {E : Type 0} (K : FieldOps E) (F : IsField K) (O : MonomialOrder) (L : 
       reduced = λ m k. absurd (k refl);
     }
 
-    pub reducing_cancel : (work done next g : List (Term E)) (u : List ℕ) → IsReducing K O G p work done → 0 < length work → Contains G g → product (lead g) u ≡ lead work →
-        (c : E) × IsTerm K O.places (term_of u c) × Same K next (work ++ scaled K (term_of u c) g) → IsBelow K O (lead work) next → IsReducing K O G p next done
-    reducing_cancel work done next g u h some hg at (c, ht, s) b =
-        let S = scaled K (term_of u c) g in
+    pub reducing_cancel : (work done next g : List (Term E)) (s : Term E) → IsReducing K O G p work done → work ≢ [] → Contains G g → IsTerm K O.places s →
+        product s.at (lead g) ≡ lead work → Same K next (work ++ scaled K s g) → IsBelow K O (lead work) next → IsReducing K O G p next done
+    reducing_cancel work done next g s h some hg ht at same b =
+        let S = scaled K s g in
         let top = lead_at_most (lead p) work some h.at_most in
         record {
           combines = combines_same K F O L G (AtMost O (lead p)) (minus K p (work ++ done) ++ negated K S) (minus K p (next ++ done))
               (λ m. sym (minus_same K F p (p ++ []) (next ++ done) ((work ++ done) ++ S) (λ n. ap (λ x. coefficient K x n) (sym (append-nil p)))
-              (λ n. append_same K F next (work ++ S) done done s (λ i. refl) n ∙
+              (λ n. append_same K F next (work ++ S) done done same (λ i. refl) n ∙
               (ap (λ x. coefficient K x n) (append_assoc work S done) ∙ (append_same K F work work (S ++ done) (done ++ S) (λ i. refl) (append_comm K F S done) n ∙ ap (λ x. coefficient K x n) (sym (append_assoc work done S))))) m ∙
               minus-append K F p [] (work ++ done) S m))
               (combines_plus K F O L G (AtMost O (lead p)) (minus K p (work ++ done)) (negated K S) h.combines
               (combines_negated K F O L G (monomials K F O L G HG) (AtMost O (lead p)) S
-              (combines_one K F O L G (AtMost O (lead p)) (term_of u c) g ht hg (subst (AtMost O (lead p)) (sym (product_comm u (lead g) ∙ at)) top))));
+              (combines_one K F O L G (AtMost O (lead p)) s g ht hg (subst (AtMost O (lead p)) (sym at) top))));
           at_most = lower (lead p) (lead work) next top b;
           has = h.has;
           reduced = h.reduced;
         }
 
-    pub reducing_move : (work done rest more : List (Term E)) → IsReducing K O G p work done → 0 < length work → (¬ HasDivisor G (lead work)) → Same K (rest ++ more) (work ++ done) →
+    pub reducing_move : (work done rest more : List (Term E)) → IsReducing K O G p work done → work ≢ [] → (¬ HasLeadDivisor G (lead work)) → Same K (rest ++ more) (work ++ done) →
         IsBelow K O (lead work) rest → ((m : List ℕ) → coefficient K more m ≢ K.zero → (m ≡ lead work) ⊎ (coefficient K done m ≢ K.zero)) → IsReducing K O G p rest more
     reducing_move work done rest more h some none s b ms = record {
       combines = combines_same K F O L G (AtMost O (lead p)) (minus K p (work ++ done)) (minus K p (rest ++ more)) (λ m. sym (minus_same K F p p (rest ++ more) (work ++ done) (λ n. refl) s m)) h.combines;
       at_most = lower (lead p) (lead work) rest (lead_at_most (lead p) work some h.at_most) b;
       has = λ m k. ⊎_elim (λ e. subst (AtMost O (lead p)) (sym e) (lead_at_most (lead p) work some h.at_most)) (λ n. h.has m n) (ms m k);
-      reduced = λ m k d. ⊎_elim (λ e. none (subst (HasDivisor G) e d)) (λ n. h.reduced m n d) (ms m k);
+      reduced = λ m k d. ⊎_elim (λ e. none (subst (HasLeadDivisor G) e d)) (λ n. h.reduced m n d) (ms m k);
     }
 
-    pub reducing_end : (work done : List (Term E)) → IsReducing K O G p work done → length work ≤ 0 → IsKept K O done → IsRemainder K O G (AtMost O (lead p)) p done
-    reducing_end [] done h l kd = record { poly = Falls_IsPoly K O done kd.falls; combines = h.combines; has = h.has; reduced = h.reduced }
-    reducing_end (t ∷ w) done h l kd = absurd (omega arith)
-
-module _ {E : Type 0} (K : FieldOps E) (F : IsField K) where
-  pub sum_with : (r p part q : List (Term E)) → Same K r (p ++ part) → Same K part q → Same K r (p ++ q)
-  sum_with r p part q h k m = h m ∙ append_same K F p p part q (λ n. refl) k m
+    pub reducing_end : (work done : List (Term E)) → IsReducing K O G p work done → work ≡ [] → IsKept K O done → IsRemainderBy K O G (AtMost O (lead p)) p done
+    reducing_end work done h l kd = record { poly = Falls_IsPoly K O done kd.falls; combines = combines_same K F O L G (AtMost O (lead p)) (minus K p (work ++ done)) (minus K p done) (λ m. ap (λ x. coefficient K (minus K p (x ++ done)) m) l) h.combines; has = h.has; reduced = h.reduced }

@@ -18,15 +18,14 @@ use Rattle.poly_core.specs.DegreeLaws.{falls_all}
 use Rattle.poly_core.specs.CongruenceLaws.{coefficient-minus, congruent_sym, congruent_trans, congruent_member, member_congruent}
 use Rattle.poly_core.specs.IdealLaws.{InIdeal_same}
 use Rattle.quotient_gb.specs.Combinations.{AtMost}
-use Rattle.quotient_gb.specs.Remainder.{IsRemainder}
+use Rattle.quotient_gb.specs.Remainder.{IsRemainderBy}
 use Rattle.quotient_gb.specs.IdealBasis.{IsMonicMember, HasStandardTail, AreIdealLeads}
-use Rattle.quotient_gb.specs.declared.basis.Basis.{Basis}
-use Rattle.quotient_gb.specs.Growing.{HasReducedTail, Stands}
+use Rattle.quotient_gb.specs.DegreeStep.{HasReducedTail}
 use Rattle.quotient_gb.proofs.Basics.{sum_nonzero, single_term, found_monomial, falls_leads, monic_some, small_lead}
 use Rattle.quotient_gb.proofs.Combinations.{combines_inside}
 use Rattle.quotient_gb.proofs.Complete.{difference_below, generator_of}
 use Rattle.quotient_gb.proofs.Criterion.{criterion}
-use Rattle.quotient_gb.proofs.Growing.{has_divisor, member_leads}
+use Rattle.quotient_gb.proofs.Places.{has_divisor}
 use Rattle.poly_core.specs.FallingLaws.{Falls_IsPoly}
 
 module _ {E : Type 0} (K : FieldOps E) (F : IsField K) where
@@ -44,6 +43,9 @@ module _ {E : Type 0} (K : FieldOps E) (F : IsField K) where
   all_below O M (t ∷ r) h = (h.0, all_below O M r h.1)
 
 module _ {E : Type 0} (P : Presented E) (H : IsPresentation P) where
+  pub member_leads : (r : List (Term E)) → IsMonicMember P r → LeadsIdeal P (lead r)
+  member_leads r h = record { member = r; poly = Falls_IsPoly P.field P.order r h.falls; inside = h.inside; leads = falls_leads P.field H.field P.order H.order r h.falls (monic_some P.field H.field P.order H.order r h.monic) }
+
   -- no lead of the ideal has the degree 0
   pub positive_leads : (m : List ℕ) → LeadsIdeal P m → P.order.degree m ≤ 0 → ⊥
   positive_leads m h l =
@@ -59,7 +61,7 @@ module _ {E : Type 0} (P : Presented E) (H : IsPresentation P) where
   module _ (G : List (List (Term E))) (members : (g : List (Term E)) → Contains G g → IsMonicMember P g)
       (x : List (Term E)) (hx : IsMonicMember P x) (t : Term E) (w : List (Term E)) (is : x ≡ t ∷ w)
       (tail rest member : List (Term E)) (f_tail : Falls P.field P.order tail) (f_rest : Falls P.field P.order rest) (f_member : Falls P.field P.order member)
-      (tail_is : Same P.field tail (minus P.field x (t ∷ []))) (rem : IsRemainder P.field P.order G (AtMost P.order (lead tail)) tail rest)
+      (tail_is : Same P.field tail (minus P.field x (t ∷ []))) (rem : IsRemainderBy P.field P.order G (AtMost P.order (lead tail)) tail rest)
       (member_is : Same P.field member ((t ∷ []) ++ rest)) where
     parts : Falls P.field P.order (t ∷ w)
     parts = subst (Falls P.field P.order) is hx.falls
@@ -138,18 +140,3 @@ front_kept K O x t w e h =
 
 pub front_nonzero : {E : Type 0} (K : FieldOps E) (O : MonomialOrder) (x : List (Term E)) (t : Term E) (w : List (Term E)) → x ≡ t ∷ w → Falls K O x → t.by ≢ K.zero
 front_nonzero K O x t w e h = let k : Falls K O (t ∷ w) = subst (Falls K O) e h in k.0.nonzero
-
-module _ {F E : Type 0} (P : Presented E) (H : IsPresentation P) (d : ℕ) (b : Basis F E) (s : Stands P d b) where
-  pub stands_degree : (x : List (Term E)) → Contains b.members.items x → P.order.degree (lead x) ≤ d
-  stands_degree x k = s.ideal.degrees (lead x) (subst (λ ms. Contains ms (lead x)) (sym s.leads) (contains_map lead b.members.items x k))
-
-  pub stands_kept : (x : List (Term E)) → Contains b.members.items x → IsKept P.field P.order x
-  stands_kept x k =
-      let m = s.members x k in
-      record { falls = m.falls; small = small_lead P.field H.field P.order H.order x m.falls (let l = stands_degree x k in let q = s.small in omega arith) }
-
-  pub stands_monomial : (n : List ℕ) → Contains b.leads.items n → IsMonomial P.order.places n
-  stands_monomial n k = let l = s.ideal.leads n k in found_monomial P.field H.field P.order H.order l.member l.poly n l.leads.nonzero
-
-  pub stands_small : (n : List ℕ) → Contains b.leads.items n → P.order.degree n ≤ 30000
-  stands_small n k = let l = s.ideal.degrees n k in let q = s.small in omega arith

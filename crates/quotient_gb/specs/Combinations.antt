@@ -15,8 +15,8 @@ abbrev pub Under : MonomialOrder → List ℕ → List ℕ → Type 0
 Under O M m = O.compare m M ≡ Less
 
 -- the lead of a member of G divides m
-abbrev pub HasDivisor : {E : Type 0} → List (List (Term E)) → List ℕ → Type 0
-HasDivisor {E} G m = (g : List (Term E)) × Contains G g × Divides (lead g) m
+abbrev pub HasLeadDivisor : {E : Type 0} → List (List (Term E)) → List ℕ → Type 0
+HasLeadDivisor {E} G m = (g : List (Term E)) × Contains G g × Divides (lead g) m
 
 -- a term, and the polynomial that it multiplies
 pub record Step (E : Type 0) : Type 0 where
@@ -41,5 +41,5 @@ module _ {E : Type 0} (K : FieldOps E) where
       pub sums : Same K a (sum_of_steps steps)
 
     -- a is zero, or a sum of terms times members of G, each of a lead that is at most the lead of a
-    abbrev pub ReducesToZero : List (Term E) → Type 0
-    ReducesToZero a = (M : List ℕ) → IsLead K O a M → Combines (AtMost O M) a
+    abbrev pub HasStandardRepresentation : List (Term E) → Type 0
+    HasStandardRepresentation a = (M : List ℕ) → IsLead K O a M → Combines (AtMost O M) a

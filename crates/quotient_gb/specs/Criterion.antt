@@ -1,4 +1,4 @@
--- Critical pairs, and the premises of the criterion to a degree. No contract of the quotient speaks of them.
+-- S-polynomials, and the premises of the criterion to a degree.
 use Rattle.std.specs.Prelude.{◌≡◌, ℕ, ◌≤◌, List, Contains}
 use Rattle.word_field.specs.Field.{FieldOps}
 use Rattle.monomial_order.specs.declared.Term.{Term}
@@ -6,7 +6,7 @@ use Rattle.monomial_order.specs.Monomial.{product, least_common_multiple, IsTrim
 use Rattle.monomial_order.specs.MonomialOrder.{MonomialOrder}
 use Rattle.poly_core.specs.Poly.{term_of, scaled, minus, IsHomogeneous, lead}
 use Rattle.poly_core.specs.Subalgebra.{Presented}
-use Rattle.quotient_gb.specs.Combinations.{Under, Combines, ReducesToZero}
+use Rattle.quotient_gb.specs.Combinations.{Under, Combines, HasStandardRepresentation}
 use Rattle.quotient_gb.specs.IdealBasis.{IsMonicMember}
 
 -- u and v take m and n to their least common multiple
@@ -17,30 +17,36 @@ pub record AreCofactors (u m v n : List ℕ) : Type 0 where
   pub right : product v n ≡ least_common_multiple m n
 
 module _ {E : Type 0} (K : FieldOps E) where
-  -- u * g - v * h: the critical pair of g and h, where u and v take their leads to the least common multiple
-  abbrev pub critical_pair : List ℕ → List (Term E) → List ℕ → List (Term E) → List (Term E)
-  critical_pair u g v h = minus K (scaled K (term_of u K.one) g) (scaled K (term_of v K.one) h)
+  -- u * g - v * h: the S-polynomial of g and h, if u and v take their leads to the least common multiple
+  abbrev pub s_polynomial : List ℕ → List (Term E) → List ℕ → List (Term E) → List (Term E)
+  s_polynomial u g v h = minus K (scaled K (term_of u K.one) g) (scaled K (term_of v K.one) h)
 
   module _ (O : MonomialOrder) (G : List (List (Term E))) where
-    -- the critical pair of g and h reduces to zero
-    abbrev pub IsReduced : List (Term E) → List (Term E) → Type 0
-    IsReduced g h = (u v : List ℕ) → AreCofactors u (lead g) v (lead h) → ReducesToZero K O G (critical_pair u g v h)
+    -- the S-polynomial of g and h has a standard representation
+    abbrev pub HasStandardSPolynomial : List (Term E) → List (Term E) → Type 0
+    HasStandardSPolynomial g h =
+        (u v : List ℕ) → AreCofactors u (lead g) v (lead h) → HasStandardRepresentation K O G (s_polynomial u g v h)
 
-    -- the critical pair of g and h is a sum of terms times members of G, each of a lead below the least common multiple of the leads
-    abbrev pub IsJoined : List (Term E) → List (Term E) → Type 0
-    IsJoined g h = (u v : List ℕ) → AreCofactors u (lead g) v (lead h) →
-        Combines K O G (Under O (least_common_multiple (lead g) (lead h))) (critical_pair u g v h)
+    -- the S-polynomial of g and h is a sum of terms times members of G, each of a lead below the least common multiple of the
+    -- leads of g and h
+    abbrev pub HasRepresentationBelow : List (Term E) → List (Term E) → Type 0
+    HasRepresentationBelow g h = (u v : List ℕ) → AreCofactors u (lead g) v (lead h) →
+        Combines K O G (Under O (least_common_multiple (lead g) (lead h))) (s_polynomial u g v h)
 
 module _ {E : Type 0} (P : Presented E) where
-  -- G has monic members of the ideal, and each generator of the ideal of degree at most c reduces to zero by G
+  -- G has monic members of the ideal, and each generator of the ideal of degree at most c has a standard representation by G
   pub record ReducesGenerators (c : ℕ) (G : List (List (Term E))) : Type 0 where
     pub members : (g : List (Term E)) → Contains G g → IsMonicMember P g
-    pub generators : (r : List (Term E)) → Contains P.ideal r → (d : ℕ) → d ≤ c → IsHomogeneous P.field P.order d r → ReducesToZero P.field P.order G r
+    pub generators : (r : List (Term E)) → Contains P.ideal r → (d : ℕ) → d ≤ c → IsHomogeneous P.field P.order d r →
+        HasStandardRepresentation P.field P.order G r
 
-  -- each critical pair of members of G of degree at most c is joined
-  abbrev pub JoinsPairs : ℕ → List (List (Term E)) → Type 0
-  JoinsPairs c G = (g h : List (Term E)) → Contains G g → Contains G h → P.order.degree (least_common_multiple (lead g) (lead h)) ≤ c → IsJoined P.field P.order G g h
+  -- the S-polynomials of each two members of G, if the least common multiple of their leads has a degree of at most c, have
+  -- representations below it
+  abbrev pub RepresentsPairs : ℕ → List (List (Term E)) → Type 0
+  RepresentsPairs c G = (g h : List (Term E)) → Contains G g → Contains G h →
+      P.order.degree (least_common_multiple (lead g) (lead h)) ≤ c → HasRepresentationBelow P.field P.order G g h
 
-  -- each critical pair of members of G of degree at most c reduces to zero
+  -- and these have standard representations
   abbrev pub ReducesPairs : ℕ → List (List (Term E)) → Type 0
-  ReducesPairs c G = (g h : List (Term E)) → Contains G g → Contains G h → P.order.degree (least_common_multiple (lead g) (lead h)) ≤ c → IsReduced P.field P.order G g h
+  ReducesPairs c G = (g h : List (Term E)) → Contains G g → Contains G h →
+      P.order.degree (least_common_multiple (lead g) (lead h)) ≤ c → HasStandardSPolynomial P.field P.order G g h

@@ -4,9 +4,9 @@ ghost use Rattle.monomial_order.specs.declared.Term.{Term};
 ghost use Rattle.poly_core.specs.Poly.{IsPoly, IsLead, IsHomogeneous, Falls, lead};
 ghost use Rattle.poly_core.specs.Ideal.{InIdeal};
 ghost use Rattle.poly_core.specs.Subalgebra.{Presented, IsPresentation, LeadsIdeal, IsNormalForm};
-ghost use Rattle.quotient_gb.specs.Combinations.{HasDivisor, ReducesToZero};
-ghost use Rattle.quotient_gb.specs.Waiting.{AreCoprime};
-ghost use Rattle.quotient_gb.specs.Criterion.{IsReduced, IsJoined, ReducesGenerators, JoinsPairs, ReducesPairs};
+ghost use Rattle.quotient_gb.specs.Combinations.{HasLeadDivisor, HasStandardRepresentation};
+ghost use Rattle.quotient_gb.specs.CriticalPairs.{AreCoprime};
+ghost use Rattle.quotient_gb.specs.Criterion.{HasStandardSPolynomial, HasRepresentationBelow, ReducesGenerators, RepresentsPairs, ReducesPairs};
 ghost use Rattle.quotient_gb.specs.IdealBasis.{IsMonicMember};
 
 use word_field::Field;
@@ -15,21 +15,21 @@ use word_field::Field;
 /// members of the ideal, each lead of the ideal of degree at most c is a multiple of a lead of one of them.
 pub fn criterion<F: Field>()
     ensures reduced { (P : Presented F.Elem) → IsPresentation P → (c : ℕ) (G : List (List (Term F.Elem))) →
-        ReducesGenerators P c G → ReducesPairs P c G → (m : List ℕ) → LeadsIdeal P m → P.order.degree m ≤ c → HasDivisor G m }
+        ReducesGenerators P c G → ReducesPairs P c G → (m : List ℕ) → LeadsIdeal P m → P.order.degree m ≤ c → HasLeadDivisor G m }
     ensures joined { (P : Presented F.Elem) → IsPresentation P → (c : ℕ) (G : List (List (Term F.Elem))) →
-        ReducesGenerators P c G → JoinsPairs P c G → (m : List ℕ) → LeadsIdeal P m → P.order.degree m ≤ c → HasDivisor G m }
+        ReducesGenerators P c G → RepresentsPairs P c G → (m : List ℕ) → LeadsIdeal P m → P.order.degree m ≤ c → HasLeadDivisor G m }
 {}
 
 /// The converse: where the leads of monic members divide each lead of the ideal of degree at most c, each member of the ideal
 /// whose lead has a degree of at most c reduces to zero, and so do the critical pairs.
 pub fn members_reduce<F: Field>()
     ensures members { (P : Presented F.Elem) → IsPresentation P → (c : ℕ) (G : List (List (Term F.Elem))) →
-        ((g : List (Term F.Elem)) → Contains G g → IsMonicMember P g) → ((m : List ℕ) → LeadsIdeal P m → P.order.degree m ≤ c → HasDivisor G m) →
+        ((g : List (Term F.Elem)) → Contains G g → IsMonicMember P g) → ((m : List ℕ) → LeadsIdeal P m → P.order.degree m ≤ c → HasLeadDivisor G m) →
         (a : List (Term F.Elem)) → IsPoly P.field P.order.places a → InIdeal P.field P.order.places P.ideal a →
-        ((m : List ℕ) → IsLead P.field P.order a m → P.order.degree m ≤ c) → ReducesToZero P.field P.order G a }
+        ((m : List ℕ) → IsLead P.field P.order a m → P.order.degree m ≤ c) → HasStandardRepresentation P.field P.order G a }
     ensures pairs { (P : Presented F.Elem) → IsPresentation P → (c : ℕ) (G : List (List (Term F.Elem))) →
-        ((g : List (Term F.Elem)) → Contains G g → IsMonicMember P g) → ((m : List ℕ) → LeadsIdeal P m → P.order.degree m ≤ c → HasDivisor G m) →
-        JoinsPairs P c G }
+        ((g : List (Term F.Elem)) → Contains G g → IsMonicMember P g) → ((m : List ℕ) → LeadsIdeal P m → P.order.degree m ≤ c → HasLeadDivisor G m) →
+        RepresentsPairs P c G }
 {}
 
 /// Where members and generators have a degree of at most D, the premises of the criterion at the degree D + D are those at
@@ -40,21 +40,21 @@ pub fn holds_at_every_degree<F: Field>()
         ReducesGenerators P (D + D) G → (c : ℕ) → ReducesGenerators P c G }
     ensures pairs { (P : Presented F.Elem) → IsPresentation P → (D : ℕ) (G : List (List (Term F.Elem))) →
         ((g : List (Term F.Elem)) → Contains G g → IsMonicMember P g) → ((g : List (Term F.Elem)) → Contains G g → P.order.degree (lead g) ≤ D) →
-        JoinsPairs P (D + D) G → (c : ℕ) → JoinsPairs P c G }
+        RepresentsPairs P (D + D) G → (c : ℕ) → RepresentsPairs P c G }
 {}
 
 /// A critical pair that reduces to zero is joined.
 pub fn reduced_pair_is_joined<F: Field>()
     ensures { (P : Presented F.Elem) → IsPresentation P → (G : List (List (Term F.Elem))) →
         ((g : List (Term F.Elem)) → Contains G g → IsMonicMember P g) → (g h : List (Term F.Elem)) → Contains G g → Contains G h →
-        IsReduced P.field P.order G g h → IsJoined P.field P.order G g h }
+        HasStandardSPolynomial P.field P.order G g h → HasRepresentationBelow P.field P.order G g h }
 {}
 
 /// A critical pair of coprime leads is joined.
 pub fn coprime_pair_is_joined<F: Field>()
     ensures { (P : Presented F.Elem) → IsPresentation P → (G : List (List (Term F.Elem))) →
         ((g : List (Term F.Elem)) → Contains G g → IsMonicMember P g) → (g h : List (Term F.Elem)) → Contains G g → Contains G h →
-        AreCoprime (lead g) (lead h) → IsJoined P.field P.order G g h }
+        AreCoprime (lead g) (lead h) → HasRepresentationBelow P.field P.order G g h }
 {}
 
 /// A polynomial has one falling normal form at most.
