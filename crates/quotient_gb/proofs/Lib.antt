@@ -12,3 +12,11 @@ pub mod Inserting
 pub mod Tails
 pub mod Steps
 pub mod Examples
+pub mod Closing
+pub mod Offering
+pub mod SPolynomials
+pub mod Representations
+pub mod Finishing
+pub mod Listing
+pub mod Knowing
+pub mod Extending

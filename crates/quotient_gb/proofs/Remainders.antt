@@ -1,5 +1,5 @@
 -- The two steps of a reduction over a presentation, and what its loop maintains.
-use Rattle.std.proofs.Common.{◌≡◌, ◌≢◌, ℕ, refl, sym, ◌∙◌, ap, subst, List, [], ◌∷◌, ◌++◌, ◌⊎◌}
+use Rattle.std.proofs.Common.{◌≡◌, ◌≢◌, ◌≤◌, ℕ, refl, sym, ◌∙◌, ap, subst, List, [], ◌∷◌, ◌++◌, ◌⊎◌}
 use Rattle.std.specs.Prelude.{Contains}
 use Rattle.word_field.specs.Field.{IsValue}
 use Rattle.monomial_order.specs.declared.Term.{Term}
@@ -10,7 +10,9 @@ use Rattle.poly_core.specs.SameLaws.{append_same}
 use Rattle.poly_core.specs.Subalgebra.{Presented, IsPresentation}
 use Rattle.quotient_gb.specs.Combinations.{HasLeadDivisor, AtMost}
 use Rattle.quotient_gb.specs.Remainder.{IsCanonicalIn, IsReducerIn, AreReducersIn, IsLeadReduction, IsLeadSplit, IsRemainderIn}
-use Rattle.quotient_gb.proofs.Criterion.{IsReducer}
+use Rattle.quotient_gb.proofs.Basics.{scaled_small}
+use Rattle.quotient_gb.proofs.Criterion.{IsReducer, lead_monomial}
+use Rattle.quotient_gb.proofs.Multiples.{divides_left}
 use Rattle.quotient_gb.proofs.Reducing.{IsReducing, negate_not_zero, one_kept, rest_below, moved_sum, moved_monomials, by_monomial, cancel_term, cancel_small, cancel_below, reducing_start, reducing_cancel, reducing_move, reducing_end}
 
 -- the multiple of g by the term c * u is canonical
@@ -18,6 +20,18 @@ pub record IsFactor {E : Type 0} (P : Presented E) (g : List (Term E)) (u : List
   pub monomial : IsMonomial P.order.places u
   pub value : IsValue P.field c
   pub small : IsSmall P.order (scaled P.field (term_of u c) g)
+
+module _ {E : Type 0} (P : Presented E) (H : IsPresentation P) where
+  pub reducer_monomial : (g : List (Term E)) → IsReducerIn P g → IsMonomial P.order.places (lead g)
+  reducer_monomial g h = lead_monomial P.field H.field P.order H.order g h.canonical.falls h.monic
+
+  pub raising_factor : (g : List (Term E)) → IsReducerIn P g → (u : List ℕ) → IsTrimmed u → IsMonomial P.order.places (product u (lead g)) → P.order.degree (product u (lead g)) ≤ 65535 →
+      (c : E) → c ≡ P.field.one → IsFactor P g u c
+  raising_factor g h u tu hm l c e = subst (IsFactor P g u) (sym e) (record {
+    monomial = divides_left u (lead g) P.order.places hm tu;
+    value = H.field.one_value;
+    small = scaled_small P.field H.field P.order H.order (term_of u P.field.one) g (record { monomial = divides_left u (lead g) P.order.places hm tu; value = H.field.one_value }) h.canonical.falls l;
+  })
 
 module _ {E : Type 0} (P : Presented E) (H : IsPresentation P) (a : List (Term E)) (ka : IsCanonicalIn P a) (t : Term E) (w : List (Term E)) (is : a ≡ t ∷ w) where
   parts : IsCanonicalIn P (t ∷ w)

@@ -19,7 +19,7 @@ use Rattle.quotient_gb.specs.IdealBasis.{IsMonicMember, AreIdealLeads, HasStanda
 use Rattle.quotient_gb.specs.DegreeStep.{IsPart, all_members, IsBasisTo, IsStepAfter, IsLaterStep, DividesLeads, HasReducedTail, HasTails}
 use Rattle.quotient_gb.specs.Remainder.{IsCanonicalIn, IsReducerIn, AreReducersIn}
 use Rattle.quotient_gb.proofs.Basics.{small_lead, found_monomial}
-use Rattle.quotient_gb.proofs.Inserting.{insert_here, insert_there, insert_cases, map_insert, rise_insert, rise_append, set_cases, set_length, set_here, set_before, map_set}
+use Rattle.quotient_gb.proofs.Inserting.{insert_there, insert_cases, map_insert, rise_insert, rise_append, set_cases, set_length, set_here, set_before, map_set}
 use Rattle.quotient_gb.proofs.Places.{not_below, append_cases, map_append, length_map, lead_at, multiple_more}
 use Rattle.quotient_gb.proofs.Tails.{member_leads, standard_tail}
 
@@ -48,6 +48,9 @@ module _ {F E : Type 0} (P : Presented E) (H : IsPresentation P) (b : Basis F E)
 
   pub reducers : AreReducersIn P G
   reducers g k = reducer_of P H g (member g k) (let l = degree g k in let q = h.small in omega arith)
+
+  pub found_reducer : (g : List (Term E)) → Contains found g → IsReducerIn P g
+  found_reducer g k = reducers g (contains_right b.members.items found g k)
 
   -- a lead of the ideal of a lower degree is a multiple
   pub lower_multiple : (m : List ℕ) → LeadsIdeal P m → P.order.degree m < s.degree → IsMultiple (map lead b.members.items) m
@@ -142,15 +145,12 @@ module _ {F E : Type 0} (P : Presented E) (H : IsPresentation P) (b : Basis F E)
         };
       }
 
-      pub inserted_has : Contains s'.found.members.items r
-      inserted_has = subst (λ xs. Contains xs r) (sym members) (insert_here found at r)
-
   -- with the tail of a member reduced
   module _ (i : ℕ) (l : i < length found) (x : List (Term E)) (hx : IsMonicMember P x) (same : lead x ≡ lead (get_or found i [])) where
     leads_same : map lead (slice_set found i x) ≡ map lead found
     leads_same = map_set lead found i x [] l same
 
-    old : List (Term E)
+    abbrev old : List (Term E)
     old = get_or found i []
 
     old_in : Contains found old
@@ -176,6 +176,13 @@ module _ {F E : Type 0} (P : Presented E) (H : IsPresentation P) (b : Basis F E)
         (λ q. subst (HasStandardTail P) (sym (set_here found i x [] l))
         (standard_tail P H s.degree (map lead G) (ideal_leads v) x hx (let d : P.order.degree (lead x) ≡ s.degree = ap P.order.degree same ∙ h.degrees old old_in in omega arith) r))
 
+-- steps with the same leads have as many members
+pub found_count : {F E : Type 0} (P : Presented E) (b : Basis F E) (s s' : DegreeStep F E) → IsStepAfter P b s → IsStepAfter P b s' → s'.found.leads.items ≡ s.found.leads.items →
+    length s.found.members.items ≡ length s'.found.members.items
+found_count P b s s' h k e =
+    let a : length (map lead s.found.members.items) ≡ length (map lead s'.found.members.items) = ap length (sym h.leads ∙ (sym e ∙ k.leads)) in
+    let x = length_map lead s.found.members.items in let y = length_map lead s'.found.members.items in omega arith
+
 -- the leads of a step whose tails change stay as they are
 pub divides_same : {F E : Type 0} (P : Presented E) (b : Basis F E) (s s' : DegreeStep F E) → IsStepAfter P b s → IsStepAfter P b s' → s'.degree ≡ s.degree → s'.found.leads.items ≡ s.found.leads.items →
     DividesLeads P b s → DividesLeads P b s'
@@ -188,6 +195,7 @@ module _ {F E : Type 0} (P : Presented E) (b : Basis F E) (s s' s'' : DegreeStep
   pub later_chain : IsLaterStep P b s s' → IsLaterStep P b s' s'' → IsLaterStep P b s s''
   later_chain h k = record { degree = k.degree ∙ h.degree; step = k.step; part = λ x i. k.part x (h.part x i) }
 
+module _ {F E : Type 0} (P : Presented E) (b : Basis F E) (s s' : DegreeStep F E) where
   pub part_all : IsLaterStep P b s s' → IsPart (all_members b s) (all_members b s')
   part_all h x k = ⊎_elim (λ i. contains_left b.members.items s'.found.members.items x i) (λ i. contains_right b.members.items s'.found.members.items x (h.part x i))
       (append_cases b.members.items s.found.members.items x k)

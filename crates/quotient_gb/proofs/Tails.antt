@@ -1,5 +1,5 @@
 -- A member whose tail is reduced.
-use Rattle.std.proofs.Common.{◌≡◌, ◌≢◌, ℕ, ◌≤◌, sym, ◌∙◌, ap, subst, List, [], ◌∷◌, ◌++◌, ⊎_elim, arith}
+use Rattle.std.proofs.Common.{◌≡◌, refl, ◌≢◌, ℕ, ◌≤◌, sym, ◌∙◌, ap, subst, List, [], ◌∷◌, ◌++◌, ⊎_elim, arith}
 use Rattle.std.specs.Prelude.{Contains, map}
 use Rattle.std.specs.declared.cmp.Ordering.TheVariants.{Less}
 use Rattle.word_field.specs.Field.{FieldOps, IsField}
@@ -10,7 +10,7 @@ use Rattle.monomial_order.specs.MonomialOrder.{MonomialOrder}
 use Rattle.monomial_order.specs.Comparing.{degree_falls, degree_one, one_below}
 use Rattle.monomial_order.specs.Lists.{contains_none, contains_map}
 use Rattle.monomial_order.specs.ReducibleLaws.{IsMultiple}
-use Rattle.poly_core.specs.Poly.{coefficient, Same, minus, IsBelow, Falls, IsLead, IsHomogeneous, IsKept, AllAt, lead}
+use Rattle.poly_core.specs.Poly.{coefficient, Same, minus, IsBelow, Falls, IsLead, IsHomogeneous, AllAt, lead}
 use Rattle.poly_core.specs.Subalgebra.{Presented, IsPresentation, IsGenerator, LeadsIdeal}
 use Rattle.poly_core.specs.RingLaws.{coefficient-append}
 use Rattle.poly_core.specs.FallingLaws.{Falls_unique, IsLead_first, coefficient_first}
@@ -18,7 +18,7 @@ use Rattle.poly_core.specs.DegreeLaws.{falls_all}
 use Rattle.poly_core.specs.CongruenceLaws.{coefficient-minus, congruent_sym, congruent_trans, congruent_member, member_congruent}
 use Rattle.poly_core.specs.IdealLaws.{InIdeal_same}
 use Rattle.quotient_gb.specs.Combinations.{AtMost}
-use Rattle.quotient_gb.specs.Remainder.{IsRemainderBy}
+use Rattle.quotient_gb.specs.Remainder.{IsRemainderBy, IsCanonicalIn, IsRemainderIn}
 use Rattle.quotient_gb.specs.IdealBasis.{IsMonicMember, HasStandardTail, AreIdealLeads}
 use Rattle.quotient_gb.specs.DegreeStep.{HasReducedTail}
 use Rattle.quotient_gb.proofs.Basics.{sum_nonzero, single_term, found_monomial, falls_leads, monic_some, small_lead}
@@ -27,6 +27,12 @@ use Rattle.quotient_gb.proofs.Complete.{difference_below, generator_of}
 use Rattle.quotient_gb.proofs.Criterion.{criterion}
 use Rattle.quotient_gb.proofs.Places.{has_divisor}
 use Rattle.poly_core.specs.FallingLaws.{Falls_IsPoly}
+
+-- y has the lead of x and a reduced tail
+pub record HasReplacement {E : Type 0} (P : Presented E) (G : List (List (Term E))) (x y : List (Term E)) : Type 0 where
+  pub member : IsMonicMember P y
+  pub lead : Rattle.poly_core.specs.Poly.lead y ≡ Rattle.poly_core.specs.Poly.lead x
+  pub tail : HasReducedTail P (map Rattle.poly_core.specs.Poly.lead G) y
 
 module _ {E : Type 0} (K : FieldOps E) (F : IsField K) where
   -- (x - f) - r = x - (f + r)
@@ -76,7 +82,7 @@ module _ {E : Type 0} (P : Presented E) (H : IsPresentation P) where
 
     -- the lead is not 1
     lead_some : t.at ≢ []
-    lead_some e = positive_leads (lead x) (member_leads P H x hx) (let z = degree_one P.order H.order in let q : P.order.degree (lead x) ≡ P.order.degree [] = ap P.order.degree (ap lead is ∙ e) in omega arith)
+    lead_some e = positive_leads (lead x) (member_leads x hx) (let z = degree_one P.order H.order in let q : P.order.degree (lead x) ≡ P.order.degree [] = ap P.order.degree (ap lead is ∙ e) in omega arith)
 
     top_below : (q : List (Term E)) → Falls P.field P.order q → ((n : List ℕ) → coefficient P.field q n ≢ P.field.zero → P.order.compare n t.at ≡ Less) → P.order.compare (lead q) t.at ≡ Less
     top_below [] f h = one_below P.order H.order t.at parts.0.term.monomial lead_some
@@ -132,11 +138,20 @@ module _ {E : Type 0} (P : Presented E) (H : IsPresentation P) where
       some : g ≢ []
       some = monic_some P.field H.field P.order H.order g hg.monic
 
--- the first term of a kept list is kept
-pub front_kept : {E : Type 0} (K : FieldOps E) (O : MonomialOrder) (x : List (Term E)) (t : Term E) (w : List (Term E)) → x ≡ t ∷ w → IsKept K O x → IsKept K O (t ∷ [])
-front_kept K O x t w e h =
-    let k : IsKept K O (t ∷ w) = subst (IsKept K O) e h in
-    record { falls = (record { term = k.falls.0.term; nonzero = k.falls.0.nonzero; above = tt }, tt); small = (k.small.0, tt) }
+-- what replaces x: its first term and the remainder of its tail
+module _ {E : Type 0} (P : Presented E) (H : IsPresentation P) (G : List (List (Term E))) (members : (g : List (Term E)) → Contains G g → IsMonicMember P g)
+    (x : List (Term E)) (hx : IsMonicMember P x) (t : Term E) (w : List (Term E)) (is : x ≡ t ∷ w) (front tail rest y : List (Term E)) (front_is : front ≡ t ∷ [])
+    (k_tail : IsCanonicalIn P tail) (tail_is : Same P.field tail (minus P.field x front)) (rem : IsRemainderIn P G tail rest)
+    (k_y : IsCanonicalIn P y) (y_is : Same P.field y (front ++ rest)) where
+  less : Same P.field tail (minus P.field x (t ∷ []))
+  less = subst (λ z. Same P.field tail (minus P.field x z)) front_is tail_is
 
-pub front_nonzero : {E : Type 0} (K : FieldOps E) (O : MonomialOrder) (x : List (Term E)) (t : Term E) (w : List (Term E)) → x ≡ t ∷ w → Falls K O x → t.by ≢ K.zero
-front_nonzero K O x t w e h = let k : Falls K O (t ∷ w) = subst (Falls K O) e h in k.0.nonzero
+  whole_is : Same P.field y ((t ∷ []) ++ rest)
+  whole_is = subst (λ z. Same P.field y (z ++ rest)) front_is y_is
+
+  pub tail_reduced : HasReplacement P G x y
+  tail_reduced = record {
+    member = reduced_member P H G members x hx t w is tail rest y k_tail.falls rem.canonical.falls k_y.falls less rem.remainder whole_is;
+    lead = member_lead P H G members x hx t w is tail rest y k_tail.falls rem.canonical.falls k_y.falls less rem.remainder whole_is;
+    tail = reduced_tail P H G members x hx t w is tail rest y k_tail.falls rem.canonical.falls k_y.falls less rem.remainder whole_is (map lead G) refl;
+  }

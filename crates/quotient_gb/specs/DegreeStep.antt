@@ -74,4 +74,4 @@ module _ {F E : Type 0} (P : Presented E) where
   pub record IsFinishedStep (b : Basis F E) (s : DegreeStep F E) : Type 0 where
     pub step : IsStepAfter b s
     pub divides : DividesLeads b s
-    pub tails : HasTails (length s.found.members.items) s.found.members.items
+    pub tails : HasTails P (length s.found.members.items) s.found.members.items

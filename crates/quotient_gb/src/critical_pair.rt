@@ -1,5 +1,5 @@
 //! Critical pairs: two leads of a basis, at the degree of their least common multiple.
-ghost use Rattle.std.specs.Prelude.{◌≡◌, ℕ, ◌+◌, ◌≤◌, ◌<◌, List, [], true, length, IfOk, OnOk, IfSome, IsNone, Contains, slice_index_or};
+ghost use Rattle.std.specs.Prelude.{◌≡◌, ℕ, ◌+◌, ◌≤◌, ◌<◌, List, [], true, length, filter, nat_lt, IfOk, OnOk, IfSome, IsNone, Contains, slice_index_or};
 ghost use Rattle.monomial_order.specs.Monomial.{IsMonomial};
 ghost use Rattle.quotient_gb.specs.CriticalPairs.{AreCoprime, HasPairs, pair_at};
 
@@ -93,4 +93,11 @@ pub(crate) fn critical_pairs<O: Order>(
         push_pairs(alloc, o, leads, second, &mut pairs)?;
     }
     Ok(pairs)
+}
+
+/// Retains the critical pairs above a degree.
+pub(crate) fn retain_above(pairs: &mut Vec<CriticalPair>, degree: u32)
+    ensures { pairs.new.items ≡ filter (λ w. nat_lt degree w.degree) pairs.old.items }
+{
+    pairs.retain(|w| w.degree > degree);
 }

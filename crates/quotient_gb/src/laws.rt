@@ -6,59 +6,59 @@ ghost use Rattle.poly_core.specs.Ideal.{InIdeal};
 ghost use Rattle.poly_core.specs.Subalgebra.{Presented, IsPresentation, LeadsIdeal, IsNormalForm};
 ghost use Rattle.quotient_gb.specs.Combinations.{HasLeadDivisor, HasStandardRepresentation};
 ghost use Rattle.quotient_gb.specs.CriticalPairs.{AreCoprime};
-ghost use Rattle.quotient_gb.specs.Criterion.{HasStandardSPolynomial, HasRepresentationBelow, ReducesGenerators, RepresentsPairs, ReducesPairs};
+ghost use Rattle.quotient_gb.specs.Criterion.{HasRepresentationBelow, ReducesGenerators, RepresentsPairs, ReducesPairs};
 ghost use Rattle.quotient_gb.specs.IdealBasis.{IsMonicMember};
 
 use word_field::Field;
 
-/// The criterion to a degree: where the generators and the critical pairs of degree at most c reduce to zero by monic
-/// members of the ideal, each lead of the ideal of degree at most c is a multiple of a lead of one of them.
+/// The criterion to a degree. If the generators of degree at most c have standard representations by monic members of the ideal,
+/// and so have the S-polynomials, each lead of the ideal of degree at most c is a multiple of a lead of one of them.
 pub fn criterion<F: Field>()
     ensures reduced { (P : Presented F.Elem) → IsPresentation P → (c : ℕ) (G : List (List (Term F.Elem))) →
-        ReducesGenerators P c G → ReducesPairs P c G → (m : List ℕ) → LeadsIdeal P m → P.order.degree m ≤ c → HasLeadDivisor G m }
-    ensures joined { (P : Presented F.Elem) → IsPresentation P → (c : ℕ) (G : List (List (Term F.Elem))) →
-        ReducesGenerators P c G → RepresentsPairs P c G → (m : List ℕ) → LeadsIdeal P m → P.order.degree m ≤ c → HasLeadDivisor G m }
+        ReducesGenerators P c G → ReducesPairs P c G → (m : List ℕ) → LeadsIdeal P m → P.order.degree m ≤ c →
+        HasLeadDivisor G m }
+    ensures below { (P : Presented F.Elem) → IsPresentation P → (c : ℕ) (G : List (List (Term F.Elem))) →
+        ReducesGenerators P c G → RepresentsPairs P c G → (m : List ℕ) → LeadsIdeal P m → P.order.degree m ≤ c →
+        HasLeadDivisor G m }
 {}
 
-/// The converse: where the leads of monic members divide each lead of the ideal of degree at most c, each member of the ideal
-/// whose lead has a degree of at most c reduces to zero, and so do the critical pairs.
+/// The converse. If the leads of monic members divide each lead of the ideal of degree at most c, each member of the ideal whose
+/// lead has a degree of at most c has a standard representation, and the S-polynomials have representations below.
 pub fn members_reduce<F: Field>()
     ensures members { (P : Presented F.Elem) → IsPresentation P → (c : ℕ) (G : List (List (Term F.Elem))) →
-        ((g : List (Term F.Elem)) → Contains G g → IsMonicMember P g) → ((m : List ℕ) → LeadsIdeal P m → P.order.degree m ≤ c → HasLeadDivisor G m) →
+        ((g : List (Term F.Elem)) → Contains G g → IsMonicMember P g) →
+        ((m : List ℕ) → LeadsIdeal P m → P.order.degree m ≤ c → HasLeadDivisor G m) →
         (a : List (Term F.Elem)) → IsPoly P.field P.order.places a → InIdeal P.field P.order.places P.ideal a →
-        ((m : List ℕ) → IsLead P.field P.order a m → P.order.degree m ≤ c) → HasStandardRepresentation P.field P.order G a }
+        ((m : List ℕ) → IsLead P.field P.order a m → P.order.degree m ≤ c) →
+        HasStandardRepresentation P.field P.order G a }
     ensures pairs { (P : Presented F.Elem) → IsPresentation P → (c : ℕ) (G : List (List (Term F.Elem))) →
-        ((g : List (Term F.Elem)) → Contains G g → IsMonicMember P g) → ((m : List ℕ) → LeadsIdeal P m → P.order.degree m ≤ c → HasLeadDivisor G m) →
-        RepresentsPairs P c G }
+        ((g : List (Term F.Elem)) → Contains G g → IsMonicMember P g) →
+        ((m : List ℕ) → LeadsIdeal P m → P.order.degree m ≤ c → HasLeadDivisor G m) → RepresentsPairs P c G }
 {}
 
-/// Where members and generators have a degree of at most D, the premises of the criterion at the degree D + D are those at
+/// If members and generators have a degree of at most D, the premises of the criterion at the degree D + D are those at
 /// every degree.
 pub fn holds_at_every_degree<F: Field>()
     ensures generators { (P : Presented F.Elem) → IsPresentation P → (D : ℕ) (G : List (List (Term F.Elem))) →
         ((r : List (Term F.Elem)) → Contains P.ideal r → (d : ℕ) → IsHomogeneous P.field P.order d r → d ≤ D) →
         ReducesGenerators P (D + D) G → (c : ℕ) → ReducesGenerators P c G }
     ensures pairs { (P : Presented F.Elem) → IsPresentation P → (D : ℕ) (G : List (List (Term F.Elem))) →
-        ((g : List (Term F.Elem)) → Contains G g → IsMonicMember P g) → ((g : List (Term F.Elem)) → Contains G g → P.order.degree (lead g) ≤ D) →
+        ((g : List (Term F.Elem)) → Contains G g → IsMonicMember P g) →
+        ((g : List (Term F.Elem)) → Contains G g → P.order.degree (lead g) ≤ D) →
         RepresentsPairs P (D + D) G → (c : ℕ) → RepresentsPairs P c G }
 {}
 
-/// A critical pair that reduces to zero is joined.
-pub fn reduced_pair_is_joined<F: Field>()
+/// The product criterion: the S-polynomial of two members with coprime leads has a representation below the product of the
+/// leads.
+pub fn product_criterion<F: Field>()
     ensures { (P : Presented F.Elem) → IsPresentation P → (G : List (List (Term F.Elem))) →
-        ((g : List (Term F.Elem)) → Contains G g → IsMonicMember P g) → (g h : List (Term F.Elem)) → Contains G g → Contains G h →
-        HasStandardSPolynomial P.field P.order G g h → HasRepresentationBelow P.field P.order G g h }
-{}
-
-/// A critical pair of coprime leads is joined.
-pub fn coprime_pair_is_joined<F: Field>()
-    ensures { (P : Presented F.Elem) → IsPresentation P → (G : List (List (Term F.Elem))) →
-        ((g : List (Term F.Elem)) → Contains G g → IsMonicMember P g) → (g h : List (Term F.Elem)) → Contains G g → Contains G h →
+        ((g : List (Term F.Elem)) → Contains G g → IsMonicMember P g) →
+        (g h : List (Term F.Elem)) → Contains G g → Contains G h →
         AreCoprime (lead g) (lead h) → HasRepresentationBelow P.field P.order G g h }
 {}
 
-/// A polynomial has one falling normal form at most.
+/// A polynomial has one canonical normal form at most.
 pub fn normal_form_is_unique<F: Field>()
-    ensures { (P : Presented F.Elem) → IsPresentation P → (a b c : List (Term F.Elem)) → Falls P.field P.order b → Falls P.field P.order c →
-        IsNormalForm P a b → IsNormalForm P a c → b ≡ c }
+    ensures { (P : Presented F.Elem) → IsPresentation P → (a b c : List (Term F.Elem)) →
+        Falls P.field P.order b → Falls P.field P.order c → IsNormalForm P a b → IsNormalForm P a c → b ≡ c }
 {}

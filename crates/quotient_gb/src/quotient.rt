@@ -10,7 +10,7 @@ ghost use Rattle.quotient_gb.specs.Quotient.{IsQuotientOf, IsExtension};
 ghost use Rattle.quotient_gb.specs.Remainder.{IsCanonicalIn};
 
 use crate::basis::Basis;
-use crate::critical_pair::{CriticalPair, critical_pairs};
+use crate::critical_pair::{CriticalPair, critical_pairs, retain_above};
 use crate::degree_step::DegreeStep;
 use crate::remainder::remainder;
 use monomial_order::{Memory, Monomial, Order};
@@ -80,7 +80,7 @@ impl<F: Field, O: Order> Quotient<F, O> {
         match self.add_degrees(alloc, p, c) {
             Ok(()) => {
                 let reached = self.degree;
-                self.pairs.retain(|w| w.degree > reached);
+                retain_above(&mut self.pairs, reached);
                 Ok(())
             }
             Err(memory) => {
@@ -168,7 +168,7 @@ impl<F: Field, O: Order> Quotient<F, O> {
         ensures no { result ≡ false → (P : Presented F.Elem) → IsPresentation P → IsQuotientOf P self.now →
             IsMonomial P.order.places m.now → LeadsIdeal P m.now }
     {
-        for lead in &self.basis.leads {
+        'search: for lead in &self.basis.leads {
             if lead.divides(m) {
                 return false;
             }

@@ -1,0 +1,191 @@
+-- Where the generators and the meetings of the degree d are looked at, the leads divide each lead of the ideal of degree d.
+use Rattle.std.proofs.Common.{◌≡◌, ℕ, zero, suc, ◌+◌, ◌<◌, ◌≤◌, refl, sym, ◌∙◌, ap, subst, List, [], ◌∷◌, length, arith, ◌⊎◌, inl, inr, ⊎_elim, get_or, true, false}
+use Rattle.std.specs.Prelude.{Contains, map, nat_lt}
+use Rattle.std.proofs.lemmas.Bool.{ltb-true, ltb-false}
+use Rattle.std.specs.declared.cmp.Ordering.TheVariants.{Less}
+use Rattle.monomial_order.specs.declared.Term.{Term}
+use Rattle.monomial_order.specs.Monomial.{IsMonomial, Divides, least_common_multiple}
+use Rattle.monomial_order.specs.MonomialLaws.{least_common_multiple_comm, IsMonomial-least_common_multiple}
+use Rattle.monomial_order.specs.Cofactors.{Divides-least_common_multiple, Divides-least_common_multiple_right}
+use Rattle.monomial_order.specs.Comparing.{equal_or_not, le_or_not, proper_divisor, not_below_self}
+use Rattle.monomial_order.specs.Lists.{contains_at, contains_left}
+use Rattle.monomial_order.specs.ReducibleLaws.{IsMultiple}
+use Rattle.poly_core.specs.Poly.{IsHomogeneous, lead}
+use Rattle.poly_core.specs.Subalgebra.{Presented, IsPresentation, LeadsIdeal, Rise}
+use Rattle.quotient_gb.specs.Combinations.{HasLeadDivisor, HasStandardRepresentation}
+use Rattle.quotient_gb.specs.CriticalPairs.{AreCoprime}
+use Rattle.quotient_gb.specs.Criterion.{HasStandardSPolynomial, HasRepresentationBelow, RepresentsPairs, ReducesGenerators}
+use Rattle.quotient_gb.specs.declared.basis.Basis.{Basis}
+use Rattle.quotient_gb.specs.declared.degree_step.DegreeStep.{DegreeStep}
+use Rattle.quotient_gb.specs.DegreeStep.{all_members, IsStepAfter, ReducesGeneratorsAt, DividesLeads}
+use Rattle.quotient_gb.specs.IdealBasis.{IsMonicMember}
+use Rattle.quotient_gb.proofs.Bases.{reducer, lead_is}
+use Rattle.quotient_gb.proofs.Complete.{complete_pairs, complete_generators}
+use Rattle.quotient_gb.proofs.Criterion.{IsReducer, criterion}
+use Rattle.quotient_gb.proofs.Pairs.{below_sym, below_self, below_standard, below_coprime}
+use Rattle.quotient_gb.proofs.Places.{at_default, length_map, append_cases, has_divisor, is_multiple, multiple_more, lead_at}
+use Rattle.quotient_gb.proofs.Steps.{member, degree, lower_multiple, increasing, minimal}
+
+-- what is symmetric and holds of each member with itself, and at each two places, holds of each two members
+pub each_two : {A : Type 0} (d : A) (xs : List A) (R : A → A → Type 0) → ((x y : A) → R x y → R y x) → ((x : A) → R x x) →
+    ((i j : ℕ) → i < j → j < length xs → R (get_or xs i d) (get_or xs j d)) → (x y : A) → Contains xs x → Contains xs y → R x y
+each_two {A} d xs R turned itself some x y hx hy =
+    elim (nat_lt hx.0 hy.0) as (λ b. nat_lt hx.0 hy.0 ≡ b → R x y) [
+      | true ↦ λ e. at hx.0 hy.0 x y (ltb-true hx.0 hy.0 e) hy.1 (found x hx) (found y hy)
+      | false ↦ λ e. elim (nat_lt hy.0 hx.0) as (λ b. nat_lt hy.0 hx.0 ≡ b → R x y) [
+        | true ↦ λ e2. turned y x (at hy.0 hx.0 y x (ltb-true hy.0 hx.0 e2) hx.1 (found y hy) (found x hx))
+        | false ↦ λ e2.
+            let a : hy.0 ≤ hx.0 = ltb-false hx.0 hy.0 e in
+            let b : hx.0 ≤ hy.0 = ltb-false hy.0 hx.0 e2 in
+            let same : hx.0 ≡ hy.0 = omega arith in
+            subst (R x) (sym (found x hx) ∙ (ap (λ i. get_or xs i d) same ∙ found y hy)) (itself x)
+      ] refl
+    ] refl
+  where
+    found : (x : A) (h : Contains xs x) → get_or xs h.0 d ≡ x
+    found x h = at_default xs h.0 x d h.1 h.2
+
+    at : (i j : ℕ) (x y : A) → i < j → j < length xs → get_or xs i d ≡ x → get_or xs j d ≡ y → R x y
+    at i j x y lt l ex ey = subst (λ z. R z y) ex (subst (R (get_or xs i d)) ey (some i j lt l))
+
+module _ {E : Type 0} (P : Presented E) where
+  rise_first : (m : List ℕ) (ms : List (List ℕ)) → Rise P (m ∷ ms) → ((a b c : List ℕ) → P.order.compare a b ≡ Less → P.order.compare b c ≡ Less → P.order.compare a c ≡ Less) →
+      (j : ℕ) → j < length ms → P.order.compare m (get_or ms j []) ≡ Less
+  rise_first m [] h t j l = absurd (omega arith)
+  rise_first m (n ∷ ms) h t zero l = h.0
+  rise_first m (n ∷ ms) h t (suc j) l = t m n (get_or ms j []) h.0 (rise_first n ms h.1 t j (omega arith))
+
+  rise_rest : (m : List ℕ) (ms : List (List ℕ)) → Rise P (m ∷ ms) → Rise P ms
+  rise_rest m [] h = tt
+  rise_rest m (n ∷ ms) h = h.1
+
+  -- of two places the later one has the greater lead
+  pub rise_less : (ms : List (List ℕ)) → Rise P ms → ((a b c : List ℕ) → P.order.compare a b ≡ Less → P.order.compare b c ≡ Less → P.order.compare a c ≡ Less) →
+      (i j : ℕ) → i < j → j < length ms → P.order.compare (get_or ms i []) (get_or ms j []) ≡ Less
+  rise_less [] h t i j l k = absurd (omega arith)
+  rise_less (m ∷ ms) h t i zero l k = absurd (omega arith)
+  rise_less (m ∷ ms) h t zero (suc j) l k = rise_first m ms h t j (omega arith)
+  rise_less (m ∷ ms) h t (suc i) (suc j) l k = rise_less ms (rise_rest m ms h) t i j (omega arith) (omega arith)
+
+module _ {F E : Type 0} (P : Presented E) (H : IsPresentation P) (b : Basis F E) (s : DegreeStep F E) (h : IsStepAfter P b s) (generators : ReducesGeneratorsAt P b s)
+    (pairs : (i j : ℕ) → i < j → j < length b.members.items → P.order.degree (least_common_multiple (lead (get_or b.members.items i [])) (lead (get_or b.members.items j []))) ≡ s.degree →
+    AreCoprime (lead (get_or b.members.items i [])) (lead (get_or b.members.items j [])) ⊎ HasStandardSPolynomial P.field P.order (all_members b s) (get_or b.members.items i []) (get_or b.members.items j [])) where
+  abbrev before : List (List (Term E))
+  before = b.members.items
+
+  abbrev G : List (List (Term E))
+  G = all_members b s
+
+  abbrev d : ℕ
+  d = s.degree
+
+  next : d ≡ h.before.0 + 1
+  next = h.before.1
+
+  members : (g : List (Term E)) → Contains G g → IsMonicMember P g
+  members = member P H b s h
+
+  part : (x : List (Term E)) → Contains before x → Contains G x
+  part x k = contains_left before s.found.members.items x k
+
+  divides_lower : (m : List ℕ) → LeadsIdeal P m → P.order.degree m ≤ h.before.0 → HasLeadDivisor G m
+  divides_lower m k l = has_divisor G m (multiple_more before G m part (lower_multiple P H b s h m k (let e = next in omega arith)))
+
+  reducers : (x : List (Term E)) → Contains G x → IsReducer P.field P.order x
+  reducers = reducer P H G members
+
+  all_generators : ReducesGenerators P d G
+  all_generators = record {
+    members = members;
+    generators = λ r k e le hr. ⊎_elim (λ l. complete_generators P H G members h.before.0 divides_lower r k e l hr)
+        (λ n. generators r k (subst (λ x. IsHomogeneous P.field P.order x r) (equal e le n) hr)) (le_or_not e h.before.0);
+  }
+    where
+      equal : (e : ℕ) → e ≤ d → (e ≤ h.before.0 → ⊥) → e ≡ d
+      equal e l n = let q = next in omega arith
+
+  abbrev Represents : List (Term E) → List (Term E) → Type 0
+  Represents x y = P.order.degree (least_common_multiple (lead x) (lead y)) ≡ d → HasRepresentationBelow P.field P.order G x y
+
+  represents_turned : (x y : List (Term E)) → Represents x y → Represents y x
+  represents_turned x y j e = below_sym P.field H.field P.order H.order G reducers x y (j (ap P.order.degree (least_common_multiple_comm (lead x) (lead y)) ∙ e))
+
+  represents_itself : (x : List (Term E)) → Represents x x
+  represents_itself x e = below_self P.field H.field P.order H.order G reducers x
+
+  -- two members of a lower degree
+  represents_before : (x y : List (Term E)) → Contains before x → Contains before y → Represents x y
+  represents_before = each_two [] before Represents represents_turned represents_itself some
+    where
+      some : (i j : ℕ) → i < j → j < length before → Represents (get_or before i []) (get_or before j [])
+      some i j lt l e =
+          let hi = part (get_or before i []) (contains_at before i [] (omega arith)) in
+          let hj = part (get_or before j []) (contains_at before j [] l) in
+          ⊎_elim (λ co. below_coprime P.field H.field P.order H.order G reducers (get_or before i []) (get_or before j []) hi hj co)
+          (λ r. below_standard P.field H.field P.order H.order G reducers (get_or before i []) (get_or before j []) hi hj r) (pairs i j lt l e)
+
+  -- a member of the degree d meets no other one there
+  represents_new : (i j : ℕ) → i < j → j < length G → (P.order.degree (lead (get_or G i [])) ≡ d) ⊎ (P.order.degree (lead (get_or G j [])) ≡ d) → Represents (get_or G i []) (get_or G j [])
+  represents_new i j lt l new e = absurd (not_below_self P.order H.order (lead x) (subst (λ z. P.order.compare (lead x) z ≡ Less) (sym same) less))
+    where
+      x : List (Term E)
+      x = get_or G i []
+
+      y : List (Term E)
+      y = get_or G j []
+
+      hx : Contains G x
+      hx = contains_at G i [] (omega arith)
+
+      hy : Contains G y
+      hy = contains_at G j [] l
+
+      mx : IsMonomial P.order.places (lead x)
+      mx = lead_is P H G members x hx
+
+      my : IsMonomial P.order.places (lead y)
+      my = lead_is P H G members y hy
+
+      top : List ℕ
+      top = least_common_multiple (lead x) (lead y)
+
+      mt : IsMonomial P.order.places top
+      mt = IsMonomial-least_common_multiple P.order.places (lead x) (lead y) mx my
+
+      less : P.order.compare (lead x) (lead y) ≡ Less
+      less = subst (λ z. P.order.compare z (lead y) ≡ Less) (lead_at G i) (subst (λ z. P.order.compare (get_or (map lead G) i []) z ≡ Less) (lead_at G j)
+          (rise_less P (map lead G) (increasing P H b s h) H.order.total.trans i j lt (let q = length_map lead G in omega arith)))
+
+      -- a divisor of the degree of a monomial is that monomial
+      whole : (m : List ℕ) → IsMonomial P.order.places m → Divides m top → P.order.degree m ≡ d → m ≡ top
+      whole m hm dv q = ⊎_elim (λ s. s) (λ ne. absurd (let p = proper_divisor P.order H.order m top mt hm.trimmed dv ne in let lt = p.1 in omega arith)) (equal_or_not m top)
+
+      same : lead x ≡ lead y
+      same = ⊎_elim
+          (λ q. sym (minimal P H b s h y x hy hx (subst (Divides (lead y)) (sym (whole (lead x) mx (Divides-least_common_multiple (lead x) (lead y)) q)) (Divides-least_common_multiple_right (lead x) (lead y)))))
+          (λ q. minimal P H b s h x y hx hy (subst (Divides (lead x)) (sym (whole (lead y) my (Divides-least_common_multiple_right (lead x) (lead y)) q)) (Divides-least_common_multiple (lead x) (lead y))))
+          new
+
+  represents_places : (i j : ℕ) → i < j → j < length G → Represents (get_or G i []) (get_or G j [])
+  represents_places i j lt l = ⊎_elim
+      (λ le. represents_new i j lt l (inl (exact i (omega arith) le)))
+      (λ ni. ⊎_elim (λ le. represents_new i j lt l (inr (exact j l le)))
+      (λ nj. represents_before (get_or G i []) (get_or G j []) (older i (omega arith) ni) (older j l nj)) (le_or_not d (P.order.degree (lead (get_or G j [])))))
+      (le_or_not d (P.order.degree (lead (get_or G i []))))
+    where
+      exact : (k : ℕ) → k < length G → d ≤ P.order.degree (lead (get_or G k [])) → P.order.degree (lead (get_or G k [])) ≡ d
+      exact k l le = let q = degree P H b s h (get_or G k []) (contains_at G k [] l) in omega arith
+
+      older : (k : ℕ) → k < length G → (d ≤ P.order.degree (lead (get_or G k [])) → ⊥) → Contains before (get_or G k [])
+      older k l n = ⊎_elim (λ i. i) (λ i. absurd (n (let q = h.degrees (get_or G k []) i in omega arith))) (append_cases before s.found.members.items (get_or G k []) (contains_at G k [] l))
+
+  all_pairs : RepresentsPairs P d G
+  all_pairs x y hx hy l = ⊎_elim (λ le. complete_pairs P H G members h.before.0 divides_lower x y hx hy le)
+      (λ n. each_two [] G Represents represents_turned represents_itself represents_places x y hx hy (equal (P.order.degree (least_common_multiple (lead x) (lead y))) l n))
+      (le_or_not (P.order.degree (least_common_multiple (lead x) (lead y))) h.before.0)
+    where
+      equal : (e : ℕ) → e ≤ d → (e ≤ h.before.0 → ⊥) → e ≡ d
+      equal e l n = let q = next in omega arith
+
+  pub closed : DividesLeads P b s
+  closed m k l = is_multiple G m (criterion P H d G all_generators all_pairs m k l)
