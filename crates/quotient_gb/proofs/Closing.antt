@@ -1,19 +1,19 @@
 -- Where the generators and the meetings of the degree d are looked at, the leads divide each lead of the ideal of degree d.
 use Rattle.std.proofs.Common.{◌≡◌, ℕ, zero, suc, ◌+◌, ◌<◌, ◌≤◌, refl, sym, ◌∙◌, ap, subst, List, [], ◌∷◌, length, arith, ◌⊎◌, inl, inr, ⊎_elim, get_or, true, false}
+use Rattle.std.proofs.lemmas.List.{length-map}
 use Rattle.std.specs.Prelude.{Contains, map, nat_lt}
 use Rattle.std.proofs.lemmas.Bool.{ltb-true, ltb-false}
 use Rattle.std.specs.declared.cmp.Ordering.TheVariants.{Less}
-use Rattle.monomial_order.specs.declared.Term.{Term}
-use Rattle.monomial_order.specs.Monomial.{IsMonomial, Divides, least_common_multiple}
-use Rattle.monomial_order.specs.MonomialLaws.{least_common_multiple_comm, IsMonomial-least_common_multiple}
-use Rattle.monomial_order.specs.Cofactors.{Divides-least_common_multiple, Divides-least_common_multiple_right}
-use Rattle.monomial_order.specs.Comparing.{equal_or_not, le_or_not, proper_divisor, not_below_self}
-use Rattle.monomial_order.specs.Lists.{contains_at, contains_left}
-use Rattle.monomial_order.specs.ReducibleLaws.{IsMultiple}
-use Rattle.poly_core.specs.Poly.{IsHomogeneous, lead}
-use Rattle.poly_core.specs.Subalgebra.{Presented, IsPresentation, LeadsIdeal, Rise}
+use Rattle.monomial_order.specs.declared.terms.Term.{Term}
+use Rattle.monomial_order.specs.Monomial.{IsMonomial, Divides, least_common_multiple, IsMultiple, AreCoprime, Exponents}
+use Rattle.monomial_order.specs.laws.Monomial.{least_common_multiple_comm, IsMonomial-least_common_multiple}
+use Rattle.monomial_order.specs.laws.Cofactors.{Divides-least_common_multiple, Divides-least_common_multiple_right}
+use Rattle.monomial_order.specs.laws.Comparing.{increasing_below, increasing_tail, equal_or_not, le_or_not, proper_divisor, not_below_self}
+use Rattle.monomial_order.specs.laws.Lists.{contains_at, contains_left, contains_either}
+use Rattle.polynomials.specs.Polynomial.{Polynomial, IsHomogeneous, lead_monomial}
+use Rattle.polynomials.specs.Subalgebra.{Presented, IsPresentation, LeadsIdeal}
+use Rattle.monomial_order.specs.MonomialOrder.{IsIncreasing, IsMonomialOrder}
 use Rattle.quotient_gb.specs.Combinations.{HasLeadDivisor, HasStandardRepresentation}
-use Rattle.quotient_gb.specs.CriticalPairs.{AreCoprime}
 use Rattle.quotient_gb.specs.Criterion.{HasStandardSPolynomial, HasRepresentationBelow, RepresentsPairs, ReducesGenerators}
 use Rattle.quotient_gb.specs.declared.basis.Basis.{Basis}
 use Rattle.quotient_gb.specs.declared.degree_step.DegreeStep.{DegreeStep}
@@ -23,7 +23,7 @@ use Rattle.quotient_gb.proofs.Bases.{reducer, lead_is}
 use Rattle.quotient_gb.proofs.Complete.{complete_pairs, complete_generators}
 use Rattle.quotient_gb.proofs.Criterion.{IsReducer, criterion}
 use Rattle.quotient_gb.proofs.Pairs.{below_sym, below_self, below_standard, below_coprime}
-use Rattle.quotient_gb.proofs.Places.{at_default, length_map, append_cases, has_divisor, is_multiple, multiple_more, lead_at}
+use Rattle.quotient_gb.proofs.Places.{at_default, has_divisor, is_multiple, multiple_more, lead_at}
 use Rattle.quotient_gb.proofs.Steps.{member, degree, lower_multiple, increasing, minimal}
 
 -- what is symmetric and holds of each member with itself, and at each two places, holds of each two members
@@ -49,31 +49,20 @@ each_two {A} d xs R turned itself some x y hx hy =
     at i j x y lt l ex ey = subst (λ z. R z y) ex (subst (R (get_or xs i d)) ey (some i j lt l))
 
 module _ {E : Type 0} (P : Presented E) where
-  rise_first : (m : List ℕ) (ms : List (List ℕ)) → Rise P (m ∷ ms) → ((a b c : List ℕ) → P.order.compare a b ≡ Less → P.order.compare b c ≡ Less → P.order.compare a c ≡ Less) →
-      (j : ℕ) → j < length ms → P.order.compare m (get_or ms j []) ≡ Less
-  rise_first m [] h t j l = absurd (omega arith)
-  rise_first m (n ∷ ms) h t zero l = h.0
-  rise_first m (n ∷ ms) h t (suc j) l = t m n (get_or ms j []) h.0 (rise_first n ms h.1 t j (omega arith))
-
-  rise_rest : (m : List ℕ) (ms : List (List ℕ)) → Rise P (m ∷ ms) → Rise P ms
-  rise_rest m [] h = tt
-  rise_rest m (n ∷ ms) h = h.1
-
-  -- of two places the later one has the greater lead
-  pub rise_less : (ms : List (List ℕ)) → Rise P ms → ((a b c : List ℕ) → P.order.compare a b ≡ Less → P.order.compare b c ≡ Less → P.order.compare a c ≡ Less) →
-      (i j : ℕ) → i < j → j < length ms → P.order.compare (get_or ms i []) (get_or ms j []) ≡ Less
-  rise_less [] h t i j l k = absurd (omega arith)
-  rise_less (m ∷ ms) h t i zero l k = absurd (omega arith)
-  rise_less (m ∷ ms) h t zero (suc j) l k = rise_first m ms h t j (omega arith)
-  rise_less (m ∷ ms) h t (suc i) (suc j) l k = rise_less ms (rise_rest m ms h) t i j (omega arith) (omega arith)
+  -- of two indices the later one has the greater lead
+  pub increasing_at : IsMonomialOrder P.order → (ms : List Exponents) → IsIncreasing P.order ms → (i j : ℕ) → i < j → j < length ms → P.order.compare (get_or ms i []) (get_or ms j []) ≡ Less
+  increasing_at L [] h i j l k = absurd (omega arith)
+  increasing_at L (m ∷ ms) h i zero l k = absurd (omega arith)
+  increasing_at L (m ∷ ms) h zero (suc j) l k = increasing_below P.order L m ms h (get_or ms j []) (contains_at ms j [] (omega arith))
+  increasing_at L (m ∷ ms) h (suc i) (suc j) l k = increasing_at L ms (increasing_tail P.order m ms h) i j (omega arith) (omega arith)
 
 module _ {F E : Type 0} (P : Presented E) (H : IsPresentation P) (b : Basis F E) (s : DegreeStep F E) (h : IsStepAfter P b s) (generators : ReducesGeneratorsAt P b s)
-    (pairs : (i j : ℕ) → i < j → j < length b.members.items → P.order.degree (least_common_multiple (lead (get_or b.members.items i [])) (lead (get_or b.members.items j []))) ≡ s.degree →
-    AreCoprime (lead (get_or b.members.items i [])) (lead (get_or b.members.items j [])) ⊎ HasStandardSPolynomial P.field P.order (all_members b s) (get_or b.members.items i []) (get_or b.members.items j [])) where
-  abbrev before : List (List (Term E))
+    (pairs : (i j : ℕ) → i < j → j < length b.members.items → P.order.degree (least_common_multiple (lead_monomial (get_or b.members.items i [])) (lead_monomial (get_or b.members.items j []))) ≡ s.degree →
+    AreCoprime (lead_monomial (get_or b.members.items i [])) (lead_monomial (get_or b.members.items j [])) ⊎ HasStandardSPolynomial P.field P.order (all_members b s) (get_or b.members.items i []) (get_or b.members.items j [])) where
+  abbrev before : List (Polynomial E)
   before = b.members.items
 
-  abbrev G : List (List (Term E))
+  abbrev G : List (Polynomial E)
   G = all_members b s
 
   abbrev d : ℕ
@@ -82,16 +71,16 @@ module _ {F E : Type 0} (P : Presented E) (H : IsPresentation P) (b : Basis F E)
   next : d ≡ h.before.0 + 1
   next = h.before.1
 
-  members : (g : List (Term E)) → Contains G g → IsMonicMember P g
+  members : (g : Polynomial E) → Contains G g → IsMonicMember P g
   members = member P H b s h
 
-  part : (x : List (Term E)) → Contains before x → Contains G x
+  part : (x : Polynomial E) → Contains before x → Contains G x
   part x k = contains_left before s.found.members.items x k
 
-  divides_lower : (m : List ℕ) → LeadsIdeal P m → P.order.degree m ≤ h.before.0 → HasLeadDivisor G m
+  divides_lower : (m : Exponents) → LeadsIdeal P m → P.order.degree m ≤ h.before.0 → HasLeadDivisor G m
   divides_lower m k l = has_divisor G m (multiple_more before G m part (lower_multiple P H b s h m k (let e = next in omega arith)))
 
-  reducers : (x : List (Term E)) → Contains G x → IsReducer P.field P.order x
+  reducers : (x : Polynomial E) → Contains G x → IsReducer P.field P.order x
   reducers = reducer P H G members
 
   all_generators : ReducesGenerators P d G
@@ -104,17 +93,17 @@ module _ {F E : Type 0} (P : Presented E) (H : IsPresentation P) (b : Basis F E)
       equal : (e : ℕ) → e ≤ d → (e ≤ h.before.0 → ⊥) → e ≡ d
       equal e l n = let q = next in omega arith
 
-  abbrev Represents : List (Term E) → List (Term E) → Type 0
-  Represents x y = P.order.degree (least_common_multiple (lead x) (lead y)) ≡ d → HasRepresentationBelow P.field P.order G x y
+  abbrev Represents : Polynomial E → Polynomial E → Type 0
+  Represents x y = P.order.degree (least_common_multiple (lead_monomial x) (lead_monomial y)) ≡ d → HasRepresentationBelow P.field P.order G x y
 
-  represents_turned : (x y : List (Term E)) → Represents x y → Represents y x
-  represents_turned x y j e = below_sym P.field H.field P.order H.order G reducers x y (j (ap P.order.degree (least_common_multiple_comm (lead x) (lead y)) ∙ e))
+  represents_turned : (x y : Polynomial E) → Represents x y → Represents y x
+  represents_turned x y j e = below_sym P.field H.field P.order H.order G reducers x y (j (ap P.order.degree (least_common_multiple_comm (lead_monomial x) (lead_monomial y)) ∙ e))
 
-  represents_itself : (x : List (Term E)) → Represents x x
+  represents_itself : (x : Polynomial E) → Represents x x
   represents_itself x e = below_self P.field H.field P.order H.order G reducers x
 
   -- two members of a lower degree
-  represents_before : (x y : List (Term E)) → Contains before x → Contains before y → Represents x y
+  represents_before : (x y : Polynomial E) → Contains before x → Contains before y → Represents x y
   represents_before = each_two [] before Represents represents_turned represents_itself some
     where
       some : (i j : ℕ) → i < j → j < length before → Represents (get_or before i []) (get_or before j [])
@@ -125,13 +114,13 @@ module _ {F E : Type 0} (P : Presented E) (H : IsPresentation P) (b : Basis F E)
           (λ r. below_standard P.field H.field P.order H.order G reducers (get_or before i []) (get_or before j []) hi hj r) (pairs i j lt l e)
 
   -- a member of the degree d meets no other one there
-  represents_new : (i j : ℕ) → i < j → j < length G → (P.order.degree (lead (get_or G i [])) ≡ d) ⊎ (P.order.degree (lead (get_or G j [])) ≡ d) → Represents (get_or G i []) (get_or G j [])
-  represents_new i j lt l new e = absurd (not_below_self P.order H.order (lead x) (subst (λ z. P.order.compare (lead x) z ≡ Less) (sym same) less))
+  represents_new : (i j : ℕ) → i < j → j < length G → (P.order.degree (lead_monomial (get_or G i [])) ≡ d) ⊎ (P.order.degree (lead_monomial (get_or G j [])) ≡ d) → Represents (get_or G i []) (get_or G j [])
+  represents_new i j lt l new e = absurd (not_below_self P.order H.order (lead_monomial x) (subst (λ z. P.order.compare (lead_monomial x) z ≡ Less) (sym same) less))
     where
-      x : List (Term E)
+      x : Polynomial E
       x = get_or G i []
 
-      y : List (Term E)
+      y : Polynomial E
       y = get_or G j []
 
       hx : Contains G x
@@ -140,49 +129,49 @@ module _ {F E : Type 0} (P : Presented E) (H : IsPresentation P) (b : Basis F E)
       hy : Contains G y
       hy = contains_at G j [] l
 
-      mx : IsMonomial P.order.places (lead x)
+      mx : IsMonomial P.order.places (lead_monomial x)
       mx = lead_is P H G members x hx
 
-      my : IsMonomial P.order.places (lead y)
+      my : IsMonomial P.order.places (lead_monomial y)
       my = lead_is P H G members y hy
 
-      top : List ℕ
-      top = least_common_multiple (lead x) (lead y)
+      top : Exponents
+      top = least_common_multiple (lead_monomial x) (lead_monomial y)
 
       mt : IsMonomial P.order.places top
-      mt = IsMonomial-least_common_multiple P.order.places (lead x) (lead y) mx my
+      mt = IsMonomial-least_common_multiple P.order.places (lead_monomial x) (lead_monomial y) mx my
 
-      less : P.order.compare (lead x) (lead y) ≡ Less
-      less = subst (λ z. P.order.compare z (lead y) ≡ Less) (lead_at G i) (subst (λ z. P.order.compare (get_or (map lead G) i []) z ≡ Less) (lead_at G j)
-          (rise_less P (map lead G) (increasing P H b s h) H.order.total.trans i j lt (let q = length_map lead G in omega arith)))
+      less : P.order.compare (lead_monomial x) (lead_monomial y) ≡ Less
+      less = subst (λ z. P.order.compare z (lead_monomial y) ≡ Less) (lead_at G i) (subst (λ z. P.order.compare (get_or (map lead_monomial G) i []) z ≡ Less) (lead_at G j)
+          (increasing_at P H.order (map lead_monomial G) (increasing P H b s h) i j lt (let q = length-map G lead_monomial in omega arith)))
 
       -- a divisor of the degree of a monomial is that monomial
-      whole : (m : List ℕ) → IsMonomial P.order.places m → Divides m top → P.order.degree m ≡ d → m ≡ top
+      whole : (m : Exponents) → IsMonomial P.order.places m → Divides m top → P.order.degree m ≡ d → m ≡ top
       whole m hm dv q = ⊎_elim (λ s. s) (λ ne. absurd (let p = proper_divisor P.order H.order m top mt hm.trimmed dv ne in let lt = p.1 in omega arith)) (equal_or_not m top)
 
-      same : lead x ≡ lead y
+      same : lead_monomial x ≡ lead_monomial y
       same = ⊎_elim
-          (λ q. sym (minimal P H b s h y x hy hx (subst (Divides (lead y)) (sym (whole (lead x) mx (Divides-least_common_multiple (lead x) (lead y)) q)) (Divides-least_common_multiple_right (lead x) (lead y)))))
-          (λ q. minimal P H b s h x y hx hy (subst (Divides (lead x)) (sym (whole (lead y) my (Divides-least_common_multiple_right (lead x) (lead y)) q)) (Divides-least_common_multiple (lead x) (lead y))))
+          (λ q. sym (minimal P H b s h y x hy hx (subst (Divides (lead_monomial y)) (sym (whole (lead_monomial x) mx (Divides-least_common_multiple (lead_monomial x) (lead_monomial y)) q)) (Divides-least_common_multiple_right (lead_monomial x) (lead_monomial y)))))
+          (λ q. minimal P H b s h x y hx hy (subst (Divides (lead_monomial x)) (sym (whole (lead_monomial y) my (Divides-least_common_multiple_right (lead_monomial x) (lead_monomial y)) q)) (Divides-least_common_multiple (lead_monomial x) (lead_monomial y))))
           new
 
   represents_places : (i j : ℕ) → i < j → j < length G → Represents (get_or G i []) (get_or G j [])
   represents_places i j lt l = ⊎_elim
       (λ le. represents_new i j lt l (inl (exact i (omega arith) le)))
       (λ ni. ⊎_elim (λ le. represents_new i j lt l (inr (exact j l le)))
-      (λ nj. represents_before (get_or G i []) (get_or G j []) (older i (omega arith) ni) (older j l nj)) (le_or_not d (P.order.degree (lead (get_or G j [])))))
-      (le_or_not d (P.order.degree (lead (get_or G i []))))
+      (λ nj. represents_before (get_or G i []) (get_or G j []) (older i (omega arith) ni) (older j l nj)) (le_or_not d (P.order.degree (lead_monomial (get_or G j [])))))
+      (le_or_not d (P.order.degree (lead_monomial (get_or G i []))))
     where
-      exact : (k : ℕ) → k < length G → d ≤ P.order.degree (lead (get_or G k [])) → P.order.degree (lead (get_or G k [])) ≡ d
+      exact : (k : ℕ) → k < length G → d ≤ P.order.degree (lead_monomial (get_or G k [])) → P.order.degree (lead_monomial (get_or G k [])) ≡ d
       exact k l le = let q = degree P H b s h (get_or G k []) (contains_at G k [] l) in omega arith
 
-      older : (k : ℕ) → k < length G → (d ≤ P.order.degree (lead (get_or G k [])) → ⊥) → Contains before (get_or G k [])
-      older k l n = ⊎_elim (λ i. i) (λ i. absurd (n (let q = h.degrees (get_or G k []) i in omega arith))) (append_cases before s.found.members.items (get_or G k []) (contains_at G k [] l))
+      older : (k : ℕ) → k < length G → (d ≤ P.order.degree (lead_monomial (get_or G k [])) → ⊥) → Contains before (get_or G k [])
+      older k l n = ⊎_elim (λ i. i) (λ i. absurd (n (let q = h.degrees (get_or G k []) i in omega arith))) (contains_either before s.found.members.items (get_or G k []) (contains_at G k [] l))
 
   all_pairs : RepresentsPairs P d G
   all_pairs x y hx hy l = ⊎_elim (λ le. complete_pairs P H G members h.before.0 divides_lower x y hx hy le)
-      (λ n. each_two [] G Represents represents_turned represents_itself represents_places x y hx hy (equal (P.order.degree (least_common_multiple (lead x) (lead y))) l n))
-      (le_or_not (P.order.degree (least_common_multiple (lead x) (lead y))) h.before.0)
+      (λ n. each_two [] G Represents represents_turned represents_itself represents_places x y hx hy (equal (P.order.degree (least_common_multiple (lead_monomial x) (lead_monomial y))) l n))
+      (le_or_not (P.order.degree (least_common_multiple (lead_monomial x) (lead_monomial y))) h.before.0)
     where
       equal : (e : ℕ) → e ≤ d → (e ≤ h.before.0 → ⊥) → e ≡ d
       equal e l n = let q = next in omega arith

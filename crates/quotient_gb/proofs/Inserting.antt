@@ -1,10 +1,12 @@
 -- A list with a member inserted at an index, or with a member replaced.
 use Rattle.std.proofs.Common.{◌≡◌, ℕ, zero, suc, ◌<◌, ◌≤◌, refl, sym, ◌∙◌, ap, subst, List, [], ◌∷◌, ◌++◌, length, arith, ◌⊎◌, inl, inr, ⊎_elim, get_or, slice_set}
+use Rattle.monomial_order.specs.Monomial.{Exponents}
 use Rattle.std.specs.Prelude.{Contains, map}
 use Rattle.std.specs.List.{insert}
 use Rattle.std.specs.declared.cmp.Ordering.TheVariants.{Less}
-use Rattle.monomial_order.specs.Lists.{contains_here, contains_there, contains_none, contains_cases}
-use Rattle.poly_core.specs.Subalgebra.{Presented, Rise}
+use Rattle.monomial_order.specs.laws.Lists.{contains_here, contains_there, contains_none, contains_cases}
+use Rattle.polynomials.specs.Subalgebra.{Presented}
+use Rattle.monomial_order.specs.MonomialOrder.{IsIncreasing}
 
 module _ {A : Type 0} where
   pub insert_here : (xs : List A) (k : ℕ) (x : A) → Contains (insert xs k x) x
@@ -59,8 +61,8 @@ map_set f (y ∷ xs) (suc i) x d l e = ap (λ ys. f y ∷ ys) (map_set f xs i x 
 
 module _ {E : Type 0} (P : Presented E) where
   -- a rising list with a member put between the smaller and the greater ones
-  pub rise_insert : (ms : List (List ℕ)) (k : ℕ) (m : List ℕ) → Rise P ms → k ≤ length ms →
-      ((i : ℕ) → i < k → P.order.compare (get_or ms i []) m ≡ Less) → (k < length ms → P.order.compare m (get_or ms k []) ≡ Less) → Rise P (insert ms k m)
+  pub rise_insert : (ms : List Exponents) (k : ℕ) (m : Exponents) → IsIncreasing P.order ms → k ≤ length ms →
+      ((i : ℕ) → i < k → P.order.compare (get_or ms i []) m ≡ Less) → (k < length ms → P.order.compare m (get_or ms k []) ≡ Less) → IsIncreasing P.order (insert ms k m)
   rise_insert [] zero m h l before after = tt
   rise_insert (n ∷ ms) zero m h l before after = (after (omega arith), h)
   rise_insert [] (suc k) m h l before after = tt
@@ -71,7 +73,7 @@ module _ {E : Type 0} (P : Presented E) where
       (h.0, rise_insert (n' ∷ ms) (suc k) m h.1 (omega arith) (λ i q. before (suc i) (omega arith)) (λ q. after (omega arith)))
 
   -- increasing lists of which the one is below the other
-  pub rise_append : (ms ns : List (List ℕ)) → Rise P ms → Rise P ns → ((m n : List ℕ) → Contains ms m → Contains ns n → P.order.compare m n ≡ Less) → Rise P (ms ++ ns)
+  pub rise_append : (ms ns : List Exponents) → IsIncreasing P.order ms → IsIncreasing P.order ns → ((m n : Exponents) → Contains ms m → Contains ns n → P.order.compare m n ≡ Less) → IsIncreasing P.order (ms ++ ns)
   rise_append [] ns h k b = k
   rise_append (m ∷ []) [] h k b = tt
   rise_append (m ∷ []) (n ∷ ns) h k b = (b m n (contains_here m []) (contains_here n ns), k)

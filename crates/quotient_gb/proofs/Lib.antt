@@ -1,4 +1,3 @@
-pub mod Basics
 pub mod Places
 pub mod Multiples
 pub mod Combinations

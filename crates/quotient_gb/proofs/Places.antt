@@ -1,13 +1,13 @@
 -- Members of lists by their indices.
 use Rattle.std.proofs.Common.{◌≡◌, ◌≢◌, ℕ, zero, suc, ◌<◌, ◌≤◌, refl, sym, ◌∙◌, ap, subst, List, [], ◌∷◌, ◌++◌, ◌⊎◌, inl, inr, ⊎_elim, length, arith, get_or, Bool, true, false}
+use Rattle.std.proofs.lemmas.List.{length-map}
 use Rattle.std.proofs.lemmas.Bool.{eqb-true, eq-eqb, true≢false}
 use Rattle.std.specs.Prelude.{Contains, map, nat_eq}
-use Rattle.monomial_order.specs.declared.Term.{Term}
-use Rattle.monomial_order.specs.Monomial.{Divides}
-use Rattle.monomial_order.specs.Lists.{contains_here, contains_there, contains_cases, contains_map}
-use Rattle.monomial_order.specs.ReducibleLaws.{IsMultiple}
-use Rattle.poly_core.specs.Poly.{lead}
-use Rattle.poly_core.specs.ReducedBasisLaws.{map_contains}
+use Rattle.monomial_order.specs.declared.terms.Term.{Term}
+use Rattle.monomial_order.specs.Monomial.{Divides, IsMultiple, Exponents}
+use Rattle.monomial_order.specs.laws.Lists.{contains_either, contains_here, contains_there, contains_cases, contains_map}
+use Rattle.polynomials.specs.Polynomial.{Polynomial, lead_monomial}
+use Rattle.polynomials.specs.laws.ReducedBasis.{map_contains}
 use Rattle.quotient_gb.specs.Combinations.{HasLeadDivisor}
 use Rattle.quotient_gb.specs.DegreeStep.{IsPart}
 
@@ -23,11 +23,6 @@ at_default [] i x d l e = absurd (omega arith)
 at_default (y ∷ xs) zero x d l e = e
 at_default (y ∷ xs) (suc i) x d l e = at_default xs i x d (omega arith) e
 
-pub append_cases : {A : Type 0} (xs ys : List A) (x : A) → Contains (xs ++ ys) x → Contains xs x ⊎ Contains ys x
-append_cases [] ys x h = inr h
-append_cases (y ∷ xs) ys x h = ⊎_elim (λ e. inl (subst (Contains (y ∷ xs)) e (contains_here y xs)))
-    (λ k. ⊎_elim (λ i. inl (contains_there y xs x i)) (λ i. inr i) (append_cases xs ys x k)) (contains_cases y (xs ++ ys) x h)
-
 pub append_at : {A : Type 0} (xs ys : List A) (i : ℕ) (d : A) → i < length xs → get_or (xs ++ ys) i d ≡ get_or xs i d
 append_at [] ys i d l = absurd (omega arith)
 append_at (x ∷ xs) ys zero d l = refl
@@ -36,10 +31,6 @@ append_at (x ∷ xs) ys (suc i) d l = append_at xs ys i d (omega arith)
 pub map_append : {A B : Type 0} (f : A → B) (xs ys : List A) → map f (xs ++ ys) ≡ map f xs ++ map f ys
 map_append f [] ys = refl
 map_append f (x ∷ xs) ys = ap (λ zs. f x ∷ zs) (map_append f xs ys)
-
-pub length_map : {A B : Type 0} (f : A → B) (xs : List A) → length (map f xs) ≡ length xs
-length_map f [] = refl
-length_map f (x ∷ xs) = let e = length_map f xs in omega arith
 
 no_length : {A : Type 0} (xs : List A) → length xs ≡ 0 → xs ≡ []
 no_length [] e = refl
@@ -57,26 +48,26 @@ some_first xs x ys e n = let a = ap length e in let b = ap length n in omega ari
 
 module _ {E : Type 0} where
   -- the lead at an index
-  pub lead_at : (G : List (List (Term E))) (i : ℕ) → get_or (map lead G) i [] ≡ lead (get_or G i [])
+  pub lead_at : (G : List (Polynomial E)) (i : ℕ) → get_or (map lead_monomial G) i [] ≡ lead_monomial (get_or G i [])
   lead_at [] i = refl
   lead_at (g ∷ G) zero = refl
   lead_at (g ∷ G) (suc i) = lead_at G i
 
   -- a multiple of a lead has a member as divisor
-  pub has_divisor : (G : List (List (Term E))) (m : List ℕ) → IsMultiple (map lead G) m → HasLeadDivisor G m
-  has_divisor G m h = let r = map_contains lead G h.0 h.1 in (r.0, r.1, subst (λ n. Divides n m) (sym r.2) h.2)
+  pub has_divisor : (G : List (Polynomial E)) (m : Exponents) → IsMultiple (map lead_monomial G) m → HasLeadDivisor G m
+  has_divisor G m h = let r = map_contains lead_monomial G h.0 h.1 in (r.0, r.1, subst (λ n. Divides n m) (sym r.2) h.2)
 
-  pub is_multiple : (G : List (List (Term E))) (m : List ℕ) → HasLeadDivisor G m → IsMultiple (map lead G) m
-  is_multiple G m (g, k, d) = (lead g, contains_map lead G g k, d)
+  pub is_multiple : (G : List (Polynomial E)) (m : Exponents) → HasLeadDivisor G m → IsMultiple (map lead_monomial G) m
+  is_multiple G m (g, k, d) = (lead_monomial g, contains_map lead_monomial G g k, d)
 
-  pub multiple_more : (G G' : List (List (Term E))) (m : List ℕ) → IsPart G G' → IsMultiple (map lead G) m → IsMultiple (map lead G') m
+  pub multiple_more : (G G' : List (Polynomial E)) (m : Exponents) → IsPart G G' → IsMultiple (map lead_monomial G) m → IsMultiple (map lead_monomial G') m
   multiple_more G G' m part h = let r = has_divisor G m h in is_multiple G' m (r.0, part r.0 r.1, r.2)
 
   -- if no lead divides m, no member has a lead that divides m
-  pub no_divisor : (G : List (List (Term E))) (ls : List (List ℕ)) (m : List ℕ) → ls ≡ map lead G → ((k : ℕ) → k < length ls → Divides (get_or ls k []) m → ⊥) → HasLeadDivisor G m → ⊥
+  pub no_divisor : (G : List (Polynomial E)) (ls : List Exponents) (m : Exponents) → ls ≡ map lead_monomial G → ((k : ℕ) → k < length ls → Divides (get_or ls k []) m → ⊥) → HasLeadDivisor G m → ⊥
   no_divisor G ls m e h (g, (k, l, at), d) =
-      h k (let a : length ls ≡ length (map lead G) = ap length e in let b = length_map lead G in omega arith)
-      (subst (λ y. Divides y m) (sym (ap (λ zs. get_or zs k []) e ∙ (lead_at G k ∙ ap lead (at_default G k g [] l at)))) d)
+      h k (let a : length ls ≡ length (map lead_monomial G) = ap length e in let b = length-map G lead_monomial in omega arith)
+      (subst (λ y. Divides y m) (sym (ap (λ zs. get_or zs k []) e ∙ (lead_at G k ∙ ap lead_monomial (at_default G k g [] l at)))) d)
 
-  pub no_divisor_append : (G G' : List (List (Term E))) (m : List ℕ) → (HasLeadDivisor G m → ⊥) → (HasLeadDivisor G' m → ⊥) → HasLeadDivisor (G ++ G') m → ⊥
-  no_divisor_append G G' m h k (g, i, d) = ⊎_elim (λ j. h (g, j, d)) (λ j. k (g, j, d)) (append_cases G G' g i)
+  pub no_divisor_append : (G G' : List (Polynomial E)) (m : Exponents) → (HasLeadDivisor G m → ⊥) → (HasLeadDivisor G' m → ⊥) → HasLeadDivisor (G ++ G') m → ⊥
+  no_divisor_append G G' m h k (g, i, d) = ⊎_elim (λ j. h (g, j, d)) (λ j. k (g, j, d)) (contains_either G G' g i)

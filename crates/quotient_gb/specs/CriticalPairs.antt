@@ -1,14 +1,10 @@
 -- Critical pairs: two leads, at the degree of their least common multiple.
 use Rattle.std.specs.Prelude.{◌≡◌, ℕ, ◌≤◌, ◌<◌, ◌⊎◌, List, [], length, slice_index_or, Contains}
-use Rattle.monomial_order.specs.Monomial.{exponent, least_common_multiple}
+use Rattle.monomial_order.specs.Monomial.{AreCoprime, least_common_multiple, Exponents}
 use Rattle.monomial_order.specs.MonomialOrder.{MonomialOrder}
 use Rattle.quotient_gb.specs.declared.critical_pair.CriticalPair.{CriticalPair}
 
--- no place has a nonzero exponent in both
-abbrev pub AreCoprime : List ℕ → List ℕ → Type 0
-AreCoprime m n = (i : ℕ) → (exponent m i ≡ 0) ⊎ (exponent n i ≡ 0)
-
-module _ (O : MonomialOrder) (ms : List (List ℕ)) where
+module _ (O : MonomialOrder) (ms : List Exponents) where
   -- the degree of the least common multiple of the leads at two indices
   abbrev pub pair_degree : ℕ → ℕ → ℕ
   pair_degree i j = O.degree (least_common_multiple (slice_index_or ms i []) (slice_index_or ms j []))

@@ -1,9 +1,9 @@
 -- What a quotient knows of the ideal of a presentation.
 use Rattle.std.specs.Prelude.{◌≡◌, ℕ, ◌≤◌, ◌++◌, List, Bool, true, map}
-use Rattle.monomial_order.specs.declared.Term.{Term}
-use Rattle.monomial_order.specs.ReducibleLaws.{IsMultiple}
-use Rattle.poly_core.specs.Poly.{lead}
-use Rattle.poly_core.specs.Subalgebra.{Presented, LeadsIdeal}
+use Rattle.monomial_order.specs.declared.terms.Term.{Term}
+use Rattle.monomial_order.specs.Monomial.{IsMultiple, Exponents}
+use Rattle.polynomials.specs.Polynomial.{Polynomial, lead_monomial}
+use Rattle.polynomials.specs.Subalgebra.{Presented, LeadsIdeal}
 use Rattle.quotient_gb.specs.declared.critical_pair.CriticalPair.{CriticalPair}
 use Rattle.quotient_gb.specs.IdealBasis.{IsIdealBasis}
 use Rattle.quotient_gb.specs.CriticalPairs.{HasPairsAbove}
@@ -12,8 +12,8 @@ use Rattle.quotient_gb.specs.CriticalPairs.{HasPairsAbove}
 -- and whether the leads are known to divide each lead of the ideal.
 pub record QuotientState (E : Type 0) : Type 0 where
   pub degree : ℕ
-  pub leads : List (List ℕ)
-  pub members : List (List (Term E))
+  pub leads : List Exponents
+  pub members : List (Polynomial E)
   pub pairs : List CriticalPair
   pub closed : Bool
 
@@ -21,9 +21,9 @@ pub record QuotientState (E : Type 0) : Type 0 where
 pub record IsQuotientOf {E : Type 0} (P : Presented E) (q : QuotientState E) : Type 0 where
   pub small : q.degree ≤ 30000
   pub basis : IsIdealBasis P q.degree q.members
-  pub leads : q.leads ≡ map lead q.members
+  pub leads : q.leads ≡ map lead_monomial q.members
   pub pairs : HasPairsAbove P.order q.leads q.degree q.pairs
-  pub closed : q.closed ≡ true → (m : List ℕ) → LeadsIdeal P m → IsMultiple q.leads m
+  pub closed : q.closed ≡ true → (m : Exponents) → LeadsIdeal P m → IsMultiple q.leads m
 
 -- the second list begins with the first
 abbrev pub Begins : {A : Type 0} → List A → List A → Type 0

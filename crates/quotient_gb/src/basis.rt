@@ -1,13 +1,13 @@
 //! Monic members of the ideal, each with its lead.
 ghost use Rattle.std.specs.Prelude.{◌≡◌, ◌<◌, ℕ, ◌≤◌, List, [], length, Contains, IfSome, IsNone, slice_index_or};
 ghost use Rattle.std.specs.declared.cmp.Ordering.TheVariants.{Less};
-ghost use Rattle.monomial_order.specs.Monomial.{IsMonomial, Divides};
-ghost use Rattle.poly_core.specs.Poly.{lead};
+ghost use Rattle.monomial_order.specs.Monomial.{IsMonomial, Divides, Exponents};
+ghost use Rattle.polynomials.specs.Polynomial.{lead_monomial};
 ghost use Rattle.quotient_gb.specs.Combinations.{HasLeadDivisor};
 ghost use Rattle.quotient_gb.specs.DegreeStep.{HasLeads};
 
 use monomial_order::{Monomial, Order};
-use poly_core::poly::Poly;
+use poly_core::Poly;
 use std::alloc::Global;
 use word_field::Field;
 
@@ -34,7 +34,7 @@ impl<F: Field> Basis<F> {
     pub(crate) fn reducer(&self, m: &Monomial) -> Option<&Poly<F>>
         requires { HasLeads self.now }
         ensures member { IfSome result (λ g. Contains self.now.members.items g.now) }
-        ensures divides { IfSome result (λ g. Divides (lead g.now) m.now) }
+        ensures divides { IfSome result (λ g. Divides (lead_monomial g.now) m.now) }
         ensures none { IsNone result → ¬ HasLeadDivisor self.now.members.items m.now }
     {
         'search: for i in 0..self.leads.as_slice().len() {
@@ -48,8 +48,8 @@ impl<F: Field> Basis<F> {
 
 /// The index of the first lead that is greater than m, and the number of leads if there is none.
 pub(crate) fn insertion_index<O: Order>(o: &O, leads: &[Monomial], m: &Monomial) -> usize
-    requires leads { (n : List ℕ) → Contains leads.now n → IsMonomial (O.order o.now).places n }
-    requires small { (n : List ℕ) → Contains leads.now n → (O.order o.now).degree n ≤ 65535 }
+    requires leads { (n : Exponents) → Contains leads.now n → IsMonomial (O.order o.now).places n }
+    requires small { (n : Exponents) → Contains leads.now n → (O.order o.now).degree n ≤ 65535 }
     requires monomial { IsMonomial (O.order o.now).places m.now }
     requires degree { (O.order o.now).degree m.now ≤ 65535 }
     ensures within { result ≤ length leads.now }

@@ -1,7 +1,7 @@
 //! Critical pairs: two leads of a basis, at the degree of their least common multiple.
 ghost use Rattle.std.specs.Prelude.{◌≡◌, ℕ, ◌+◌, ◌≤◌, ◌<◌, List, [], true, length, filter, nat_lt, IfOk, OnOk, IfSome, IsNone, Contains, slice_index_or};
-ghost use Rattle.monomial_order.specs.Monomial.{IsMonomial};
-ghost use Rattle.quotient_gb.specs.CriticalPairs.{AreCoprime, HasPairs, pair_at};
+ghost use Rattle.monomial_order.specs.Monomial.{IsMonomial, AreCoprime, Exponents};
+ghost use Rattle.quotient_gb.specs.CriticalPairs.{HasPairs, pair_at};
 
 use monomial_order::{Memory, Monomial, Order};
 use std::alloc::Global;
@@ -36,8 +36,8 @@ fn critical_pair<O: Order>(
 ) -> Result<Option<CriticalPair>, Memory>
     requires first { first < length leads.now }
     requires second { second < length leads.now }
-    requires leads { (n : List ℕ) → Contains leads.now n → IsMonomial (O.order o.now).places n }
-    requires small { (n : List ℕ) → Contains leads.now n → (O.order o.now).degree n ≤ 30000 }
+    requires leads { (n : Exponents) → Contains leads.now n → IsMonomial (O.order o.now).places n }
+    requires small { (n : Exponents) → Contains leads.now n → (O.order o.now).degree n ≤ 30000 }
     ensures coprime { IfOk result (λ r. IsNone r →
         AreCoprime (slice_index_or leads.now first []) (slice_index_or leads.now second [])) }
     ensures pair { IfOk result (λ r. IfSome r (λ w. w ≡ pair_at (O.order o.now) leads.now first second)) }
@@ -64,8 +64,8 @@ fn push_pairs<O: Order>(
     pairs: &mut Vec<CriticalPair>,
 ) -> Result<(), Memory>
     requires second { second < length leads.now }
-    requires leads { (n : List ℕ) → Contains leads.now n → IsMonomial (O.order o.now).places n }
-    requires small { (n : List ℕ) → Contains leads.now n → (O.order o.now).degree n ≤ 30000 }
+    requires leads { (n : Exponents) → Contains leads.now n → IsMonomial (O.order o.now).places n }
+    requires small { (n : Exponents) → Contains leads.now n → (O.order o.now).degree n ≤ 30000 }
     ensures { OnOk result ((start : ℕ) → HasPairs (O.order o.now) leads.now start second pairs.old.items →
         HasPairs (O.order o.now) leads.now start (second + 1) pairs.new.items) }
 {
@@ -84,8 +84,8 @@ pub(crate) fn critical_pairs<O: Order>(
     leads: &[Monomial],
     start: usize,
 ) -> Result<Vec<CriticalPair>, Memory>
-    requires leads { (n : List ℕ) → Contains leads.now n → IsMonomial (O.order o.now).places n }
-    requires small { (n : List ℕ) → Contains leads.now n → (O.order o.now).degree n ≤ 30000 }
+    requires leads { (n : Exponents) → Contains leads.now n → IsMonomial (O.order o.now).places n }
+    requires small { (n : Exponents) → Contains leads.now n → (O.order o.now).degree n ≤ 30000 }
     ensures { IfOk result (λ v. HasPairs (O.order o.now) leads.now start (length leads.now) v.items) }
 {
     let mut pairs = Vec::new(alloc);

@@ -1,11 +1,11 @@
 //! The step to the next degree: its new members are made aside, before the basis changes.
 ghost use Rattle.std.specs.Prelude.{◌≡◌, ◌≢◌, ℕ, ◌+◌, ◌≤◌, ◌<◌, ◌⊎◌, ◌++◌, List, [], false, true, length, map, OnOk, IfOk, Contains, slice_index_or};
-ghost use Rattle.monomial_order.specs.declared.Term.{Term};
-ghost use Rattle.monomial_order.specs.ReducibleLaws.{IsMultiple};
-ghost use Rattle.poly_core.specs.Poly.{IsKept, IsHomogeneous, degree_of, lead};
-ghost use Rattle.poly_core.specs.Ideal.{InIdeal};
-ghost use Rattle.poly_core.specs.Presentation.{presented, AreKeptGenerators};
-ghost use Rattle.poly_core.specs.Subalgebra.{IsPresentation};
+ghost use Rattle.monomial_order.specs.declared.terms.Term.{Term};
+ghost use Rattle.monomial_order.specs.Monomial.{IsMultiple};
+ghost use Rattle.polynomials.specs.Polynomial.{IsCanonical, IsHomogeneous, degree_of, lead_monomial};
+ghost use Rattle.polynomials.specs.Ideal.{InIdeal};
+ghost use Rattle.poly_core.specs.Presentation.{presented, AreCanonicalGenerators};
+ghost use Rattle.polynomials.specs.Subalgebra.{IsPresentation};
 ghost use Rattle.quotient_gb.specs.Combinations.{HasStandardRepresentation};
 ghost use Rattle.quotient_gb.specs.CriticalPairs.{HasPairsAbove, IsCriticalPair};
 ghost use Rattle.quotient_gb.specs.DegreeStep.{all_members, IsBasisTo, IsStepAfter, IsLaterStep, IsFinishedStep, ReducesGeneratorsAt, ReducesPair, DividesLeads, HasReducedTail, HasTails};
@@ -18,8 +18,8 @@ use crate::critical_pair::CriticalPair;
 use crate::remainder::remainder;
 use crate::s_polynomial::s_polynomial;
 use monomial_order::{Memory, Order};
-use poly_core::poly::Poly;
-use poly_core::presentation::Presentation;
+use poly_core::Poly;
+use poly_core::Presentation;
 use std::alloc::Global;
 use word_field::Field;
 
@@ -32,7 +32,7 @@ pub(crate) struct DegreeStep<F: Field> {
 
 /// Whether the polynomial is not zero and its lead has the degree d.
 fn has_degree<F: Field, O: Order>(o: &O, a: &Poly<F>, d: u32) -> bool
-    requires { (f : F) × IsKept (F.ops f) (O.order o.now) a.now }
+    requires { (f : F) × IsCanonical (F.ops f) (O.order o.now) a.now }
     ensures yes { result ≡ true → degree_of (O.order o.now) a.now ≡ d }
     ensures no { result ≡ false → (a.now ≡ []) ⊎ (degree_of (O.order o.now) a.now ≢ d) }
 {
@@ -52,7 +52,7 @@ impl<F: Field> DegreeStep<F> {
         degree: u32,
     ) -> Result<DegreeStep<F>, Memory>
         requires presentation { IsPresentation (presented F.ops O.order p.now) }
-        requires ideal { AreKeptGenerators (F.ops p.now.field) (O.order p.now.order) p.now.ideal.items }
+        requires ideal { AreCanonicalGenerators (F.ops p.now.field) (O.order p.now.order) p.now.ideal.items }
         requires small { degree ≤ 30000 }
         requires before { (c : ℕ) × (degree ≡ c + 1) × IsBasisTo (presented F.ops O.order p.now) c before.now ×
             HasPairsAbove (O.order p.now.order) before.now.leads.items c pairs.now }
@@ -80,8 +80,8 @@ impl<F: Field> DegreeStep<F> {
         requires presentation { IsPresentation (presented F.ops O.order p.now) }
         requires step { IsStepAfter (presented F.ops O.order p.now) before.now self.old }
         requires member { IsMonicMember (presented F.ops O.order p.now) member }
-        requires at_most { (O.order p.now.order).degree (lead member) ≤ self.old.degree }
-        requires fresh { ¬ IsMultiple (map lead (all_members before.now self.old)) (lead member) }
+        requires at_most { (O.order p.now.order).degree (lead_monomial member) ≤ self.old.degree }
+        requires fresh { ¬ IsMultiple (map lead_monomial (all_members before.now self.old)) (lead_monomial member) }
         ensures later { OnOk result (IsLaterStep (presented F.ops O.order p.now) before.now self.old self.new) }
         ensures member { OnOk result (Contains self.new.found.members.items member) }
     {
@@ -129,7 +129,7 @@ impl<F: Field> DegreeStep<F> {
         before: &Basis<F>,
     ) -> Result<(), Memory>
         requires presentation { IsPresentation (presented F.ops O.order p.now) }
-        requires ideal { AreKeptGenerators (F.ops p.now.field) (O.order p.now.order) p.now.ideal.items }
+        requires ideal { AreCanonicalGenerators (F.ops p.now.field) (O.order p.now.order) p.now.ideal.items }
         requires step { IsStepAfter (presented F.ops O.order p.now) before.now self.old }
         ensures later { OnOk result (IsLaterStep (presented F.ops O.order p.now) before.now self.old self.new) }
         ensures reduces { OnOk result (ReducesGeneratorsAt (presented F.ops O.order p.now) before.now self.new) }
@@ -203,9 +203,10 @@ impl<F: Field> DegreeStep<F> {
         requires step { IsStepAfter (presented F.ops O.order p.now) before.now self.now }
         requires index { at < length self.now.found.members.items }
         ensures member { IfOk result (IsMonicMember (presented F.ops O.order p.now)) }
-        ensures lead { IfOk result (λ r. lead r ≡ lead (slice_index_or self.now.found.members.items at [])) }
+        ensures lead { IfOk result (λ r.
+            lead_monomial r ≡ lead_monomial (slice_index_or self.now.found.members.items at [])) }
         ensures tail { IfOk result (HasReducedTail (presented F.ops O.order p.now)
-            (map lead (all_members before.now self.now))) }
+            (map lead_monomial (all_members before.now self.now))) }
     {
         let x = &self.found.members[at];
         let Some(first) = x.lead() else {

@@ -1,10 +1,10 @@
 //! The ideal of a presentation to a degree.
 ghost use Rattle.std.specs.Prelude.{◌≡◌, ℕ, ◌≤◌, ◌<◌, ◌+◌, ◌↔◌, List, max, true, false, IsTrue, IfOk, OnOk, OnErr, Contains};
-ghost use Rattle.monomial_order.specs.Monomial.{IsMonomial};
-ghost use Rattle.monomial_order.specs.ReducibleLaws.{IsMultiple};
-ghost use Rattle.poly_core.specs.Poly.{degree_of};
-ghost use Rattle.poly_core.specs.Presentation.{presented, AreKeptGenerators};
-ghost use Rattle.poly_core.specs.Subalgebra.{Presented, IsPresentation, LeadsIdeal, IsStandard, IsNormalForm, Rise};
+ghost use Rattle.monomial_order.specs.Monomial.{IsMonomial, IsMultiple, Exponents};
+ghost use Rattle.polynomials.specs.Polynomial.{degree_of};
+ghost use Rattle.poly_core.specs.Presentation.{presented, AreCanonicalGenerators};
+ghost use Rattle.polynomials.specs.Subalgebra.{Presented, IsPresentation, LeadsIdeal, IsStandard, IsNormalForm};
+ghost use Rattle.monomial_order.specs.MonomialOrder.{IsIncreasing};
 ghost use Rattle.quotient_gb.specs.IdealBasis.{IsMinimalLead};
 ghost use Rattle.quotient_gb.specs.Quotient.{IsQuotientOf, IsExtension};
 ghost use Rattle.quotient_gb.specs.Remainder.{IsCanonicalIn};
@@ -14,8 +14,8 @@ use crate::critical_pair::{CriticalPair, critical_pairs, retain_above};
 use crate::degree_step::DegreeStep;
 use crate::remainder::remainder;
 use monomial_order::{Memory, Monomial, Order};
-use poly_core::poly::Poly;
-use poly_core::presentation::Presentation;
+use poly_core::Poly;
+use poly_core::Presentation;
 use std::alloc::Global;
 use std::marker::{Model, PhantomData};
 use word_field::Field;
@@ -67,7 +67,7 @@ impl<F: Field, O: Order> Quotient<F, O> {
     /// Goes on to the degree c, one degree after the other.
     pub fn extend_to(&mut self, alloc: Global, p: &Presentation<F, O>, c: u32) -> Result<(), Memory>
         requires presentation { IsPresentation (presented F.ops O.order p.now) }
-        requires ideal { AreKeptGenerators (F.ops p.now.field) (O.order p.now.order) p.now.ideal.items }
+        requires ideal { AreCanonicalGenerators (F.ops p.now.field) (O.order p.now.order) p.now.ideal.items }
         requires quotient { IsQuotientOf (presented F.ops O.order p.now) self.old }
         requires small { c ≤ 30000 }
         ensures quotient { IsQuotientOf (presented F.ops O.order p.now) self.new }
@@ -96,7 +96,7 @@ impl<F: Field, O: Order> Quotient<F, O> {
     /// Adds the members of each degree up to c at the end.
     fn add_degrees(&mut self, alloc: Global, p: &Presentation<F, O>, c: u32) -> Result<(), Memory>
         requires presentation { IsPresentation (presented F.ops O.order p.now) }
-        requires ideal { AreKeptGenerators (F.ops p.now.field) (O.order p.now.order) p.now.ideal.items }
+        requires ideal { AreCanonicalGenerators (F.ops p.now.field) (O.order p.now.order) p.now.ideal.items }
         requires quotient { IsQuotientOf (presented F.ops O.order p.now) self.old }
         requires small { c ≤ 30000 }
         ensures extension { IsExtension self.old self.new }
@@ -112,7 +112,7 @@ impl<F: Field, O: Order> Quotient<F, O> {
     /// Adds the members of the next degree at the end.
     fn add_degree(&mut self, alloc: Global, p: &Presentation<F, O>) -> Result<(), Memory>
         requires presentation { IsPresentation (presented F.ops O.order p.now) }
-        requires ideal { AreKeptGenerators (F.ops p.now.field) (O.order p.now.order) p.now.ideal.items }
+        requires ideal { AreCanonicalGenerators (F.ops p.now.field) (O.order p.now.order) p.now.ideal.items }
         requires quotient { IsQuotientOf (presented F.ops O.order p.now) self.old }
         requires small { self.old.degree < 30000 }
         ensures extension { IsExtension self.old self.new }
@@ -133,11 +133,12 @@ impl<F: Field, O: Order> Quotient<F, O> {
     /// The minimal leads of the ideal of degree at most that of the quotient, in increasing order.
     pub fn leads(&self) -> &[Monomial]
         ensures value { result.now ≡ self.now.leads }
-        ensures increasing { (P : Presented F.Elem) → IsPresentation P → IsQuotientOf P self.now → Rise P result.now }
+        ensures increasing { (P : Presented F.Elem) → IsPresentation P → IsQuotientOf P self.now →
+            IsIncreasing P.order result.now }
         ensures each { (P : Presented F.Elem) → IsPresentation P → IsQuotientOf P self.now →
-            (m : List ℕ) → Contains result.now m → IsMinimalLead P m × (P.order.degree m ≤ self.now.degree) }
+            (m : Exponents) → Contains result.now m → IsMinimalLead P m × (P.order.degree m ≤ self.now.degree) }
         ensures all { (P : Presented F.Elem) → IsPresentation P → IsQuotientOf P self.now →
-            (m : List ℕ) → IsMinimalLead P m → P.order.degree m ≤ self.now.degree → Contains result.now m }
+            (m : Exponents) → IsMinimalLead P m → P.order.degree m ≤ self.now.degree → Contains result.now m }
     {
         self.basis.leads.as_slice()
     }
@@ -176,12 +177,12 @@ impl<F: Field, O: Order> Quotient<F, O> {
         true
     }
 
-    /// Whether all leads of the ideal are known to be multiples of `leads`. Nothing finds that out so far, so the answer is
-    /// always false.
+    /// Whether all leads of the ideal are known to be multiples of `leads`. Nothing finds that out so far, so the answer
+    /// is always false.
     pub fn known_closed(&self) -> bool
         ensures state { IsTrue result ↔ IsTrue self.now.closed }
         ensures closed { result ≡ true → (P : Presented F.Elem) → IsPresentation P → IsQuotientOf P self.now →
-            (m : List ℕ) → LeadsIdeal P m → IsMultiple self.now.leads m }
+            (m : Exponents) → LeadsIdeal P m → IsMultiple self.now.leads m }
         ensures never_so_far { result ≡ false }
     {
         self.closed

@@ -1,17 +1,17 @@
 //! Reduction of a polynomial by monic members of the ideal.
 ghost use Rattle.std.specs.Prelude.{◌≡◌, ◌≢◌, ◌++◌, [], Contains, IfOk, IfSome, IsNone};
 ghost use Rattle.monomial_order.specs.Monomial.{Divides};
-ghost use Rattle.poly_core.specs.Poly.{lead};
+ghost use Rattle.polynomials.specs.Polynomial.{lead_monomial};
 ghost use Rattle.poly_core.specs.Presentation.{presented};
-ghost use Rattle.poly_core.specs.Subalgebra.{IsPresentation};
+ghost use Rattle.polynomials.specs.Subalgebra.{IsPresentation};
 ghost use Rattle.quotient_gb.specs.Combinations.{HasLeadDivisor};
 ghost use Rattle.quotient_gb.specs.DegreeStep.{HasLeads};
 ghost use Rattle.quotient_gb.specs.Remainder.{IsCanonicalIn, IsReducerIn, AreReducersIn, IsLeadReduction, IsLeadSplit, IsRemainderIn};
 
 use crate::basis::Basis;
 use monomial_order::{Memory, Monomial, Order};
-use poly_core::poly::Poly;
-use poly_core::presentation::Presentation;
+use poly_core::Poly;
+use poly_core::Presentation;
 use std::alloc::Global;
 use word_field::Field;
 
@@ -26,7 +26,7 @@ fn reduce_lead<F: Field, O: Order>(
     requires a { IsCanonicalIn (presented F.ops O.order p.now) a.now }
     requires some { a.now ≢ [] }
     requires g { IsReducerIn (presented F.ops O.order p.now) g.now }
-    requires divides { Divides (lead g.now) (lead a.now) }
+    requires divides { Divides (lead_monomial g.now) (lead_monomial a.now) }
     ensures { IfOk result (IsLeadReduction (presented F.ops O.order p.now) a.now g.now) }
 {
     let Some(first) = a.lead() else {
@@ -76,7 +76,7 @@ fn find_reducer<'a, F: Field>(
     requires before { HasLeads before.now }
     requires found { HasLeads found.now }
     ensures member { IfSome result (λ g. Contains (before.now.members.items ++ found.now.members.items) g.now) }
-    ensures divides { IfSome result (λ g. Divides (lead g.now) m.now) }
+    ensures divides { IfSome result (λ g. Divides (lead_monomial g.now) m.now) }
     ensures none { IsNone result → ¬ HasLeadDivisor (before.now.members.items ++ found.now.members.items) m.now }
 {
     match before.reducer(m) {

@@ -1,15 +1,15 @@
 //! S-polynomials.
 ghost use Rattle.std.specs.Prelude.{◌≡◌, ◌≢◌, ℕ, ◌≤◌, List, [], IfOk};
-ghost use Rattle.monomial_order.specs.Monomial.{product, least_common_multiple, IsTrimmed, IsMonomial, Divides};
-ghost use Rattle.poly_core.specs.Poly.{Same, term_of, scaled, lead};
+ghost use Rattle.monomial_order.specs.Monomial.{product, least_common_multiple, IsTrimmed, IsMonomial, Divides, Exponents};
+ghost use Rattle.polynomials.specs.Polynomial.{Same, term_of, scaled, lead_monomial};
 ghost use Rattle.poly_core.specs.Presentation.{presented};
-ghost use Rattle.poly_core.specs.Subalgebra.{IsPresentation};
+ghost use Rattle.polynomials.specs.Subalgebra.{IsPresentation};
 ghost use Rattle.quotient_gb.specs.Criterion.{AreCofactors, s_polynomial};
 ghost use Rattle.quotient_gb.specs.Remainder.{IsCanonicalIn, IsReducerIn};
 
 use monomial_order::{Memory, Monomial, Order};
-use poly_core::poly::Poly;
-use poly_core::presentation::Presentation;
+use poly_core::Poly;
+use poly_core::Presentation;
 use std::alloc::Global;
 use word_field::Field;
 
@@ -17,7 +17,7 @@ use word_field::Field;
 fn common_multiple<F: Field>(alloc: Global, g: &Poly<F>, h: &Poly<F>) -> Result<Monomial, Memory>
     requires g { g.now ≢ [] }
     requires h { h.now ≢ [] }
-    ensures { IfOk result (λ m. m ≡ least_common_multiple (lead g.now) (lead h.now)) }
+    ensures { IfOk result (λ m. m ≡ least_common_multiple (lead_monomial g.now) (lead_monomial h.now)) }
 {
     let Some(g_first) = g.lead() else {
         unreachable!()
@@ -38,10 +38,10 @@ fn raised<F: Field, O: Order>(
     requires presentation { IsPresentation (presented F.ops O.order p.now) }
     requires g { IsReducerIn (presented F.ops O.order p.now) g.now }
     requires top { IsMonomial (O.order p.now.order).places top.now }
-    requires divides { Divides (lead g.now) top.now }
+    requires divides { Divides (lead_monomial g.now) top.now }
     requires small { (O.order p.now.order).degree top.now ≤ 65535 }
     ensures canonical { IfOk result (IsCanonicalIn (presented F.ops O.order p.now)) }
-    ensures multiple { IfOk result (λ r. (u : List ℕ) × IsTrimmed u × (product u (lead g.now) ≡ top.now) ×
+    ensures multiple { IfOk result (λ r. (u : Exponents) × IsTrimmed u × (product u (lead_monomial g.now) ≡ top.now) ×
         Same (F.ops p.now.field) r (scaled (F.ops p.now.field) (term_of u (F.ops p.now.field).one) g.now)) }
 {
     let Some(first) = g.lead() else {
@@ -64,9 +64,11 @@ pub(crate) fn s_polynomial<F: Field, O: Order>(
     requires presentation { IsPresentation (presented F.ops O.order p.now) }
     requires g { IsReducerIn (presented F.ops O.order p.now) g.now }
     requires h { IsReducerIn (presented F.ops O.order p.now) h.now }
-    requires small { (O.order p.now.order).degree (least_common_multiple (lead g.now) (lead h.now)) ≤ 65535 }
+    requires small { (O.order p.now.order).degree
+        (least_common_multiple (lead_monomial g.now) (lead_monomial h.now)) ≤ 65535 }
     ensures canonical { IfOk result (IsCanonicalIn (presented F.ops O.order p.now)) }
-    ensures difference { IfOk result (λ r. (u v : List ℕ) × AreCofactors u (lead g.now) v (lead h.now) ×
+    ensures difference { IfOk result (λ r. (u v : Exponents) ×
+        AreCofactors u (lead_monomial g.now) v (lead_monomial h.now) ×
         Same (F.ops p.now.field) r (s_polynomial (F.ops p.now.field) u g.now v h.now)) }
 {
     let top = common_multiple(alloc, g, h)?;

@@ -1,8 +1,8 @@
 use Rattle.std.proofs.Common.{◌≡◌, ◌<◌, ◌≤◌, ◌+◌, refl, sym, ◌∙◌, ap, subst, ℕ, [], ◌∷◌, ◌++◌, arith, inl, inr, ⊎_elim}
 use Rattle.std.specs.Prelude.{Contains}
 use borrow.Author.Count.{below_more}
-use Rattle.monomial_order.specs.Comparing.{le_or_not}
-use Rattle.monomial_order.specs.Lists.{contains_left, contains_right, contains_here}
+use Rattle.monomial_order.specs.laws.Comparing.{le_or_not}
+use Rattle.monomial_order.specs.laws.Lists.{contains_left, contains_right, contains_here}
 use Rattle.quotient_gb.specs.CriticalPairs.{IsCriticalPair, IsCoprimeOrListed, pair_at}
 use Rattle.quotient_gb.specs.DegreeStep.{IsPart}
 use Rattle.quotient_gb.proofs.Listing.{listed_more, push_cases}
@@ -18,7 +18,7 @@ firsts-preserved g c =
     let h = c.firsts.invariant in
     elim c.match-branch-2.branch [
       | in-Some+in_ok-push w ↦
-          let is : w.in-Some.w ≡ pair_at O ms c.firsts.first c.args.second = (rw w.in-Some.is at c.in_ok-critical_pair.ensures.pair) in
+          let is : w.in-Some.w ≡ pair_at O ms c.firsts.first c.args.second = (rw w.in-Some.is at c.in_ok-w.ensures.pair) in
           let items : c.match-branch-2.pairs.items ≡ old ++ (w.in-Some.w ∷ []) = ap (λ v. v.items) w.pairs-is ∙ w.in_ok-push.ensures.items in
           record {
             part = λ x k. subst (λ xs. Contains xs x) (sym items) (contains_left old (w.in-Some.w ∷ []) x (h.part x k));
@@ -36,7 +36,7 @@ firsts-preserved g c =
             part = λ x k. subst (λ xs. Contains xs x) (sym items) (h.part x k);
             each = λ x k. h.each x (subst (λ xs. Contains xs x) items k);
             listed = subst (λ xs. (i : ℕ) → i < c.firsts.first + 1 → IsCoprimeOrListed O ms xs i c.args.second) (sym items)
-                (below_more (λ i. IsCoprimeOrListed O ms old i c.args.second) c.firsts.first h.listed (inl ((rw w.in_default.is at c.in_ok-critical_pair.ensures.coprime) refl)));
+                (below_more (λ i. IsCoprimeOrListed O ms old i c.args.second) c.firsts.first h.listed (inl ((rw w.in_default.is at c.in_ok-w.ensures.coprime) refl)));
           }
     ]
 

@@ -1,6 +1,6 @@
 use Rattle.std.proofs.Common.{refl}
 use Rattle.std.proofs.lemmas.Option.{IfSome_then}
-use Rattle.monomial_order.specs.Lists.{contains_right}
+use Rattle.monomial_order.specs.laws.Lists.{contains_right}
 use Rattle.quotient_gb.proofs.Places.{no_divisor_append}
 use Rattle.quotient_gb.proofs.remainder.find_reducer.Goals as goal
 

@@ -1,5 +1,5 @@
 use Rattle.std.proofs.Common.{◌≡◌, ◌++◌, [], refl, sym, ap, subst}
-use Rattle.poly_core.specs.Poly.{lead}
+use Rattle.polynomials.specs.Polynomial.{lead_monomial}
 use Rattle.poly_core.specs.Presentation.{presented}
 use Rattle.quotient_gb.specs.Combinations.{HasLeadDivisor}
 use Rattle.quotient_gb.proofs.Places.{some_first}
@@ -47,7 +47,7 @@ reduce-preserved g c =
     let r = c.in_ok-rest-in-None in
     after_split P c.requires.presentation G c.requires.reducers c.args.a.now work c.reduce.done c.reduce.invariant r.rest r.more
     (some_first work c.in-Some.first.now c.in-Some.ensures.first.0 c.in-Some.ensures.first.1)
-    (subst (λ m. HasLeadDivisor G m → ⊥) (sym (ap lead c.in-Some.ensures.first.1)) (c.in-None.ensures.none refl)) r.ensures
+    (subst (λ m. HasLeadDivisor G m → ⊥) (sym (ap lead_monomial c.in-Some.ensures.first.1)) (c.in-None.ensures.none refl)) r.ensures
 
 pub returns : goal.returns
 returns g c =

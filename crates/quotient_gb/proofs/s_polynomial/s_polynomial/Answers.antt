@@ -1,11 +1,11 @@
 use Rattle.std.proofs.Common.{sym, ◌∙◌, subst}
+use Rattle.polynomials.specs.laws.Coefficients.{monic_some}
 use Rattle.monomial_order.specs.Monomial.{IsMonomial, Divides}
-use Rattle.monomial_order.specs.MonomialLaws.{IsMonomial-least_common_multiple}
-use Rattle.monomial_order.specs.Cofactors.{Divides-least_common_multiple, Divides-least_common_multiple_right}
-use Rattle.poly_core.specs.Poly.{term_of, scaled, lead}
-use Rattle.poly_core.specs.CongruenceLaws.{minus_same}
+use Rattle.monomial_order.specs.laws.Monomial.{IsMonomial-least_common_multiple}
+use Rattle.monomial_order.specs.laws.Cofactors.{Divides-least_common_multiple, Divides-least_common_multiple_right}
+use Rattle.polynomials.specs.Polynomial.{term_of, scaled, lead_monomial}
+use Rattle.polynomials.specs.laws.Congruence.{minus_same}
 use Rattle.poly_core.specs.Presentation.{presented}
-use Rattle.quotient_gb.proofs.Basics.{monic_some}
 use Rattle.quotient_gb.proofs.Remainders.{reducer_monomial}
 use Rattle.quotient_gb.proofs.s_polynomial.s_polynomial.Goals as goal
 
@@ -20,22 +20,22 @@ raised-requires-clause-top g c =
     let P = presented g.F.Field.ops g.O.Order.order c.args.p.now in
     let H = c.requires.presentation in
     subst (IsMonomial P.order.places) (sym c.in_ok-top.ensures)
-    (IsMonomial-least_common_multiple P.order.places (lead c.args.g.now) (lead c.args.h.now) (reducer_monomial P H c.args.g.now c.requires.g) (reducer_monomial P H c.args.h.now c.requires.h))
+    (IsMonomial-least_common_multiple P.order.places (lead_monomial c.args.g.now) (lead_monomial c.args.h.now) (reducer_monomial P H c.args.g.now c.requires.g) (reducer_monomial P H c.args.h.now c.requires.h))
 
 pub raised-requires-2-clause-top : goal.raised-requires-2-clause-top
 raised-requires-2-clause-top g c =
     let P = presented g.F.Field.ops g.O.Order.order c.args.p.now in
     let H = c.requires.presentation in
     subst (IsMonomial P.order.places) (sym c.in_ok-top.ensures)
-    (IsMonomial-least_common_multiple P.order.places (lead c.args.g.now) (lead c.args.h.now) (reducer_monomial P H c.args.g.now c.requires.g) (reducer_monomial P H c.args.h.now c.requires.h))
+    (IsMonomial-least_common_multiple P.order.places (lead_monomial c.args.g.now) (lead_monomial c.args.h.now) (reducer_monomial P H c.args.g.now c.requires.g) (reducer_monomial P H c.args.h.now c.requires.h))
 
 pub raised-requires-clause-divides : goal.raised-requires-clause-divides
 raised-requires-clause-divides g c =
-    subst (Divides (lead c.args.g.now)) (sym c.in_ok-top.ensures) (Divides-least_common_multiple (lead c.args.g.now) (lead c.args.h.now))
+    subst (Divides (lead_monomial c.args.g.now)) (sym c.in_ok-top.ensures) (Divides-least_common_multiple (lead_monomial c.args.g.now) (lead_monomial c.args.h.now))
 
 pub raised-requires-2-clause-divides : goal.raised-requires-2-clause-divides
 raised-requires-2-clause-divides g c =
-    subst (Divides (lead c.args.h.now)) (sym c.in_ok-top.ensures) (Divides-least_common_multiple_right (lead c.args.g.now) (lead c.args.h.now))
+    subst (Divides (lead_monomial c.args.h.now)) (sym c.in_ok-top.ensures) (Divides-least_common_multiple_right (lead_monomial c.args.g.now) (lead_monomial c.args.h.now))
 
 pub returns-clause-difference : goal.returns-clause-difference
 returns-clause-difference g c =

@@ -1,7 +1,7 @@
 use Rattle.std.proofs.Common.{◌≡◌, ◌<◌, ◌≤◌, ◌+◌, refl, sym, ◌∙◌, ap, subst, ℕ, [], length, get_or, arith}
 use Rattle.std.specs.Prelude.{Contains}
 use borrow.Author.Count.{below_more}
-use Rattle.poly_core.specs.Poly.{IsHomogeneous}
+use Rattle.polynomials.specs.Polynomial.{IsHomogeneous}
 use Rattle.poly_core.specs.Presentation.{presented}
 use Rattle.quotient_gb.specs.Combinations.{HasStandardRepresentation}
 use Rattle.quotient_gb.specs.DegreeStep.{all_members, IsLaterStep}
@@ -26,7 +26,7 @@ has_degree-requires g c =
     let P = presented g.F.Field.ops g.O.Order.order c.args.p.now in
     let rs = c.args.p.now.ideal.items in
     let r = c.r-item.result in
-    (c.args.p.now.field, (canonical_generator P.field P.order rs c.requires.ideal r (subst (λ xs. Contains xs r) c.deref-r-items.ensures.value (c.generators.r-index, c.generators-test.true, sym c.r-item.is))).kept)
+    (c.args.p.now.field, (canonical_generator P.field P.order rs c.requires.ideal r (subst (λ xs. Contains xs r) c.deref-r-items.ensures.value (c.generators.r-index, c.generators-test.true, sym c.r-item.is))).canonical)
 
 pub reduce_and_insert-requires : goal.reduce_and_insert-requires
 reduce_and_insert-requires g c =
@@ -38,7 +38,7 @@ reduce_and_insert-requires g c =
     record {
       presentation = H;
       step = c.generators.invariant.later.step;
-      canonical = (canonical_generator P.field P.order rs c.requires.ideal r hr).kept;
+      canonical = (canonical_generator P.field P.order rs c.requires.ideal r hr).canonical;
       inside = generator_inside P.field H.field P.order.places rs r hr;
       at_most = at_most _ _ (c.has_degree.ensures.yes c.if-has_degree.true);
     }
@@ -73,7 +73,7 @@ generators-preserved g c =
         reduces = subst (λ z. (k : ℕ) → k < c.generators.r-index + 1 → IsHomogeneous P.field P.order z.degree (get_or rs k []) → HasStandardRepresentation P.field P.order (all_members b z) (get_or rs k [])) (sym w.self-is)
             (below_more (λ k. IsHomogeneous P.field P.order c.generators.self.degree (get_or rs k []) → HasStandardRepresentation P.field P.order (all_members b c.generators.self) (get_or rs k [])) c.generators.r-index
             c.generators.invariant.reduces
-            (λ h. absurd (homogeneous_degree P H r c.generators.self.degree (canonical_generator P.field P.order rs c.requires.ideal r hr).kept.falls (subst (IsHomogeneous P.field P.order c.generators.self.degree) here h) (w.if-has_degree.ensures.no refl))));
+            (λ h. absurd (homogeneous_degree P H r c.generators.self.degree (canonical_generator P.field P.order rs c.requires.ideal r hr).canonical.decreasing (subst (IsHomogeneous P.field P.order c.generators.self.degree) here h) (w.if-has_degree.ensures.no refl))));
       }
     ]
 

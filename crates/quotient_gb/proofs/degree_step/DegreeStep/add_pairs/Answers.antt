@@ -1,6 +1,6 @@
 use Rattle.std.proofs.Common.{◌≡◌, ◌<◌, ◌≤◌, ◌+◌, sym, ◌∙◌, ap, subst, ℕ, [], length, arith, get_or}
 use borrow.Author.Count.{below_more}
-use Rattle.monomial_order.specs.Lists.{contains_at}
+use Rattle.monomial_order.specs.laws.Lists.{contains_at}
 use Rattle.poly_core.specs.Presentation.{presented}
 use Rattle.quotient_gb.specs.DegreeStep.{all_members, IsLaterStep, ReducesPair}
 use Rattle.quotient_gb.proofs.Places.{at_default, below_stop}

@@ -1,6 +1,6 @@
 use Rattle.std.proofs.Common.{◌≤◌, ◌≡◌, ℕ, sym, ◌∙◌, arith, rules}
 use Rattle.monomial_order.specs.Monomial.{least_common_multiple}
-use Rattle.poly_core.specs.Poly.{lead}
+use Rattle.polynomials.specs.Polynomial.{lead_monomial}
 use Rattle.poly_core.specs.Presentation.{presented}
 use Rattle.quotient_gb.proofs.SPolynomials.{first_within, second_within, first_in, second_in, lcm_degree, inside, at_most, reduced}
 use Rattle.quotient_gb.proofs.Steps.{reducers}
@@ -28,7 +28,7 @@ s_polynomial-requires g c =
       presentation = H;
       g = reducers P H b s h x (first_in P H b s h c.args.pair.now c.requires.pair x y (sym c.index.ensures) (sym c.index-2.ensures));
       h = reducers P H b s h y (second_in P H b s h c.args.pair.now c.requires.pair x y (sym c.index.ensures) (sym c.index-2.ensures));
-      small = small c.args.pair.now.degree (P.order.degree (least_common_multiple (lead x) (lead y))) s.degree
+      small = small c.args.pair.now.degree (P.order.degree (least_common_multiple (lead_monomial x) (lead_monomial y))) s.degree
           (lcm_degree P H b s h c.args.pair.now c.requires.pair x y (sym c.index.ensures) (sym c.index-2.ensures)) c.requires.degree h.small;
     }
 
@@ -44,11 +44,11 @@ reduce_and_insert-requires g c =
       presentation = H;
       step = h;
       canonical = c.in_ok-a.ensures.canonical;
-      inside = inside P H b s h c.args.pair.now c.requires.pair c.index.result.now c.index-2.result.now (sym c.index.ensures) (sym c.index-2.ensures) a c.in_ok-a.ensures.canonical.falls c.in_ok-a.ensures.difference;
-      at_most = at_most P H b s h c.args.pair.now c.requires.pair c.index.result.now c.index-2.result.now (sym c.index.ensures) (sym c.index-2.ensures) a c.in_ok-a.ensures.canonical.falls c.in_ok-a.ensures.difference c.requires.degree;
+      inside = inside P H b s h c.args.pair.now c.requires.pair c.index.result.now c.index-2.result.now (sym c.index.ensures) (sym c.index-2.ensures) a c.in_ok-a.ensures.canonical.decreasing c.in_ok-a.ensures.difference;
+      at_most = at_most P H b s h c.args.pair.now c.requires.pair c.index.result.now c.index-2.result.now (sym c.index.ensures) (sym c.index-2.ensures) a c.in_ok-a.ensures.canonical.decreasing c.in_ok-a.ensures.difference c.requires.degree;
     }
 
 pub returns-clause-reduces : goal.returns-clause-reduces
 returns-clause-reduces g c =
     reduced (presented g.F.Field.ops g.O.Order.order c.args.p.now) c.requires.presentation c.args.before.now c.args.self.now c.requires.step c.args.pair.now c.requires.pair c.index.result.now c.index-2.result.now (sym c.index.ensures) (sym c.index-2.ensures)
-    c.in_ok-a.a c.in_ok-a.ensures.canonical.falls c.in_ok-a.ensures.difference c.reduce_and_insert.new.self c.in_ok-reduce_and_insert.ensures.reduces
+    c.in_ok-a.a c.in_ok-a.ensures.canonical.decreasing c.in_ok-a.ensures.difference c.reduce_and_insert.new.self c.in_ok-reduce_and_insert.ensures.reduces

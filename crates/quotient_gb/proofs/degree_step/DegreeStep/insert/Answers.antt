@@ -1,8 +1,8 @@
 use Rattle.std.proofs.Common.{refl, sym, ◌∙◌, ap, subst}
+use Rattle.polynomials.specs.laws.Coefficients.{monic_some}
 use Rattle.std.specs.Prelude.{Contains}
-use Rattle.poly_core.specs.Poly.{lead}
+use Rattle.polynomials.specs.Polynomial.{lead_monomial}
 use Rattle.poly_core.specs.Presentation.{presented}
-use Rattle.quotient_gb.proofs.Basics.{monic_some}
 use Rattle.quotient_gb.proofs.Inserting.{insert_here}
 use Rattle.quotient_gb.proofs.Steps.{step_leads, inserted}
 use Rattle.quotient_gb.proofs.degree_step.DegreeStep.insert.Goals as goal
@@ -23,7 +23,7 @@ insertion_index-at-requires-clause-small g c = λ n k.
 pub returns-clause-later : goal.returns-clause-later
 returns-clause-later g c =
     inserted (presented g.F.Field.ops g.O.Order.order c.args.p.now) c.requires.presentation c.args.before.now c.args.self.now c.requires.step c.args.member c.requires.member c.requires.at_most c.requires.fresh
-    c.insertion_index-at.result c.as_slice.result.now c.in_ok-lead.lead c.as_slice.ensures.value (c.in_ok-lead.ensures.same ∙ sym (ap lead c.in-Some.ensures.first.1)) c.insertion_index-at.ensures.within c.insertion_index-at.ensures.before c.insertion_index-at.ensures.after
+    c.insertion_index-at.result c.as_slice.result.now c.in_ok-lead.lead c.as_slice.ensures.value (c.in_ok-lead.ensures.same ∙ sym (ap lead_monomial c.in-Some.ensures.first.1)) c.insertion_index-at.ensures.within c.insertion_index-at.ensures.before c.insertion_index-at.ensures.after
     _ refl c.in_ok-insert-2.ensures.items c.in_ok-insert.ensures.items
 
 pub returns-clause-member : goal.returns-clause-member

@@ -1,6 +1,6 @@
 use Rattle.std.proofs.Common.{◌≢◌, ◌∙◌, ap, [], length}
 use Rattle.std.specs.Prelude.{nat_eq}
-use Rattle.monomial_order.specs.Lists.{contains_right}
+use Rattle.monomial_order.specs.laws.Lists.{contains_right}
 use Rattle.poly_core.specs.Presentation.{presented}
 use Rattle.quotient_gb.specs.DegreeStep.{all_members}
 use Rattle.quotient_gb.proofs.Places.{empty_is, not_empty_is}
@@ -27,7 +27,7 @@ returns-then-is_empty-clause-reduces g c =
     let b = c.args.before.now in
     let s = c.args.self.now in
     let rest = c.in_ok-rest.rest in
-    nothing_left P c.requires.presentation (all_members b s) (member P c.requires.presentation b s c.requires.step) c.args.a.now rest c.requires.canonical.falls c.requires.inside c.in_ok-rest.ensures.remainder
+    nothing_left P c.requires.presentation (all_members b s) (member P c.requires.presentation b s c.requires.step) c.args.a.now rest c.requires.canonical.decreasing c.requires.inside c.in_ok-rest.ensures.remainder
     (empty_is rest c.is_empty.result (c.is_empty.ensures ∙ ap (λ xs. nat_eq (length xs) 0) c.terms.ensures) c.if-is_empty.true)
 
 pub insert-requires : goal.insert-requires
@@ -38,8 +38,8 @@ insert-requires g c =
     let rest = c.in_ok-rest.rest in
     let some : rest ≢ [] = not_empty_is rest c.is_empty.result (c.is_empty.ensures ∙ ap (λ xs. nat_eq (length xs) 0) c.terms.ensures) c.if-is_empty.false in
     let m = c.in_ok-member.ensures in
-    let n = insertable P c.requires.presentation (all_members b s) (member P c.requires.presentation b s c.requires.step) c.args.a.now rest c.requires.canonical.falls c.requires.inside c.in_ok-rest.ensures.remainder
-    c.in_ok-rest.ensures.canonical.falls some c.in_ok-member.member (m.kept P.order c.in_ok-rest.ensures.canonical).falls m.lead (m.one some) m.multiple in
+    let n = insertable P c.requires.presentation (all_members b s) (member P c.requires.presentation b s c.requires.step) c.args.a.now rest c.requires.canonical.decreasing c.requires.inside c.in_ok-rest.ensures.remainder
+    c.in_ok-rest.ensures.canonical.decreasing some c.in_ok-member.member (m.kept P.order c.in_ok-rest.ensures.canonical).decreasing m.lead (m.one some) m.multiple in
     record { presentation = c.requires.presentation; step = c.requires.step; member = n.member; at_most = n.at_most s.degree c.requires.at_most; fresh = n.fresh }
 
 pub returns-clause-reduces : goal.returns-clause-reduces
@@ -51,6 +51,6 @@ returns-clause-reduces g c =
     let rest = c.in_ok-rest.rest in
     let some : rest ≢ [] = not_empty_is rest c.is_empty.result (c.is_empty.ensures ∙ ap (λ xs. nat_eq (length xs) 0) c.terms.ensures) c.if-is_empty.false in
     let m = c.in_ok-member.ensures in
-    let n = insertable P c.requires.presentation (all_members b s) (member P c.requires.presentation b s c.requires.step) c.args.a.now rest c.requires.canonical.falls c.requires.inside c.in_ok-rest.ensures.remainder
-    c.in_ok-rest.ensures.canonical.falls some c.in_ok-member.member (m.kept P.order c.in_ok-rest.ensures.canonical).falls m.lead (m.one some) m.multiple in
+    let n = insertable P c.requires.presentation (all_members b s) (member P c.requires.presentation b s c.requires.step) c.args.a.now rest c.requires.canonical.decreasing c.requires.inside c.in_ok-rest.ensures.remainder
+    c.in_ok-rest.ensures.canonical.decreasing some c.in_ok-member.member (m.kept P.order c.in_ok-rest.ensures.canonical).decreasing m.lead (m.one some) m.multiple in
     n.reduces (all_members b s') (part_all P b s s' c.in_ok-insert.ensures.later) (contains_right b.members.items s'.found.members.items c.in_ok-member.member c.in_ok-insert.ensures.member)

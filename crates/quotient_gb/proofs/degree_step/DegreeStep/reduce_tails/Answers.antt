@@ -1,6 +1,7 @@
 use Rattle.std.proofs.Common.{◌≡◌, ◌<◌, ◌≤◌, sym, ◌∙◌, ap, subst, refl, ℕ, length, arith}
+use Rattle.std.proofs.lemmas.List.{length-map}
 use Rattle.poly_core.specs.Presentation.{presented}
-use Rattle.quotient_gb.proofs.Places.{below_stop, length_map}
+use Rattle.quotient_gb.proofs.Places.{below_stop}
 use Rattle.quotient_gb.proofs.Steps.{set_step, set_tails, divides_same, found_count}
 use Rattle.quotient_gb.proofs.degree_step.DegreeStep.reduce_tails.Goals as goal
 

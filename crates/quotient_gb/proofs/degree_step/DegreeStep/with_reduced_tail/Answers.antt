@@ -1,11 +1,11 @@
 use Rattle.std.proofs.Common.{◌≡◌, refl, sym, ◌∙◌, ap, subst, [], ◌∷◌}
+use Rattle.polynomials.specs.laws.Coefficients.{monic_some}
 use Rattle.std.specs.Prelude.{Contains}
-use Rattle.monomial_order.specs.Lists.{contains_right}
-use Rattle.poly_core.specs.Poly.{lead}
+use Rattle.monomial_order.specs.laws.Lists.{contains_right}
+use Rattle.polynomials.specs.Polynomial.{lead_monomial}
 use Rattle.poly_core.specs.Presentation.{presented}
 use Rattle.quotient_gb.specs.DegreeStep.{all_members}
 use Rattle.quotient_gb.specs.Remainder.{IsCanonicalIn}
-use Rattle.quotient_gb.proofs.Basics.{monic_some}
 use Rattle.quotient_gb.proofs.Places.{at_default}
 use Rattle.quotient_gb.proofs.Remainders.{first_form, first_canonical}
 use Rattle.quotient_gb.proofs.Steps.{found_reducer, member, reducers}
@@ -67,4 +67,4 @@ returns g c =
     let y = tail_reduced P H (all_members b s) (member P H b s h) x (h.members x hx) t r.0 r.1 c.in_ok-front.front c.in_ok-tail.tail c.in_ok-rest.rest c.in_ok-member.member
     (first_form P H x k t r.0 r.1 c.in_ok-front.front c.in_ok-copy.field-0 c.in_ok-copy.ensures.same c.in_ok-front.ensures.term)
     c.in_ok-tail.ensures.kept c.in_ok-tail.ensures.difference c.in_ok-rest.ensures c.in_ok-member.ensures.kept c.in_ok-member.ensures.sum in
-    record { member = y.member; lead = y.lead ∙ ap lead (sym (at_default s.found.members.items c.args.at x [] c.requires.index (sym c.index-x.ensures))); tail = y.tail }
+    record { member = y.member; lead = y.lead ∙ ap lead_monomial (sym (at_default s.found.members.items c.args.at x [] c.requires.index (sym c.index-x.ensures))); tail = y.tail }

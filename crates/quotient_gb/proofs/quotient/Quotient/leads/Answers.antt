@@ -1,12 +1,12 @@
 use Rattle.std.proofs.Common.{◌∙◌, sym, ap, subst}
-use Rattle.poly_core.specs.Subalgebra.{Rise}
+use Rattle.monomial_order.specs.MonomialOrder.{IsIncreasing}
 use Rattle.quotient_gb.specs.IdealBasis.{AreIdealLeads}
 use Rattle.quotient_gb.proofs.Knowing.{each_minimal, all_minimal, quotient_leads}
 use Rattle.quotient_gb.proofs.quotient.Quotient.leads.Goals as goal
 
 pub returns-clause-increasing : goal.returns-clause-increasing
 returns-clause-increasing g c = λ P H h.
-    subst (Rise P) (sym (c.as_slice.ensures.value ∙ ap (λ q. q.leads) c.self.view_is)) (quotient_leads P H c.args.self.now h).rise
+    subst (IsIncreasing P.order) (sym (c.as_slice.ensures.value ∙ ap (λ q. q.leads) c.self.view_is)) (quotient_leads P H c.args.self.now h).increasing
 
 pub returns-clause-each : goal.returns-clause-each
 returns-clause-each g c = λ P H h.

@@ -1,5 +1,5 @@
 use Rattle.std.proofs.Common.{◌≡◌, ◌≤◌, ◌++◌, ◌∙◌, sym, ap, subst, append-nil}
-use Rattle.poly_core.specs.Poly.{lead, degree_of}
+use Rattle.polynomials.specs.Polynomial.{lead_monomial, degree_of}
 use Rattle.poly_core.specs.Presentation.{presented}
 use Rattle.quotient_gb.specs.Quotient.{QuotientState, IsQuotientOf}
 use Rattle.quotient_gb.specs.Remainder.{AreReducersIn, IsRemainderIn}
@@ -17,7 +17,7 @@ remainder-requires g c =
       presentation = H;
       a = c.requires.canonical;
       before = q.leads;
-      found = c.new-none.ensures.leads ∙ ap (map lead) (sym c.new-none.ensures.members);
+      found = c.new-none.ensures.leads ∙ ap (map lead_monomial) (sym c.new-none.ensures.members);
       reducers = subst (AreReducersIn P) (sym (append-nil b.members.items) ∙ ap (λ xs. b.members.items ++ xs) (sym c.new-none.ensures.members)) (quotient_reducers P H _ q);
     }
 
