@@ -11,8 +11,9 @@ ghost use Rattle.quotient_gb.specs.IdealBasis.{IsMonicMember};
 
 use word_field::Field;
 
-/// The criterion to a degree. If the generators of degree at most c have standard representations by monic members of the
-/// ideal, and so have the S-polynomials, each lead of the ideal of degree at most c is a multiple of the lead of a member.
+/// The criterion to a degree. Let the generators of degree at most c have standard representations by monic members of
+/// the ideal, and the S-polynomials too. Then each lead of the ideal of degree at most c is a multiple of the lead of a
+/// member.
 pub fn criterion<F: Field>()
     ensures reduced { (P : Presented F.Elem) → IsPresentation P → (c : ℕ) (G : List (Polynomial F.Elem)) →
         ReducesGenerators P c G → ReducesPairs P c G → (m : Exponents) → LeadsIdeal P m → P.order.degree m ≤ c →
@@ -22,8 +23,8 @@ pub fn criterion<F: Field>()
         HasLeadDivisor G m }
 {}
 
-/// The converse. If the leads of monic members divide each lead of the ideal of degree at most c, each member of the ideal
-/// whose lead has such a degree has a standard representation, and the S-polynomials have representations below.
+/// The converse. Let the leads of monic members divide each lead of the ideal of degree at most c. Then each member of
+/// the ideal whose lead has such a degree has a standard representation, and the S-polynomials have ones below.
 pub fn members_reduce<F: Field>()
     ensures members { (P : Presented F.Elem) → IsPresentation P → (c : ℕ) (G : List (Polynomial F.Elem)) →
         ((g : Polynomial F.Elem) → Contains G g → IsMonicMember P g) →

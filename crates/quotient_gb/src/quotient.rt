@@ -177,8 +177,8 @@ impl<F: Field, O: Order> Quotient<F, O> {
         true
     }
 
-    /// Whether all leads of the ideal are known to be multiples of `leads`. Nothing finds that out so far, so the answer
-    /// is always false.
+    /// Whether all leads of the ideal are known to be multiples of `leads`. Nothing finds that out so far, so the
+    /// answer is always false.
     pub fn known_closed(&self) -> bool
         ensures state { IsTrue result ↔ IsTrue self.now.closed }
         ensures closed { result ≡ true → (P : Presented F.Elem) → IsPresentation P → IsQuotientOf P self.now →

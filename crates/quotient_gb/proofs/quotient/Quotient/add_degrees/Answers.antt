@@ -5,6 +5,17 @@ use Rattle.quotient_gb.proofs.quotient.Quotient.add_degrees.Goals as goal
 below : (a d c : ℕ) → a ≡ d → d < c → c ≤ 30000 → a < 30000
 below a d c e l s = omega arith
 
+pub degrees-init : goal.degrees-init
+degrees-init g c = record {
+  quotient = c.requires.quotient;
+  extension = extends_itself c.args.self.now c.args.self.now refl refl refl refl;
+  degree = sym (ap (λ q. q.degree) c.self.view_is);
+  most = first c.self.inside.degree c.args.self.now.degree c.args.c (ap (λ q. q.degree) c.self.view_is);
+}
+  where
+    first : (a b c : ℕ) → a ≡ b → a ≤ max b c
+    first a b c e = omega arith
+
 pub add_degree-requires : goal.add_degree-requires
 add_degree-requires g c = record {
   presentation = c.requires.presentation;
