@@ -4,7 +4,7 @@ use Rattle.polynomials.specs.laws.Coefficients.{nothing_at, single_term, scaled_
 use Rattle.std.specs.Prelude.{Contains, map}
 use Rattle.std.specs.declared.cmp.Ordering.TheVariants.{Less, Equal, Greater}
 use Rattle.word_field.specs.Field.{FieldOps, IsField, IsValue}
-use Rattle.word_field.specs.laws.Field.{zero-plus-zero, negate-zero, plus_four}
+use Rattle.word_field.specs.laws.Field.{zero-plus-zero, negate-zero, plus_four, negate-negate}
 use Rattle.monomial_order.specs.declared.terms.Term.{Term}
 use Rattle.monomial_order.specs.Monomial.{product, IsMonomial, IsTrimmed, Divides, Exponents}
 use Rattle.monomial_order.specs.MonomialOrder.{MonomialOrder, IsMonomialOrder}
@@ -14,7 +14,7 @@ use Rattle.polynomials.specs.laws.Ring.{coefficient-append}
 use Rattle.polynomials.specs.laws.Same.{same_refl, append_same, append_comm, coefficient-negated, minus_self}
 use Rattle.polynomials.specs.laws.Decreasing.{IsDecreasing_IsPoly, IsLead_first, coefficient_first}
 use Rattle.monomial_order.specs.laws.Comparing.{not_below_self, greater_less}
-use Rattle.polynomials.specs.laws.Congruence.{negate_negate, minus_same, minus-append}
+use Rattle.polynomials.specs.laws.Congruence.{minus_same, minus-append}
 use Rattle.polynomials.specs.laws.Terms.{IsDecreasing-scaled}
 use Rattle.monomial_order.specs.laws.Rank.{rank, rank_falls}
 use Rattle.monomial_order.specs.laws.Lists.{contains_map}
@@ -35,7 +35,7 @@ pub record IsReducing {E : Type 0} (K : FieldOps E) (O : MonomialOrder) (G : Lis
 
 module _ {E : Type 0} (K : FieldOps E) (F : IsField K) where
   pub negate_not_zero : (a : E) → IsValue K a → a ≢ K.zero → K.negate a ≢ K.zero
-  negate_not_zero a v n z = n (sym v ∙ (sym (negate_negate K F a) ∙ (ap K.negate z ∙ negate-zero K F)))
+  negate_not_zero a v n z = n (sym v ∙ (sym (negate-negate K F a) ∙ (ap K.negate z ∙ negate-zero K F)))
 
 module _ {E : Type 0} (K : FieldOps E) (F : IsField K) (O : MonomialOrder) (L : IsMonomialOrder O) where
   pub below_all : (M : Exponents) (r : Polynomial E) → AllAt (λ n. O.compare n M ≡ Less) r → IsBelow K O M r

@@ -1,5 +1,6 @@
 -- The step from the basis to a degree to the basis to the next one: facts of private functions.
 use Rattle.std.specs.Prelude.{◌≡◌, ◌≢◌, ℕ, ◌+◌, ◌≤◌, ◌<◌, ◌++◌, List, [], length, map, slice_index_or, Contains}
+use Rattle.monomial_order.specs.Limits.{degree_max}
 use Rattle.monomial_order.specs.declared.terms.Term.{Term}
 use Rattle.monomial_order.specs.Monomial.{IsMultiple, Exponents}
 use Rattle.polynomials.specs.Polynomial.{Polynomial, coefficient, IsHomogeneous, lead_monomial}
@@ -44,7 +45,7 @@ module _ {F E : Type 0} (P : Presented E) where
   -- increasing, and no multiples of leads of b
   pub record IsStepAfter (b : Basis F E) (s : DegreeStep F E) : Type 0 where
     pub before : (c : ℕ) × (s.degree ≡ c + 1) × IsBasisTo c b
-    pub small : s.degree ≤ 30000
+    pub small : s.degree ≤ degree_max
     pub leads : HasLeads s.found
     pub members : (g : Polynomial E) → Contains s.found.members.items g → IsMonicMember P g
     pub degrees : (g : Polynomial E) → Contains s.found.members.items g → P.order.degree (lead_monomial g) ≡ s.degree

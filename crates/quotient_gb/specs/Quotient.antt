@@ -1,5 +1,6 @@
 -- What a quotient knows of the ideal of a presentation.
 use Rattle.std.specs.Prelude.{◌≡◌, ℕ, ◌≤◌, ◌++◌, List, Bool, true, map}
+use Rattle.monomial_order.specs.Limits.{degree_max}
 use Rattle.monomial_order.specs.declared.terms.Term.{Term}
 use Rattle.monomial_order.specs.Monomial.{IsMultiple, Exponents}
 use Rattle.polynomials.specs.Polynomial.{Polynomial, lead_monomial}
@@ -19,7 +20,7 @@ pub record QuotientState (E : Type 0) : Type 0 where
 
 -- q has the reduced basis of the ideal of P to its degree, and the critical pairs above that degree
 pub record IsQuotientOf {E : Type 0} (P : Presented E) (q : QuotientState E) : Type 0 where
-  pub small : q.degree ≤ 30000
+  pub small : q.degree ≤ degree_max
   pub basis : IsIdealBasis P q.degree q.members
   pub leads : q.leads ≡ map lead_monomial q.members
   pub pairs : HasPairsAbove P.order q.leads q.degree q.pairs

@@ -1,5 +1,6 @@
 //! Monic members of the ideal, each with its lead.
 ghost use Rattle.std.specs.Prelude.{◌≡◌, ◌<◌, ℕ, ◌≤◌, List, [], length, Contains, IfSome, IsNone, slice_index_or};
+ghost use Rattle.monomial_order.specs.Limits.{exponent_max};
 ghost use Rattle.std.specs.declared.cmp.Ordering.TheVariants.{Less};
 ghost use Rattle.monomial_order.specs.Monomial.{IsMonomial, Divides, Exponents};
 ghost use Rattle.polynomials.specs.Polynomial.{lead_monomial};
@@ -49,9 +50,9 @@ impl<F: Field> Basis<F> {
 /// The index of the first lead that is greater than m, and the number of leads if there is none.
 pub(crate) fn insertion_index<O: Order>(o: &O, leads: &[Monomial], m: &Monomial) -> usize
     requires leads { (n : Exponents) → Contains leads.now n → IsMonomial (O.order o.now).places n }
-    requires small { (n : Exponents) → Contains leads.now n → (O.order o.now).degree n ≤ 65535 }
+    requires small { (n : Exponents) → Contains leads.now n → (O.order o.now).degree n ≤ exponent_max }
     requires monomial { IsMonomial (O.order o.now).places m.now }
-    requires degree { (O.order o.now).degree m.now ≤ 65535 }
+    requires degree { (O.order o.now).degree m.now ≤ exponent_max }
     ensures within { result ≤ length leads.now }
     ensures before { (i : ℕ) → i < result →
         (O.order o.now).compare m.now (slice_index_or leads.now i []) ≡ Less → ⊥ }

@@ -1,5 +1,6 @@
 //! Critical pairs: two leads of a basis, at the degree of their least common multiple.
 ghost use Rattle.std.specs.Prelude.{◌≡◌, ℕ, ◌+◌, ◌≤◌, ◌<◌, List, [], true, length, filter, nat_lt, IfOk, OnOk, IfSome, IsNone, Contains, slice_index_or};
+ghost use Rattle.monomial_order.specs.Limits.{degree_max};
 ghost use Rattle.monomial_order.specs.Monomial.{IsMonomial, AreCoprime, Exponents};
 ghost use Rattle.quotient_gb.specs.CriticalPairs.{HasPairs, pair_at};
 
@@ -37,7 +38,7 @@ fn critical_pair<O: Order>(
     requires first { first < length leads.now }
     requires second { second < length leads.now }
     requires leads { (n : Exponents) → Contains leads.now n → IsMonomial (O.order o.now).places n }
-    requires small { (n : Exponents) → Contains leads.now n → (O.order o.now).degree n ≤ 30000 }
+    requires small { (n : Exponents) → Contains leads.now n → (O.order o.now).degree n ≤ degree_max }
     ensures coprime { IfOk result (λ r. IsNone r →
         AreCoprime (slice_index_or leads.now first []) (slice_index_or leads.now second [])) }
     ensures pair { IfOk result (λ r. IfSome r (λ w. w ≡ pair_at (O.order o.now) leads.now first second)) }
@@ -65,7 +66,7 @@ fn push_pairs<O: Order>(
 ) -> Result<(), Memory>
     requires second { second < length leads.now }
     requires leads { (n : Exponents) → Contains leads.now n → IsMonomial (O.order o.now).places n }
-    requires small { (n : Exponents) → Contains leads.now n → (O.order o.now).degree n ≤ 30000 }
+    requires small { (n : Exponents) → Contains leads.now n → (O.order o.now).degree n ≤ degree_max }
     ensures { OnOk result ((start : ℕ) → HasPairs (O.order o.now) leads.now start second pairs.old.items →
         HasPairs (O.order o.now) leads.now start (second + 1) pairs.new.items) }
 {
@@ -85,7 +86,7 @@ pub(crate) fn critical_pairs<O: Order>(
     start: usize,
 ) -> Result<Vec<CriticalPair>, Memory>
     requires leads { (n : Exponents) → Contains leads.now n → IsMonomial (O.order o.now).places n }
-    requires small { (n : Exponents) → Contains leads.now n → (O.order o.now).degree n ≤ 30000 }
+    requires small { (n : Exponents) → Contains leads.now n → (O.order o.now).degree n ≤ degree_max }
     ensures { IfOk result (λ v. HasPairs (O.order o.now) leads.now start (length leads.now) v.items) }
 {
     let mut pairs = Vec::new(alloc);

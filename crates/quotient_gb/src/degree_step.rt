@@ -1,5 +1,6 @@
 //! The step to the next degree: its new members are made aside, before the basis changes.
 ghost use Rattle.std.specs.Prelude.{◌≡◌, ◌≢◌, ℕ, ◌+◌, ◌≤◌, ◌<◌, ◌⊎◌, ◌++◌, List, [], false, true, length, map, OnOk, IfOk, Contains, slice_index_or};
+ghost use Rattle.monomial_order.specs.Limits.{degree_max};
 ghost use Rattle.monomial_order.specs.declared.terms.Term.{Term};
 ghost use Rattle.monomial_order.specs.Monomial.{IsMultiple};
 ghost use Rattle.polynomials.specs.Polynomial.{IsCanonical, IsHomogeneous, degree_of, lead_monomial};
@@ -53,7 +54,7 @@ impl<F: Field> DegreeStep<F> {
     ) -> Result<DegreeStep<F>, Memory>
         requires presentation { IsPresentation (presented F.ops O.order p.now) }
         requires ideal { AreCanonicalGenerators (F.ops p.now.field) (O.order p.now.order) p.now.ideal.items }
-        requires small { degree ≤ 30000 }
+        requires small { degree ≤ degree_max }
         requires before { (c : ℕ) × (degree ≡ c + 1) × IsBasisTo (presented F.ops O.order p.now) c before.now ×
             HasPairsAbove (O.order p.now.order) before.now.leads.items c pairs.now }
         ensures degree { IfOk result (λ s. s.degree ≡ degree) }

@@ -1,5 +1,6 @@
 //! The ideal of a presentation to a degree.
 ghost use Rattle.std.specs.Prelude.{◌≡◌, ℕ, ◌≤◌, ◌<◌, ◌+◌, ◌↔◌, List, max, true, false, IsTrue, IfOk, OnOk, OnErr, Contains};
+ghost use Rattle.monomial_order.specs.Limits.{degree_max};
 ghost use Rattle.monomial_order.specs.Monomial.{IsMonomial, IsMultiple, Exponents};
 ghost use Rattle.polynomials.specs.Polynomial.{degree_of};
 ghost use Rattle.poly_core.specs.Presentation.{presented, AreCanonicalGenerators};
@@ -69,7 +70,7 @@ impl<F: Field, O: Order> Quotient<F, O> {
         requires presentation { IsPresentation (presented F.ops O.order p.now) }
         requires ideal { AreCanonicalGenerators (F.ops p.now.field) (O.order p.now.order) p.now.ideal.items }
         requires quotient { IsQuotientOf (presented F.ops O.order p.now) self.old }
-        requires small { c ≤ 30000 }
+        requires small { c ≤ degree_max }
         ensures quotient { IsQuotientOf (presented F.ops O.order p.now) self.new }
         ensures degree { OnOk result (self.new.degree ≡ max self.old.degree c) }
         ensures memory { OnErr result (self.new ≡ self.old) }
@@ -98,7 +99,7 @@ impl<F: Field, O: Order> Quotient<F, O> {
         requires presentation { IsPresentation (presented F.ops O.order p.now) }
         requires ideal { AreCanonicalGenerators (F.ops p.now.field) (O.order p.now.order) p.now.ideal.items }
         requires quotient { IsQuotientOf (presented F.ops O.order p.now) self.old }
-        requires small { c ≤ 30000 }
+        requires small { c ≤ degree_max }
         ensures extension { IsExtension self.old self.new }
         ensures quotient { OnOk result (IsQuotientOf (presented F.ops O.order p.now) self.new) }
         ensures degree { OnOk result (self.new.degree ≡ max self.old.degree c) }
@@ -114,7 +115,7 @@ impl<F: Field, O: Order> Quotient<F, O> {
         requires presentation { IsPresentation (presented F.ops O.order p.now) }
         requires ideal { AreCanonicalGenerators (F.ops p.now.field) (O.order p.now.order) p.now.ideal.items }
         requires quotient { IsQuotientOf (presented F.ops O.order p.now) self.old }
-        requires small { self.old.degree < 30000 }
+        requires small { self.old.degree < degree_max }
         ensures extension { IsExtension self.old self.new }
         ensures quotient { OnOk result (IsQuotientOf (presented F.ops O.order p.now) self.new) }
         ensures degree { OnOk result (self.new.degree ≡ self.old.degree + 1) }

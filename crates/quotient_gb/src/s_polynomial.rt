@@ -1,5 +1,6 @@
 //! S-polynomials.
 ghost use Rattle.std.specs.Prelude.{◌≡◌, ◌≢◌, ℕ, ◌≤◌, List, [], IfOk};
+ghost use Rattle.monomial_order.specs.Limits.{exponent_max};
 ghost use Rattle.monomial_order.specs.Monomial.{product, least_common_multiple, IsTrimmed, IsMonomial, Divides, Exponents};
 ghost use Rattle.polynomials.specs.Polynomial.{Same, term_of, scaled, lead_monomial};
 ghost use Rattle.poly_core.specs.Presentation.{presented};
@@ -39,7 +40,7 @@ fn raised<F: Field, O: Order>(
     requires g { IsReducerIn (presented F.ops O.order p.now) g.now }
     requires top { IsMonomial (O.order p.now.order).places top.now }
     requires divides { Divides (lead_monomial g.now) top.now }
-    requires small { (O.order p.now.order).degree top.now ≤ 65535 }
+    requires small { (O.order p.now.order).degree top.now ≤ exponent_max }
     ensures canonical { IfOk result (IsCanonicalIn (presented F.ops O.order p.now)) }
     ensures multiple { IfOk result (λ r. (u : Exponents) × IsTrimmed u × (product u (lead_monomial g.now) ≡ top.now) ×
         Same (F.ops p.now.field) r (scaled (F.ops p.now.field) (term_of u (F.ops p.now.field).one) g.now)) }
@@ -65,7 +66,7 @@ pub(crate) fn s_polynomial<F: Field, O: Order>(
     requires g { IsReducerIn (presented F.ops O.order p.now) g.now }
     requires h { IsReducerIn (presented F.ops O.order p.now) h.now }
     requires small { (O.order p.now.order).degree
-        (least_common_multiple (lead_monomial g.now) (lead_monomial h.now)) ≤ 65535 }
+        (least_common_multiple (lead_monomial g.now) (lead_monomial h.now)) ≤ exponent_max }
     ensures canonical { IfOk result (IsCanonicalIn (presented F.ops O.order p.now)) }
     ensures difference { IfOk result (λ r. (u v : Exponents) ×
         AreCofactors u (lead_monomial g.now) v (lead_monomial h.now) ×

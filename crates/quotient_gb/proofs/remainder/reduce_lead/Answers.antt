@@ -26,4 +26,4 @@ returns g c =
     let u = c.in-Some-2.u in
     lead_reduction P c.requires.presentation c.args.a.now c.requires.a c.in-Some.first.now c.in-Some.ensures.first.0 c.in-Some.ensures.first.1 c.args.g.now c.requires.g u (rw c.in-Some-2.is at c.in_ok-u.ensures.trimmed)
     (ap (λ x. product x u) (ap lead_monomial c.in-Some-lead.ensures.first.1) ∙ (rw c.in-Some-2.is at c.in_ok-u.ensures.some)) c.neg-c.result c.neg-c.ensures
-    c.in_ok-part.part c.in_ok-sum.sum c.in_ok-part.ensures.product c.in_ok-sum.ensures.kept c.in_ok-sum.ensures.sum
+    c.in_ok-part.part c.in_ok-sum.sum c.in_ok-part.ensures.product c.in_ok-sum.ensures.canonical c.in_ok-sum.ensures.sum

@@ -31,4 +31,4 @@ returns g c =
     lead_split P H c.args.a.now c.requires.a t r.0 r.1 c.args.done.now c.in_ok-minus.minus c.in_ok-plus.plus c.in_ok-rest.rest c.in_ok-more.more
     (negated_form P H c.args.a.now c.requires.a t r.0 r.1 c.in_ok-minus.minus c.in_ok-copy.field-0 c.neg.result c.in_ok-copy.ensures.same c.neg.ensures c.in_ok-minus.ensures.term)
     (first_form P H c.args.a.now c.requires.a t r.0 r.1 c.in_ok-plus.plus c.in_ok-copy-2.field-0 c.in_ok-copy-2.ensures.same c.in_ok-plus.ensures.term)
-    c.in_ok-rest.ensures.kept c.in_ok-more.ensures.kept c.in_ok-rest.ensures.sum c.in_ok-more.ensures.sum
+    c.in_ok-rest.ensures.canonical c.in_ok-more.ensures.canonical c.in_ok-rest.ensures.sum c.in_ok-more.ensures.sum

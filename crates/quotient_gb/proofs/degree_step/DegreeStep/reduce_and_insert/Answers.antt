@@ -39,7 +39,7 @@ insert-requires g c =
     let some : rest ≢ [] = not_empty_is rest c.is_empty.result (c.is_empty.ensures ∙ ap (λ xs. nat_eq (length xs) 0) c.terms.ensures) c.if-is_empty.false in
     let m = c.in_ok-member.ensures in
     let n = insertable P c.requires.presentation (all_members b s) (member P c.requires.presentation b s c.requires.step) c.args.a.now rest c.requires.canonical.decreasing c.requires.inside c.in_ok-rest.ensures.remainder
-    c.in_ok-rest.ensures.canonical.decreasing some c.in_ok-member.member (m.kept P.order c.in_ok-rest.ensures.canonical).decreasing m.lead (m.one some) m.multiple in
+    c.in_ok-rest.ensures.canonical.decreasing some c.in_ok-member.member (m.canonical P.order c.in_ok-rest.ensures.canonical).decreasing m.lead (m.one some) m.multiple in
     record { presentation = c.requires.presentation; step = c.requires.step; member = n.member; at_most = n.at_most s.degree c.requires.at_most; fresh = n.fresh }
 
 pub returns-clause-reduces : goal.returns-clause-reduces
@@ -52,5 +52,5 @@ returns-clause-reduces g c =
     let some : rest ≢ [] = not_empty_is rest c.is_empty.result (c.is_empty.ensures ∙ ap (λ xs. nat_eq (length xs) 0) c.terms.ensures) c.if-is_empty.false in
     let m = c.in_ok-member.ensures in
     let n = insertable P c.requires.presentation (all_members b s) (member P c.requires.presentation b s c.requires.step) c.args.a.now rest c.requires.canonical.decreasing c.requires.inside c.in_ok-rest.ensures.remainder
-    c.in_ok-rest.ensures.canonical.decreasing some c.in_ok-member.member (m.kept P.order c.in_ok-rest.ensures.canonical).decreasing m.lead (m.one some) m.multiple in
+    c.in_ok-rest.ensures.canonical.decreasing some c.in_ok-member.member (m.canonical P.order c.in_ok-rest.ensures.canonical).decreasing m.lead (m.one some) m.multiple in
     n.reduces (all_members b s') (part_all P b s s' c.in_ok-insert.ensures.later) (contains_right b.members.items s'.found.members.items c.in_ok-member.member c.in_ok-insert.ensures.member)

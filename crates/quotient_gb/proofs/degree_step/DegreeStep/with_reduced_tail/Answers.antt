@@ -46,7 +46,7 @@ add-requires-clause-a g c =
 pub remainder-requires : goal.remainder-requires
 remainder-requires g c = record {
   presentation = c.requires.presentation;
-  a = c.in_ok-tail.ensures.kept;
+  a = c.in_ok-tail.ensures.canonical;
   before = c.requires.step.before.2.leads;
   found = c.requires.step.leads;
   reducers = reducers (presented g.F.Field.ops g.O.Order.order c.args.p.now) c.requires.presentation c.args.before.now c.args.self.now c.requires.step;
@@ -66,5 +66,5 @@ returns g c =
     let r = c.in-Some.ensures.first in
     let y = tail_reduced P H (all_members b s) (member P H b s h) x (h.members x hx) t r.0 r.1 c.in_ok-front.front c.in_ok-tail.tail c.in_ok-rest.rest c.in_ok-member.member
     (first_form P H x k t r.0 r.1 c.in_ok-front.front c.in_ok-copy.field-0 c.in_ok-copy.ensures.same c.in_ok-front.ensures.term)
-    c.in_ok-tail.ensures.kept c.in_ok-tail.ensures.difference c.in_ok-rest.ensures c.in_ok-member.ensures.kept c.in_ok-member.ensures.sum in
+    c.in_ok-tail.ensures.canonical c.in_ok-tail.ensures.difference c.in_ok-rest.ensures c.in_ok-member.ensures.canonical c.in_ok-member.ensures.sum in
     record { member = y.member; lead = y.lead ∙ ap lead_monomial (sym (at_default s.found.members.items c.args.at x [] c.requires.index (sym c.index-x.ensures))); tail = y.tail }
