@@ -1,33 +1,23 @@
 -- Monic members of the ideal, and the premises of the criterion at every degree.
-use Rattle.std.proofs.Common.{◌≡◌, ℕ, ◌+◌, ◌≤◌, sym, ◌∙◌, ap, subst, List, [], ◌∷◌, ◌⊎◌, inl, inr, ⊎_elim, arith}
+use Rattle.std.proofs.Common.{ℕ, ◌+◌, ◌≤◌, ap, List, [], ◌∷◌, arith}
 use Rattle.std.specs.Prelude.{Contains}
-use Rattle.word_field.specs.Field.{FieldOps}
 use Rattle.monomial_order.specs.declared.terms.Term.{Term}
-use Rattle.monomial_order.specs.Monomial.{product, IsMonomial, Divides, Exponents}
-use Rattle.monomial_order.specs.laws.Cofactors.{cofactor, divides_or_not}
-use Rattle.monomial_order.specs.laws.Monomial.{product_comm}
-use Rattle.polynomials.specs.Polynomial.{Polynomial, coefficient, term_of, times, scaled, negated, minus, IsTerm, IsLead, IsHomogeneous, lead_monomial}
+use Rattle.monomial_order.specs.Monomial.{IsMonomial, Exponents}
+use Rattle.polynomials.specs.Polynomial.{Polynomial, coefficient, term_of, times, scaled, negated, IsTerm, IsHomogeneous, lead_monomial}
 use Rattle.polynomials.specs.Ideal.{InIdeal}
-use Rattle.polynomials.specs.Subalgebra.{Presented, IsPresentation, LeadsIdeal}
-use Rattle.polynomials.specs.laws.Decreasing.{IsDecreasing_IsPoly}
-use Rattle.polynomials.specs.laws.Ideal.{IsPoly-scaled, InIdeal_same, InIdeal_plus, InIdeal_times}
-use Rattle.polynomials.specs.laws.Congruence.{InIdeal_negated, congruent_sym, congruent_trans, congruent_member, member_congruent}
-use Rattle.monomial_order.specs.laws.Lists.{contains_cases, contains_here, contains_there, contains_none}
-use Rattle.quotient_gb.specs.Combinations.{HasLeadDivisor}
+use Rattle.polynomials.specs.Subalgebra.{Presented, IsPresentation}
+use Rattle.polynomials.specs.laws.Ideal.{InIdeal_same, InIdeal_plus, InIdeal_times}
+use Rattle.polynomials.specs.laws.Congruence.{InIdeal_negated}
 use Rattle.quotient_gb.specs.Criterion.{s_polynomial, ReducesGenerators, RepresentsPairs}
 use Rattle.quotient_gb.specs.IdealBasis.{IsMonicMember}
-use Rattle.quotient_gb.specs.Remainder.{IsRemainderBy}
-use Rattle.quotient_gb.proofs.Multiples.{degree-lcm, divides_left}
-use Rattle.quotient_gb.proofs.Combinations.{scaled_is, combines_inside}
-use Rattle.quotient_gb.proofs.Criterion.{IsReducer, monomials, scaled_leads}
+use Rattle.quotient_gb.proofs.Multiples.{degree-lcm}
+use Rattle.quotient_gb.proofs.Combinations.{scaled_is}
+use Rattle.quotient_gb.proofs.Criterion.{reducer, monomials}
 
 module _ {E : Type 0} (P : Presented E) (H : IsPresentation P) (G : List (Polynomial E)) where
   module _ (members : (g : Polynomial E) → Contains G g → IsMonicMember P g) where
-    pub reducer : (g : Polynomial E) → Contains G g → IsReducer P.field P.order g
-    reducer g h = let m = members g h in record { decreasing = m.decreasing; monic = m.monic }
-
     pub lead_is : (g : Polynomial E) → Contains G g → IsMonomial P.order.places (lead_monomial g)
-    lead_is g h = monomials P.field H.field P.order H.order G reducer g h
+    lead_is g h = monomials P.field H.field P.order H.order G (reducer P H G members) g h
 
     -- a term times a member lies in the ideal
     pub scaled_inside : (t : Term E) (g : Polynomial E) → IsTerm P.field P.order.places t → Contains G g → InIdeal P.field P.order.places P.ideal (scaled P.field t g)

@@ -4,8 +4,7 @@ use Rattle.std.proofs.lemmas.List.{length-map}
 use Rattle.std.specs.Prelude.{Contains, map, nat_lt}
 use Rattle.std.proofs.lemmas.Bool.{ltb-true, ltb-false}
 use Rattle.std.specs.declared.cmp.Ordering.TheVariants.{Less}
-use Rattle.monomial_order.specs.declared.terms.Term.{Term}
-use Rattle.monomial_order.specs.Monomial.{IsMonomial, Divides, least_common_multiple, IsMultiple, AreCoprime, Exponents}
+use Rattle.monomial_order.specs.Monomial.{IsMonomial, Divides, least_common_multiple, AreCoprime, Exponents}
 use Rattle.monomial_order.specs.laws.Monomial.{least_common_multiple_comm, IsMonomial-least_common_multiple}
 use Rattle.monomial_order.specs.laws.Cofactors.{Divides-least_common_multiple, Divides-least_common_multiple_right}
 use Rattle.monomial_order.specs.laws.Comparing.{increasing_below, increasing_tail, equal_or_not, le_or_not, proper_divisor, not_below_self}
@@ -13,15 +12,14 @@ use Rattle.monomial_order.specs.laws.Lists.{contains_at, contains_left, contains
 use Rattle.polynomials.specs.Polynomial.{Polynomial, IsHomogeneous, lead_monomial}
 use Rattle.polynomials.specs.Subalgebra.{Presented, IsPresentation, LeadsIdeal}
 use Rattle.monomial_order.specs.MonomialOrder.{IsIncreasing, IsMonomialOrder}
-use Rattle.quotient_gb.specs.Combinations.{HasLeadDivisor, HasStandardRepresentation}
+use Rattle.quotient_gb.specs.Combinations.{HasLeadDivisor}
 use Rattle.quotient_gb.specs.Criterion.{HasStandardSPolynomial, HasRepresentationBelow, RepresentsPairs, ReducesGenerators}
 use Rattle.quotient_gb.specs.declared.basis.Basis.{Basis}
 use Rattle.quotient_gb.specs.declared.degree_step.DegreeStep.{DegreeStep}
 use Rattle.quotient_gb.specs.DegreeStep.{all_members, IsStepAfter, ReducesGeneratorsAt, DividesLeads}
-use Rattle.quotient_gb.specs.IdealBasis.{IsMonicMember}
-use Rattle.quotient_gb.proofs.Bases.{reducer, lead_is}
+use Rattle.quotient_gb.proofs.Bases.{lead_is}
 use Rattle.quotient_gb.proofs.Complete.{complete_pairs, complete_generators}
-use Rattle.quotient_gb.proofs.Criterion.{IsReducer, criterion}
+use Rattle.quotient_gb.proofs.Criterion.{IsReducer, criterion, reducer}
 use Rattle.quotient_gb.proofs.Pairs.{below_sym, below_self, below_standard, below_coprime}
 use Rattle.quotient_gb.proofs.Places.{at_default, has_divisor, is_multiple, multiple_more, lead_at}
 use Rattle.quotient_gb.proofs.Steps.{member, degree, lower_multiple, increasing, minimal}
@@ -71,9 +69,6 @@ module _ {F E : Type 0} (P : Presented E) (H : IsPresentation P) (b : Basis F E)
   next : d ≡ h.before.0 + 1
   next = h.before.1
 
-  members : (g : Polynomial E) → Contains G g → IsMonicMember P g
-  members = member P H b s h
-
   part : (x : Polynomial E) → Contains before x → Contains G x
   part x k = contains_left before s.found.members.items x k
 
@@ -81,12 +76,12 @@ module _ {F E : Type 0} (P : Presented E) (H : IsPresentation P) (b : Basis F E)
   divides_lower m k l = has_divisor G m (multiple_more before G m part (lower_multiple P H b s h m k (let e = next in omega arith)))
 
   reducers : (x : Polynomial E) → Contains G x → IsReducer P.field P.order x
-  reducers = reducer P H G members
+  reducers = reducer P H G (member P H b s h)
 
   all_generators : ReducesGenerators P d G
   all_generators = record {
-    members = members;
-    generators = λ r k e le hr. ⊎_elim (λ l. complete_generators P H G members h.before.0 divides_lower r k e l hr)
+    members = member P H b s h;
+    generators = λ r k e le hr. ⊎_elim (λ l. complete_generators P H G (member P H b s h) h.before.0 divides_lower r k e l hr)
         (λ n. generators r k (subst (λ x. IsHomogeneous P.field P.order x r) (equal e le n) hr)) (le_or_not e h.before.0);
   }
     where
@@ -113,7 +108,7 @@ module _ {F E : Type 0} (P : Presented E) (H : IsPresentation P) (b : Basis F E)
           ⊎_elim (λ co. below_coprime P.field H.field P.order H.order G reducers (get_or before i []) (get_or before j []) hi hj co)
           (λ r. below_standard P.field H.field P.order H.order G reducers (get_or before i []) (get_or before j []) hi hj r) (pairs i j lt l e)
 
-  -- a member of the degree d meets no other one there
+  -- a member of the degree d has no critical pair of that degree
   represents_new : (i j : ℕ) → i < j → j < length G → (P.order.degree (lead_monomial (get_or G i [])) ≡ d) ⊎ (P.order.degree (lead_monomial (get_or G j [])) ≡ d) → Represents (get_or G i []) (get_or G j [])
   represents_new i j lt l new e = absurd (not_below_self P.order H.order (lead_monomial x) (subst (λ z. P.order.compare (lead_monomial x) z ≡ Less) (sym same) less))
     where
@@ -130,10 +125,10 @@ module _ {F E : Type 0} (P : Presented E) (H : IsPresentation P) (b : Basis F E)
       hy = contains_at G j [] l
 
       mx : IsMonomial P.order.places (lead_monomial x)
-      mx = lead_is P H G members x hx
+      mx = lead_is P H G (member P H b s h) x hx
 
       my : IsMonomial P.order.places (lead_monomial y)
-      my = lead_is P H G members y hy
+      my = lead_is P H G (member P H b s h) y hy
 
       top : Exponents
       top = least_common_multiple (lead_monomial x) (lead_monomial y)
@@ -169,7 +164,7 @@ module _ {F E : Type 0} (P : Presented E) (H : IsPresentation P) (b : Basis F E)
       older k l n = ⊎_elim (λ i. i) (λ i. absurd (n (let q = h.degrees (get_or G k []) i in omega arith))) (contains_either before s.found.members.items (get_or G k []) (contains_at G k [] l))
 
   all_pairs : RepresentsPairs P d G
-  all_pairs x y hx hy l = ⊎_elim (λ le. complete_pairs P H G members h.before.0 divides_lower x y hx hy le)
+  all_pairs x y hx hy l = ⊎_elim (λ le. complete_pairs P H G (member P H b s h) h.before.0 divides_lower x y hx hy le)
       (λ n. each_two [] G Represents represents_turned represents_itself represents_places x y hx hy (equal (P.order.degree (least_common_multiple (lead_monomial x) (lead_monomial y))) l n))
       (le_or_not (P.order.degree (least_common_multiple (lead_monomial x) (lead_monomial y))) h.before.0)
     where

@@ -1,11 +1,11 @@
--- A list whose leads divide each lead of the ideal of degree at most c reduces each member of the ideal of degree at most c to zero.
+-- If the leads of a list divide each lead of the ideal of degree at most c, each member of the ideal of degree at most c has a
+-- standard representation by it.
 use Rattle.std.proofs.Common.{◌≡◌, ◌≢◌, ℕ, ◌≤◌, sym, ◌∙◌, ap, subst, List, [], ◌∷◌, ◌++◌, ⊎_elim, inl, inr, arith, append-nil}
 use Rattle.polynomials.specs.laws.Coefficients.{minus_back, sum_nonzero, found_monomial}
 use Rattle.std.specs.Prelude.{Contains}
 use Rattle.std.specs.declared.cmp.Ordering.TheVariants.{Less}
 use Rattle.word_field.specs.Field.{FieldOps, IsField, IsValue}
 use Rattle.word_field.specs.laws.Field.{negate-zero}
-use Rattle.monomial_order.specs.declared.terms.Term.{Term}
 use Rattle.monomial_order.specs.Monomial.{product, least_common_multiple, IsMonomial, Exponents}
 use Rattle.monomial_order.specs.MonomialOrder.{MonomialOrder, IsMonomialOrder}
 use Rattle.monomial_order.specs.laws.Monomial.{product_comm, IsMonomial-least_common_multiple}
@@ -13,10 +13,10 @@ use Rattle.monomial_order.specs.laws.Cofactors.{cofactor}
 use Rattle.monomial_order.specs.laws.Comparing.{degree_falls}
 use Rattle.monomial_order.specs.laws.Lists.{contains_none, contains_cases}
 use Rattle.monomial_order.specs.laws.Rank.{IsWithin, below_induction}
-use Rattle.polynomials.specs.Polynomial.{Polynomial, coefficient, Same, term_of, times, scaled, negated, minus, constant, IsTerm, IsPoly, IsLead, IsHomogeneous, lead_monomial}
+use Rattle.polynomials.specs.Polynomial.{Polynomial, coefficient, term_of, times, scaled, negated, minus, constant, IsTerm, IsPoly, IsLead, IsHomogeneous, lead_monomial}
 use Rattle.polynomials.specs.Ideal.{InIdeal}
 use Rattle.polynomials.specs.Subalgebra.{Presented, IsPresentation, IsGenerator, AreGenerators, LeadsIdeal}
-use Rattle.polynomials.specs.laws.Ring.{coefficient_value, coefficient-append}
+use Rattle.polynomials.specs.laws.Ring.{coefficient_value}
 use Rattle.polynomials.specs.laws.Value.{one_times}
 use Rattle.polynomials.specs.laws.Membership.{IsPoly-one}
 use Rattle.polynomials.specs.laws.Decreasing.{IsDecreasing_IsPoly}
@@ -28,9 +28,9 @@ use Rattle.quotient_gb.specs.Criterion.{s_polynomial, RepresentsPairs}
 use Rattle.quotient_gb.specs.IdealBasis.{IsMonicMember}
 use Rattle.quotient_gb.proofs.Multiples.{divides_left}
 use Rattle.quotient_gb.proofs.Combinations.{combines_same, combines_plus, combines_one, combines_weaken}
-use Rattle.quotient_gb.proofs.Criterion.{coefficient-front, scaled_leads}
+use Rattle.quotient_gb.proofs.Criterion.{coefficient-front, scaled_leads, reducer}
 use Rattle.quotient_gb.proofs.Pairs.{scaled_monic, pair_below, s_polynomial_poly, below_standard}
-use Rattle.quotient_gb.proofs.Bases.{reducer, lead_is, scaled_inside, s_polynomial_inside}
+use Rattle.quotient_gb.proofs.Bases.{lead_is, scaled_inside, s_polynomial_inside}
 
 -- a generator lies in the ideal
 pub generator_inside : {E : Type 0} (K : FieldOps E) (F : IsField K) (n : ℕ) (rs : List (Polynomial E)) (r : Polynomial E) → Contains rs r → InIdeal K n rs r
@@ -115,7 +115,7 @@ module _ {E : Type 0} (P : Presented E) (H : IsPresentation P) (G : List (Polyno
               (minus P.field a s) poly
               (InIdeal_plus P.field H.field P.order.places P.ideal a (negated P.field s) ha (InIdeal_negated P.field H.field P.order.places P.ideal s h.inside)) l)
 
-  -- a member of the ideal whose lead has a degree of at most c reduces to zero
+  -- a member of the ideal whose lead has a degree of at most c has a standard representation
   pub complete_reduces : (a : Polynomial E) → IsPoly P.field P.order.places a → InIdeal P.field P.order.places P.ideal a → (M : Exponents) → IsLead P.field P.order a M →
       P.order.degree M ≤ c → Combines P.field P.order G (AtMost P.order M) a
   complete_reduces a hp ha M l d =

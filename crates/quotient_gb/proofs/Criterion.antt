@@ -1,5 +1,5 @@
--- The criterion to a degree: where the generators and the critical pairs of degree at most c reduce to zero,
--- each monomial of degree at most c that leads a member of the ideal is a multiple of the lead of a member of the list.
+-- The criterion to a degree: if the generators of degree at most c have standard representations, and the S-polynomials have
+-- representations below, each lead of the ideal of degree at most c is a multiple of the lead of a member of the list.
 use Rattle.std.proofs.Common.{◌≡◌, ◌≢◌, ℕ, ◌+◌, ◌≤◌, refl, sym, ◌∙◌, ap, subst, List, [], ◌∷◌, ◌++◌, ◌⊎◌, inl, inr, ⊎_elim, arith, Bool, true, false, cond}
 use Rattle.polynomials.specs.laws.Coefficients.{single_term, lead_sum}
 use Rattle.std.specs.Prelude.{Contains, nat_eq}
@@ -27,6 +27,7 @@ use Rattle.polynomials.specs.laws.Ideal.{IsPoly-scaled}
 use Rattle.monomial_order.specs.laws.Rank.{IsWithin, below_induction}
 use Rattle.polynomials.specs.laws.Degrees.{component-append, coefficient-component, component_same, IsGraded, graded_component, graded_no_component, graded_times}
 use Rattle.quotient_gb.specs.Combinations.{AtMost, Under, HasLeadDivisor, Step, sum_of_steps, AreSteps, Combines, HasStandardRepresentation}
+use Rattle.quotient_gb.specs.IdealBasis.{IsMonicMember}
 use Rattle.quotient_gb.specs.Criterion.{s_polynomial, HasRepresentationBelow, ReducesGenerators, RepresentsPairs}
 use Rattle.quotient_gb.proofs.Multiples.{common, product_divides}
 use Rattle.quotient_gb.proofs.Combinations.{scaled-append, scaled_scaled, scaled_is, scaled_same, combines_same, combines_zero, combines_plus, combines_one, combines_scaled, combines_constant, top}
@@ -216,7 +217,7 @@ module _ {E : Type 0} (K : FieldOps E) (F : IsField K) (O : MonomialOrder) (L : 
             difference : Polynomial E
             difference = minus K (scaled K (term_of s.term.at K.one) s.of) (scaled K (term_of r.by K.one) r.member)
 
-    -- a combination whose products are at most M reduces to zero: it has its lead as the greatest product, and that is a multiple of a lead
+    -- a combination whose products are at most M has a standard representation, and its lead is a multiple of a lead
     pub record IsLed (a : Polynomial E) (m : Exponents) : Type 0 where
       pub combines : Combines K O G (AtMost O m) a
       pub divisor : HasLeadDivisor G m
@@ -349,10 +350,11 @@ module _ {E : Type 0} (K : FieldOps E) (F : IsField K) (O : MonomialOrder) (L : 
             greatest = λ n k ne. lm.greatest n (λ z. k (coefficient-component K F O L (O.degree m) a n ∙ (ap (λ x. cond (nat_eq (O.degree n) (O.degree m)) x K.zero) z ∙ if_zero (nat_eq (O.degree n) (O.degree m))))) ne;
           }
 
-module _ {E : Type 0} (P : Presented E) (H : IsPresentation P) (c : ℕ) (G : List (Polynomial E)) (HG : ReducesGenerators P c G) (HP : RepresentsPairs P c G) where
-  pub reducers : (g : Polynomial E) → Contains G g → IsReducer P.field P.order g
-  reducers g h = let m = HG.members g h in record { decreasing = m.decreasing; monic = m.monic }
+-- a monic member serves to reduce
+pub reducer : {E : Type 0} (P : Presented E) → IsPresentation P → (G : List (Polynomial E)) → ((g : Polynomial E) → Contains G g → IsMonicMember P g) → (g : Polynomial E) → Contains G g → IsReducer P.field P.order g
+reducer P H G members g h = let m = members g h in record { decreasing = m.decreasing; monic = m.monic }
 
+module _ {E : Type 0} (P : Presented E) (H : IsPresentation P) (c : ℕ) (G : List (Polynomial E)) (HG : ReducesGenerators P c G) (HP : RepresentsPairs P c G) where
   pub criterion : (m : Exponents) → LeadsIdeal P m → P.order.degree m ≤ c → HasLeadDivisor G m
   criterion m h l =
-      lead_divided P.field H.field P.order H.order G reducers c HP P.ideal H.ideal HG.generators h.member m h.inside h.leads l
+      lead_divided P.field H.field P.order H.order G (reducer P H G HG.members) c HP P.ideal H.ideal HG.generators h.member m h.inside h.leads l

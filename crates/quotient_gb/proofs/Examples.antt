@@ -2,7 +2,6 @@
 use Rattle.std.proofs.Common.{◌≡◌, ℕ, suc, ◌*◌, ◌≤◌, sym, ◌∙◌, ap, List, [], ◌∷◌, ◌++◌, length, true, arith, inl, inr, ⊎_elim}
 use Rattle.std.proofs.Math.Nat.{mul-le-mul}
 use Rattle.word_field.specs.Field.{FieldOps, IsField}
-use Rattle.monomial_order.specs.declared.terms.Term.{Term}
 use Rattle.monomial_order.specs.Monomial.{exponent, weighted_degree}
 use Rattle.monomial_order.specs.MonomialOrder.{MonomialOrder, IsMonomialOrder}
 use Rattle.monomial_order.specs.laws.Orders.{between_first, between_rest}

@@ -1,23 +1,20 @@
 -- A finished step: each lead of the ideal up to its degree is a multiple, and the quotient goes on to that degree.
-use Rattle.std.proofs.Common.{◌≡◌, ℕ, ◌+◌, ◌<◌, ◌≤◌, refl, sym, ◌∙◌, ap, subst, List, [], ◌∷◌, ◌++◌, length, length-append, arith, ◌⊎◌, inl, inr, ⊎_elim, get_or, Bool, true, false, cond}
+use Rattle.std.proofs.Common.{◌≡◌, ℕ, ◌+◌, ◌<◌, refl, sym, ◌∙◌, ap, subst, List, [], ◌∷◌, ◌++◌, length, length-append, arith, inl, inr, ⊎_elim, get_or, Bool, true, false, cond}
 use Rattle.std.proofs.lemmas.List.{length-map}
 use Rattle.std.specs.Prelude.{Contains, map, filter, nat_lt}
 use Rattle.std.proofs.lemmas.Bool.{ltb-false}
-use Rattle.monomial_order.specs.declared.terms.Term.{Term}
 use Rattle.monomial_order.specs.Monomial.{least_common_multiple, IsMultiple, AreCoprime, Exponents}
 use Rattle.monomial_order.specs.MonomialOrder.{MonomialOrder}
 use Rattle.monomial_order.specs.laws.Comparing.{le_or_not}
-use Rattle.monomial_order.specs.laws.Lists.{contains_here, contains_there, contains_cases, contains_none, contains_left, contains_right, contains_either}
+use Rattle.monomial_order.specs.laws.Lists.{contains_here, contains_there, contains_cases, contains_left, contains_right, contains_either}
 use Rattle.polynomials.specs.Polynomial.{Polynomial, IsHomogeneous, lead_monomial}
 use Rattle.polynomials.specs.Subalgebra.{Presented, IsPresentation}
 use Rattle.quotient_gb.specs.declared.basis.Basis.{Basis}
 use Rattle.quotient_gb.specs.declared.critical_pair.CriticalPair.{CriticalPair}
 use Rattle.quotient_gb.specs.declared.degree_step.DegreeStep.{DegreeStep}
-use Rattle.quotient_gb.specs.Combinations.{HasStandardRepresentation}
-use Rattle.quotient_gb.specs.Criterion.{HasStandardSPolynomial}
 use Rattle.quotient_gb.specs.IdealBasis.{HasStandardTail, IsIdealBasis, AreIdealLeads}
 use Rattle.quotient_gb.specs.CriticalPairs.{pair_degree, pair_at, IsCriticalPair, IsCoprimeOrListed, HasPairs, HasPairsAbove}
-use Rattle.quotient_gb.specs.DegreeStep.{all_members, IsBasisTo, IsStepAfter, IsLaterStep, IsFinishedStep, ReducesGeneratorsAt, ReducesPair, DividesLeads}
+use Rattle.quotient_gb.specs.DegreeStep.{all_members, IsBasisTo, IsLaterStep, IsFinishedStep, ReducesGeneratorsAt, ReducesPair, DividesLeads}
 use Rattle.quotient_gb.specs.Quotient.{QuotientState, IsQuotientOf}
 use Rattle.quotient_gb.proofs.Closing.{closed}
 use Rattle.quotient_gb.proofs.Listing.{listed_more}

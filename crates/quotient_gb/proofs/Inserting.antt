@@ -1,5 +1,5 @@
 -- A list with a member inserted at an index, or with a member replaced.
-use Rattle.std.proofs.Common.{◌≡◌, ℕ, zero, suc, ◌<◌, ◌≤◌, refl, sym, ◌∙◌, ap, subst, List, [], ◌∷◌, ◌++◌, length, arith, ◌⊎◌, inl, inr, ⊎_elim, get_or, slice_set}
+use Rattle.std.proofs.Common.{◌≡◌, ℕ, zero, suc, ◌<◌, ◌≤◌, refl, ap, subst, List, [], ◌∷◌, ◌++◌, length, arith, ◌⊎◌, inl, inr, ⊎_elim, get_or, slice_set}
 use Rattle.monomial_order.specs.Monomial.{Exponents}
 use Rattle.std.specs.Prelude.{Contains, map}
 use Rattle.std.specs.List.{insert}

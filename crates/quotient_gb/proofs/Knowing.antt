@@ -1,9 +1,8 @@
 -- What a quotient of a presentation says of its ideal.
-use Rattle.std.proofs.Common.{◌≡◌, ℕ, ◌<◌, ◌≤◌, sym, ◌∙◌, ap, subst, List, [], length, arith, ⊎_elim, false}
+use Rattle.std.proofs.Common.{◌≡◌, ℕ, ◌≤◌, sym, ◌∙◌, ap, subst, List, [], arith, ⊎_elim, false}
 use Rattle.polynomials.specs.laws.Coefficients.{found_monomial}
 use Rattle.std.proofs.lemmas.Bool.{true≢false}
 use Rattle.std.specs.Prelude.{Contains, map}
-use Rattle.monomial_order.specs.declared.terms.Term.{Term}
 use Rattle.monomial_order.specs.Monomial.{product, IsMonomial, Divides, Exponents}
 use Rattle.monomial_order.specs.laws.Monomial.{product_comm}
 use Rattle.monomial_order.specs.laws.Cofactors.{cofactor, Divides-trans, Divides-antisymm}

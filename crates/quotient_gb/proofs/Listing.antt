@@ -1,5 +1,5 @@
 -- Lists of critical pairs.
-use Rattle.std.proofs.Common.{◌≡◌, ℕ, ◌<◌, ◌≤◌, arith, subst, List, [], ◌∷◌, ◌++◌, ◌⊎◌, inl, inr, ⊎_elim}
+use Rattle.std.proofs.Common.{◌≡◌, ℕ, arith, List, [], ◌∷◌, ◌++◌, ◌⊎◌, inl, inr, ⊎_elim}
 use Rattle.monomial_order.specs.Monomial.{Exponents}
 use Rattle.std.specs.Prelude.{Contains}
 use Rattle.monomial_order.specs.MonomialOrder.{MonomialOrder}

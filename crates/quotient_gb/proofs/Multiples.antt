@@ -1,5 +1,5 @@
 -- Least common multiples and cofactors.
-use Rattle.std.proofs.Common.{◌≡◌, ℕ, ◌+◌, ◌≤◌, sym, ◌∙◌, ap, subst, List, arith, ⊎_elim}
+use Rattle.std.proofs.Common.{◌≡◌, ℕ, ◌+◌, ◌≤◌, sym, ◌∙◌, ap, subst, arith, ⊎_elim}
 use Rattle.monomial_order.specs.Monomial.{exponent, product, least_common_multiple as lcm, IsTrimmed, IsMonomial, Divides, AreCoprime, Exponents}
 use Rattle.monomial_order.specs.MonomialOrder.{MonomialOrder, IsMonomialOrder}
 use Rattle.monomial_order.specs.laws.Monomial.{exponent-product, IsTrimmed-product, IsMonomial-product, product_assoc, product_comm, length-product, exponent-least_common_multiple as exponent-lcm, IsTrimmed-least_common_multiple as IsTrimmed-lcm, IsMonomial-least_common_multiple as IsMonomial-lcm}

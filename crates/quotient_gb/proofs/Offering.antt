@@ -4,7 +4,6 @@ use Rattle.polynomials.specs.laws.Coefficients.{decreasing_leads, leads_is, minu
 use Rattle.std.specs.Prelude.{Contains, map}
 use Rattle.word_field.specs.Field.{IsValue}
 use Rattle.word_field.specs.laws.Field.{reduce-times, one-times}
-use Rattle.monomial_order.specs.declared.terms.Term.{Term}
 use Rattle.monomial_order.specs.laws.Comparing.{degree_falls}
 use Rattle.monomial_order.specs.Monomial.{IsMultiple, Exponents}
 use Rattle.polynomials.specs.Polynomial.{Polynomial, coefficient, term_of, times, scaled, minus, constant, first_coefficient, IsDecreasing, lead_monomial, degree_of}

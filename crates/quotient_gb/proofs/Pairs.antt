@@ -1,13 +1,11 @@
 -- S-polynomials with representations below: in both orders of a pair, of a member with itself, with a standard representation,
 -- and with coprime leads.
-use Rattle.std.proofs.Common.{◌≡◌, ◌≢◌, ℕ, zero, suc, ◌≤◌, ◌<◌, refl, sym, ◌∙◌, ap, subst, List, [], ◌∷◌, ⊎_elim, arith, length, get_or, true, false}
+use Rattle.std.proofs.Common.{◌≡◌, ◌≢◌, sym, ◌∙◌, ap, subst, List, [], ◌∷◌, ⊎_elim}
 use Rattle.polynomials.specs.laws.Coefficients.{nothing_at}
-use Rattle.std.specs.Prelude.{Contains, nat_lt}
-use Rattle.std.proofs.lemmas.Bool.{ltb-true, ltb-false}
+use Rattle.std.specs.Prelude.{Contains}
 use Rattle.std.specs.declared.cmp.Ordering.TheVariants.{Less}
 use Rattle.word_field.specs.Field.{FieldOps, IsField}
 use Rattle.word_field.specs.laws.Field.{reduce-plus, zero-plus-zero, negate-zero}
-use Rattle.monomial_order.specs.declared.terms.Term.{Term}
 use Rattle.monomial_order.specs.Monomial.{product, least_common_multiple as lcm, IsMonomial, AreCoprime, Exponents}
 use Rattle.monomial_order.specs.MonomialOrder.{MonomialOrder, IsMonomialOrder}
 use Rattle.monomial_order.specs.laws.Monomial.{product_comm, IsMonomial-least_common_multiple as IsMonomial-lcm, least_common_multiple_comm as lcm_comm}
@@ -26,7 +24,7 @@ use Rattle.quotient_gb.proofs.Combinations.{combines_same, combines_zero, combin
 use Rattle.quotient_gb.proofs.Criterion.{IsReducer, monomials, scaled_leads}
 
 module _ {E : Type 0} (K : FieldOps E) (F : IsField K) where
-  -- where a + b = c + d, a - c = d - b
+  -- if a + b = c + d, then a - c = d - b
   exchange : (a b c d : E) → K.plus a b ≡ K.plus c d → K.plus a (K.negate c) ≡ K.plus d (K.negate b)
   exchange a b c d h =
       sym (reduce-plus K F a (K.negate c)) ∙
@@ -69,16 +67,13 @@ module _ {E : Type 0} (K : FieldOps E) (F : IsField K) where
 
 module _ {E : Type 0} (K : FieldOps E) (F : IsField K) (O : MonomialOrder) (L : IsMonomialOrder O)
     (G : List (Polynomial E)) (HG : (g : Polynomial E) → Contains G g → IsReducer K O g) where
-  mono : (g : Polynomial E) → Contains G g → IsMonomial O.places (lead_monomial g)
-  mono g h = monomials K F O L G HG g h
-
   pub below_sym : (g h : Polynomial E) → HasRepresentationBelow K O G g h → HasRepresentationBelow K O G h g
   below_sym g h j u v k =
       let e = lcm_comm (lead_monomial h) (lead_monomial g) in
       subst (λ x. Combines K O G (Under O x) (s_polynomial K u h v g)) (sym e)
       (combines_same K F O L G (Under O (lcm (lead_monomial g) (lead_monomial h))) (negated K (s_polynomial K v g u h)) (s_polynomial K u h v g)
       (negated-minus K F (scaled K (term_of v K.one) g) (scaled K (term_of u K.one) h))
-      (combines_negated K F O L G mono (Under O (lcm (lead_monomial g) (lead_monomial h))) (s_polynomial K v g u h) (j v u (record { left_trimmed = k.right_trimmed; right_trimmed = k.left_trimmed; left = k.right ∙ e; right = k.left ∙ e }))))
+      (combines_negated K F O L G (monomials K F O L G HG) (Under O (lcm (lead_monomial g) (lead_monomial h))) (s_polynomial K v g u h) (j v u (record { left_trimmed = k.right_trimmed; right_trimmed = k.left_trimmed; left = k.right ∙ e; right = k.left ∙ e }))))
 
   pub below_self : (g : Polynomial E) → HasRepresentationBelow K O G g g
   below_self g u v k =
@@ -98,7 +93,7 @@ module _ {E : Type 0} (K : FieldOps E) (F : IsField K) (O : MonomialOrder) (L : 
         let M = lcm (lead_monomial g) (lead_monomial h) in
         let A = scaled K (term_of u K.one) g in
         let B = scaled K (term_of v K.one) h in
-        let mM = IsMonomial-lcm O.places (lead_monomial g) (lead_monomial h) (mono g hg) (mono h hh) in
+        let mM = IsMonomial-lcm O.places (lead_monomial g) (lead_monomial h) (monomials K F O L G HG g hg) (monomials K F O L G HG h hh) in
         let mu = divides_left u (lead_monomial g) O.places (subst (IsMonomial O.places) (sym eu) mM) tu in
         let mv = divides_left v (lead_monomial h) O.places (subst (IsMonomial O.places) (sym ev) mM) tv in
         let rg = HG g hg in
@@ -115,7 +110,7 @@ module _ {E : Type 0} (K : FieldOps E) (F : IsField K) (O : MonomialOrder) (L : 
 
     pub s_polynomial_poly : (u v : Exponents) → AreCofactors u (lead_monomial g) v (lead_monomial h) → IsPoly K O.places (s_polynomial K u g v h)
     s_polynomial_poly u v w =
-        let mM = IsMonomial-lcm O.places (lead_monomial g) (lead_monomial h) (mono g hg) (mono h hh) in
+        let mM = IsMonomial-lcm O.places (lead_monomial g) (lead_monomial h) (monomials K F O L G HG g hg) (monomials K F O L G HG h hh) in
         IsPoly-append K F O.places (scaled K (term_of u K.one) g) (negated K (scaled K (term_of v K.one) h))
         (IsPoly-scaled K F O.places (term_of u K.one) g (record { monomial = divides_left u (lead_monomial g) O.places (subst (IsMonomial O.places) (sym w.left) mM) w.left_trimmed; value = F.one_value }) (IsDecreasing_IsPoly K O g (HG g hg).decreasing))
         (IsPoly-negated K F O.places (scaled K (term_of v K.one) h)
@@ -127,7 +122,7 @@ module _ {E : Type 0} (K : FieldOps E) (F : IsField K) (O : MonomialOrder) (L : 
         ⊎_elim
         (λ z. combines_same K F O L G (Under O (lcm (lead_monomial g) (lead_monomial h))) [] (s_polynomial K u g v h) (λ m. sym (z m)) (combines_zero K F O L G (Under O (lcm (lead_monomial g) (lead_monomial h)))))
         (λ M. let lt = pair_below u v w M.0 M.1.nonzero in
-        combines_weaken K F O L G mono (AtMost O M.0) (Under O (lcm (lead_monomial g) (lead_monomial h))) (s_polynomial K u g v h)
+        combines_weaken K F O L G (monomials K F O L G HG) (AtMost O M.0) (Under O (lcm (lead_monomial g) (lead_monomial h))) (s_polynomial K u g v h)
         (λ m hm b. ⊎_elim (λ e. subst (λ x. O.compare x (lcm (lead_monomial g) (lead_monomial h)) ≡ Less) (sym e) lt) (λ less. L.total.trans m M.0 (lcm (lead_monomial g) (lead_monomial h)) less lt) b)
         (r u v w M.0 M.1))
         (zero_or_lead K F O L (s_polynomial K u g v h) (s_polynomial_poly u v w))
@@ -146,7 +141,7 @@ module _ {E : Type 0} (K : FieldOps E) (F : IsField K) (O : MonomialOrder) (L : 
       combines_plus K F O L G (Under O M) (scaled K t h) (times K p h)
       (combines_one K F O L G (Under O M) t h hp.0 hh
       (ap (λ x. O.compare x M) (product_comm t.at (lead_monomial h)) ∙ (ap (O.compare (product (lead_monomial h) t.at)) (sym e ∙ product_comm m (lead_monomial h)) ∙
-      (L.kept (lead_monomial h) t.at m (mono h hh).trimmed hp.0.monomial.trimmed hm.trimmed ∙ b.0))))
+      (L.kept (lead_monomial h) t.at m (monomials K F O L G HG h hh).trimmed hp.0.monomial.trimmed hm.trimmed ∙ b.0))))
       (tail_combines M m p h hh hm e hp.1 b.1)
 
   -- the product criterion
@@ -155,18 +150,18 @@ module _ {E : Type 0} (K : FieldOps E) (F : IsField K) (O : MonomialOrder) (L : 
       subst (λ x. Combines K O G (Under O (lcm (lead_monomial g) (lead_monomial h))) (s_polynomial K x g v h)) (sym is_u)
       (subst (λ x. Combines K O G (Under O (lcm (lead_monomial g) (lead_monomial h))) (s_polynomial K (lead_monomial h) g x h)) (sym is_v)
       (combines_same K F O L G (Under O (lcm (lead_monomial g) (lead_monomial h))) (minus K (times K p h) (times K q g)) (s_polynomial K (lead_monomial h) g (lead_monomial g) h) (λ m. sym (moved m))
-      (combines_minus K F O L G mono (Under O (lcm (lead_monomial g) (lead_monomial h))) (times K p h) (times K q g)
-      (tail_combines (lcm (lead_monomial g) (lead_monomial h)) (lead_monomial g) p h hh (mono g hg) (sym whole) pg.poly pg.below)
-      (tail_combines (lcm (lead_monomial g) (lead_monomial h)) (lead_monomial h) q g hg (mono h hh) (product_comm (lead_monomial h) (lead_monomial g) ∙ sym whole) ph.poly ph.below))))
+      (combines_minus K F O L G (monomials K F O L G HG) (Under O (lcm (lead_monomial g) (lead_monomial h))) (times K p h) (times K q g)
+      (tail_combines (lcm (lead_monomial g) (lead_monomial h)) (lead_monomial g) p h hh (monomials K F O L G HG g hg) (sym whole) pg.poly pg.below)
+      (tail_combines (lcm (lead_monomial g) (lead_monomial h)) (lead_monomial h) q g hg (monomials K F O L G HG h hh) (product_comm (lead_monomial h) (lead_monomial g) ∙ sym whole) ph.poly ph.below))))
     where
       whole : lcm (lead_monomial g) (lead_monomial h) ≡ product (lead_monomial g) (lead_monomial h)
-      whole = lcm_coprime (lead_monomial g) (lead_monomial h) (mono g hg).trimmed (mono h hh).trimmed co
+      whole = lcm_coprime (lead_monomial g) (lead_monomial h) (monomials K F O L G HG g hg).trimmed (monomials K F O L G HG h hh).trimmed co
 
       is_u : u ≡ lead_monomial h
-      is_u = product_cancel u (lead_monomial h) (lead_monomial g) w.left_trimmed (mono h hh).trimmed (w.left ∙ (whole ∙ product_comm (lead_monomial g) (lead_monomial h)))
+      is_u = product_cancel u (lead_monomial h) (lead_monomial g) w.left_trimmed (monomials K F O L G HG h hh).trimmed (w.left ∙ (whole ∙ product_comm (lead_monomial g) (lead_monomial h)))
 
       is_v : v ≡ lead_monomial g
-      is_v = product_cancel v (lead_monomial g) (lead_monomial h) w.right_trimmed (mono g hg).trimmed (w.right ∙ whole)
+      is_v = product_cancel v (lead_monomial g) (lead_monomial h) w.right_trimmed (monomials K F O L G HG g hg).trimmed (w.right ∙ whole)
 
       pg : IsParted K F O g
       pg = parted K F O L g (HG g hg)

@@ -1,11 +1,10 @@
 -- Members of lists by their indices.
-use Rattle.std.proofs.Common.{◌≡◌, ◌≢◌, ℕ, zero, suc, ◌<◌, ◌≤◌, refl, sym, ◌∙◌, ap, subst, List, [], ◌∷◌, ◌++◌, ◌⊎◌, inl, inr, ⊎_elim, length, arith, get_or, Bool, true, false}
+use Rattle.std.proofs.Common.{◌≡◌, ◌≢◌, ℕ, zero, suc, ◌<◌, ◌≤◌, refl, sym, ◌∙◌, ap, subst, List, [], ◌∷◌, ◌++◌, ⊎_elim, length, arith, get_or, Bool, true, false}
 use Rattle.std.proofs.lemmas.List.{length-map}
 use Rattle.std.proofs.lemmas.Bool.{eqb-true, eq-eqb, true≢false}
-use Rattle.std.specs.Prelude.{Contains, map, nat_eq}
-use Rattle.monomial_order.specs.declared.terms.Term.{Term}
+use Rattle.std.specs.Prelude.{map, nat_eq}
 use Rattle.monomial_order.specs.Monomial.{Divides, IsMultiple, Exponents}
-use Rattle.monomial_order.specs.laws.Lists.{contains_either, contains_here, contains_there, contains_cases, contains_map}
+use Rattle.monomial_order.specs.laws.Lists.{contains_either, contains_map}
 use Rattle.polynomials.specs.Polynomial.{Polynomial, lead_monomial}
 use Rattle.polynomials.specs.laws.ReducedBasis.{map_contains}
 use Rattle.quotient_gb.specs.Combinations.{HasLeadDivisor}

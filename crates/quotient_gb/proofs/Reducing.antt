@@ -1,12 +1,12 @@
 -- The steps of reducing a polynomial by a list.
-use Rattle.std.proofs.Common.{◌≡◌, ◌≢◌, ℕ, suc, ◌≤◌, ◌<◌, refl, sym, ◌∙◌, ap, subst, List, [], ◌∷◌, ◌++◌, ◌⊎◌, inl, inr, ⊎_elim, arith, length, get_or, append-nil, append_assoc, cond}
-use Rattle.polynomials.specs.laws.Coefficients.{nothing_at, single_term, scaled_small}
-use Rattle.std.specs.Prelude.{Contains, map}
+use Rattle.std.proofs.Common.{◌≡◌, ◌≢◌, ℕ, suc, ◌<◌, refl, sym, ◌∙◌, ap, subst, List, [], ◌∷◌, ◌++◌, ◌⊎◌, inl, inr, ⊎_elim, arith, append-nil, append_assoc, cond}
+use Rattle.polynomials.specs.laws.Coefficients.{single_term, scaled_small}
+use Rattle.std.specs.Prelude.{Contains}
 use Rattle.std.specs.declared.cmp.Ordering.TheVariants.{Less, Equal, Greater}
 use Rattle.word_field.specs.Field.{FieldOps, IsField, IsValue}
 use Rattle.word_field.specs.laws.Field.{zero-plus-zero, negate-zero, plus_four, negate-negate}
 use Rattle.monomial_order.specs.declared.terms.Term.{Term}
-use Rattle.monomial_order.specs.Monomial.{product, IsMonomial, IsTrimmed, Divides, Exponents}
+use Rattle.monomial_order.specs.Monomial.{product, IsMonomial, IsTrimmed, Exponents}
 use Rattle.monomial_order.specs.MonomialOrder.{MonomialOrder, IsMonomialOrder}
 use Rattle.monomial_order.specs.laws.Monomial.{product_comm}
 use Rattle.polynomials.specs.Polynomial.{Polynomial, coefficient, Same, term_of, scaled, negated, minus, IsTerm, IsBelow, IsDecreasing, IsLead, IsSmall, IsCanonical, AllAt, lead_monomial}
@@ -15,9 +15,7 @@ use Rattle.polynomials.specs.laws.Same.{same_refl, append_same, append_comm, coe
 use Rattle.polynomials.specs.laws.Decreasing.{IsDecreasing_IsPoly, IsLead_first, coefficient_first}
 use Rattle.monomial_order.specs.laws.Comparing.{not_below_self, greater_less}
 use Rattle.polynomials.specs.laws.Congruence.{minus_same, minus-append}
-use Rattle.polynomials.specs.laws.Terms.{IsDecreasing-scaled}
 use Rattle.monomial_order.specs.laws.Rank.{rank, rank_falls}
-use Rattle.monomial_order.specs.laws.Lists.{contains_map}
 use Rattle.polynomials.specs.laws.Degrees.{decreasing_all}
 use Rattle.quotient_gb.specs.Combinations.{HasLeadDivisor, AtMost, Combines}
 use Rattle.quotient_gb.specs.Remainder.{IsRemainderBy}
@@ -26,7 +24,7 @@ use Rattle.quotient_gb.proofs.Combinations.{combines_same, combines_zero, combin
 use Rattle.quotient_gb.proofs.Criterion.{IsReducer, monomials, coefficient-front, scaled_leads}
 use Rattle.quotient_gb.proofs.Pairs.{scaled_monic}
 
--- what the loop keeps: p is a combination, the work, which is at most the lead of p, and what is done, which is irreducible
+-- what the loop maintains: p is a combination, the work, which is at most the lead of p, and what is done, which is irreducible
 pub record IsReducing {E : Type 0} (K : FieldOps E) (O : MonomialOrder) (G : List (Polynomial E)) (p work done : Polynomial E) : Type 0 where
   pub combines : Combines K O G (AtMost O (lead_monomial p)) (minus K p (work ++ done))
   pub at_most : AllAt (AtMost O (lead_monomial p)) work

@@ -1,5 +1,5 @@
 -- The two steps of a reduction over a presentation, and what its loop maintains.
-use Rattle.std.proofs.Common.{◌≡◌, ◌≢◌, ◌≤◌, ℕ, refl, sym, ◌∙◌, ap, subst, List, [], ◌∷◌, ◌++◌, ◌⊎◌}
+use Rattle.std.proofs.Common.{◌≡◌, ◌≢◌, ◌≤◌, refl, sym, ◌∙◌, ap, subst, List, [], ◌∷◌, ◌++◌, ◌⊎◌}
 use Rattle.polynomials.specs.laws.Coefficients.{scaled_small}
 use Rattle.std.specs.Prelude.{Contains}
 use Rattle.word_field.specs.Field.{IsValue}
@@ -9,11 +9,11 @@ use Rattle.monomial_order.specs.laws.Monomial.{product_comm}
 use Rattle.polynomials.specs.Polynomial.{Polynomial, coefficient, Same, term_of, scaled, IsSmall, IsBelow, lead_monomial}
 use Rattle.polynomials.specs.laws.Same.{append_same}
 use Rattle.polynomials.specs.Subalgebra.{Presented, IsPresentation}
-use Rattle.quotient_gb.specs.Combinations.{HasLeadDivisor, AtMost}
+use Rattle.quotient_gb.specs.Combinations.{HasLeadDivisor}
 use Rattle.quotient_gb.specs.Remainder.{IsCanonicalIn, IsReducerIn, AreReducersIn, IsLeadReduction, IsLeadSplit, IsRemainderIn}
 use Rattle.quotient_gb.proofs.Criterion.{IsReducer, monic_monomial}
 use Rattle.quotient_gb.proofs.Multiples.{divides_left}
-use Rattle.quotient_gb.proofs.Reducing.{IsReducing, negate_not_zero, one_kept, rest_below, moved_sum, moved_monomials, by_monomial, cancel_term, cancel_small, cancel_below, reducing_start, reducing_cancel, reducing_move, reducing_end}
+use Rattle.quotient_gb.proofs.Reducing.{IsReducing, negate_not_zero, one_kept, rest_below, moved_sum, moved_monomials, by_monomial, cancel_small, cancel_below, reducing_start, reducing_cancel, reducing_move, reducing_end}
 
 -- the multiple of g by the term c * u is canonical
 pub record IsFactor {E : Type 0} (P : Presented E) (g : Polynomial E) (u : Exponents) (c : E) : Type 0 where
@@ -22,6 +22,9 @@ pub record IsFactor {E : Type 0} (P : Presented E) (g : Polynomial E) (u : Expon
   pub small : IsSmall P.order (scaled P.field (term_of u c) g)
 
 module _ {E : Type 0} (P : Presented E) (H : IsPresentation P) where
+  monic_reducer : (g : Polynomial E) → IsReducerIn P g → IsReducer P.field P.order g
+  monic_reducer g h = record { decreasing = h.canonical.decreasing; monic = h.monic }
+
   pub reducer_monomial : (g : Polynomial E) → IsReducerIn P g → IsMonomial P.order.places (lead_monomial g)
   reducer_monomial g h = monic_monomial P.field H.field P.order H.order g h.canonical.decreasing h.monic
 
@@ -96,26 +99,23 @@ pub record IsReducingIn {E : Type 0} (P : Presented E) (G : List (Polynomial E))
   pub reducing : IsReducing P.field P.order G a work done
 
 module _ {E : Type 0} (P : Presented E) (H : IsPresentation P) (G : List (Polynomial E)) (HG : AreReducersIn P G) (a : Polynomial E) where
-  reducer : (g : Polynomial E) → Contains G g → IsReducer P.field P.order g
-  reducer g k = let h = HG g k in record { decreasing = h.canonical.decreasing; monic = h.monic }
-
   pub start : IsCanonicalIn P a → IsReducingIn P G a a []
-  start k = record { work_canonical = k; done_canonical = record { decreasing = tt; small = tt }; reducing = reducing_start P.field H.field P.order H.order G reducer a k.decreasing }
+  start k = record { work_canonical = k; done_canonical = record { decreasing = tt; small = tt }; reducing = reducing_start P.field H.field P.order H.order G (λ g k. monic_reducer P H g (HG g k)) a k.decreasing }
 
   module _ (work done : Polynomial E) (h : IsReducingIn P G a work done) where
     pub after_reduction : (g next : Polynomial E) → work ≢ [] → Contains G g → IsLeadReduction P work g next → IsReducingIn P G a next done
     after_reduction g next some k r = record {
       work_canonical = r.canonical;
       done_canonical = h.done_canonical;
-      reducing = reducing_cancel P.field H.field P.order H.order G reducer a work done next g r.term h.reducing some k r.is_term r.at r.sum r.below;
+      reducing = reducing_cancel P.field H.field P.order H.order G (λ g k. monic_reducer P H g (HG g k)) a work done next g r.term h.reducing some k r.is_term r.at r.sum r.below;
     }
 
     pub after_split : (rest more : Polynomial E) → work ≢ [] → (¬ HasLeadDivisor G (lead_monomial work)) → IsLeadSplit P work done rest more → IsReducingIn P G a rest more
     after_split rest more some none r = record {
       work_canonical = r.rest_canonical;
       done_canonical = r.more_canonical;
-      reducing = reducing_move P.field H.field P.order H.order G reducer a work done rest more h.reducing some none r.sum r.below r.monomials;
+      reducing = reducing_move P.field H.field P.order H.order G (λ g k. monic_reducer P H g (HG g k)) a work done rest more h.reducing some none r.sum r.below r.monomials;
     }
 
     pub finished : work ≡ [] → IsRemainderIn P G a done
-    finished e = record { canonical = h.done_canonical; remainder = reducing_end P.field H.field P.order H.order G reducer a work done h.reducing e h.done_canonical }
+    finished e = record { canonical = h.done_canonical; remainder = reducing_end P.field H.field P.order H.order G (λ g k. monic_reducer P H g (HG g k)) a work done h.reducing e h.done_canonical }

@@ -3,7 +3,6 @@ use Rattle.std.proofs.Common.{◌≡◌, ◌≢◌, ℕ, sym, ◌∙◌, ap, sub
 use Rattle.polynomials.specs.laws.Coefficients.{decreasing_leads, nothing_at}
 use Rattle.std.specs.Prelude.{Contains}
 use Rattle.word_field.specs.Field.{FieldOps}
-use Rattle.monomial_order.specs.declared.terms.Term.{Term}
 use Rattle.monomial_order.specs.MonomialOrder.{MonomialOrder}
 use Rattle.monomial_order.specs.laws.Lists.{contains_cases, contains_none}
 use Rattle.polynomials.specs.Polynomial.{Polynomial, coefficient, IsDecreasing, IsHomogeneous, degree_of, lead_monomial}

@@ -1,8 +1,8 @@
 -- The S-polynomial of two members.
+use Rattle.quotient_gb.proofs.Criterion.{reducer}
 use Rattle.std.proofs.Common.{◌≡◌, ℕ, ◌≤◌, ◌<◌, length, get_or, sym, ◌∙◌, ap, subst, List, [], ◌∷◌, arith}
 use Rattle.std.proofs.lemmas.List.{length-map}
 use Rattle.std.specs.Prelude.{Contains, map, slice_index_or}
-use Rattle.monomial_order.specs.declared.terms.Term.{Term}
 use Rattle.monomial_order.specs.Monomial.{IsMonomial, least_common_multiple, Exponents}
 use Rattle.monomial_order.specs.MonomialOrder.{MonomialOrder}
 use Rattle.monomial_order.specs.laws.Monomial.{IsMonomial-least_common_multiple}
@@ -22,7 +22,7 @@ use Rattle.quotient_gb.specs.declared.degree_step.DegreeStep.{DegreeStep}
 use Rattle.quotient_gb.specs.CriticalPairs.{pair_degree, IsCriticalPair}
 use Rattle.quotient_gb.specs.DegreeStep.{all_members, IsStepAfter, ReducesPair}
 use Rattle.quotient_gb.specs.IdealBasis.{IsMonicMember}
-use Rattle.quotient_gb.proofs.Bases.{reducer, lead_is, s_polynomial_inside}
+use Rattle.quotient_gb.proofs.Bases.{lead_is, s_polynomial_inside}
 use Rattle.quotient_gb.proofs.Combinations.{combines_same}
 use Rattle.quotient_gb.proofs.Places.{lead_at, at_default}
 use Rattle.quotient_gb.proofs.Multiples.{divides_left}

@@ -1,12 +1,11 @@
 -- The members of a basis with those of the step after it.
-use Rattle.std.proofs.Common.{◌≡◌, ◌≢◌, ℕ, ◌+◌, ◌<◌, ◌≤◌, refl, sym, ◌∙◌, ap, subst, List, [], ◌∷◌, ◌++◌, length, arith, ◌⊎◌, inl, inr, ⊎_elim, get_or, slice_set}
+use Rattle.std.proofs.Common.{◌≡◌, ℕ, ◌+◌, ◌<◌, ◌≤◌, refl, sym, ◌∙◌, ap, subst, List, [], ◌++◌, length, arith, ◌⊎◌, ⊎_elim, get_or, slice_set}
 use Rattle.std.proofs.lemmas.List.{length-map}
 use Rattle.polynomials.specs.laws.Coefficients.{small_lead, found_monomial}
 use Rattle.std.specs.Prelude.{Contains, map}
 use Rattle.std.specs.List.{insert}
 use Rattle.std.specs.declared.cmp.Ordering.TheVariants.{Less}
 use borrow.Author.Count.{below_more}
-use Rattle.monomial_order.specs.declared.terms.Term.{Term}
 use Rattle.monomial_order.specs.Monomial.{IsMonomial, Divides, IsMultiple, Exponents}
 use Rattle.monomial_order.specs.laws.Cofactors.{Divides-refl}
 use Rattle.monomial_order.specs.laws.Comparing.{equal_or_not, le_or_not, three_ways, proper_divisor, divisor_degree}
@@ -19,9 +18,10 @@ use Rattle.quotient_gb.specs.declared.basis.Basis.{Basis}
 use Rattle.quotient_gb.specs.declared.degree_step.DegreeStep.{DegreeStep}
 use Rattle.quotient_gb.specs.IdealBasis.{IsMonicMember, AreIdealLeads, HasStandardTail}
 use Rattle.quotient_gb.specs.DegreeStep.{IsPart, all_members, IsBasisTo, IsStepAfter, IsLaterStep, DividesLeads, HasReducedTail, HasTails}
-use Rattle.quotient_gb.specs.Remainder.{IsCanonicalIn, IsReducerIn, AreReducersIn}
+use Rattle.quotient_gb.specs.Remainder.{IsReducerIn, AreReducersIn}
+use Rattle.quotient_gb.proofs.Bases.{lead_is}
 use Rattle.quotient_gb.proofs.Inserting.{insert_there, insert_cases, map_insert, rise_insert, rise_append, set_cases, set_length, set_here, set_before, map_set}
-use Rattle.quotient_gb.proofs.Places.{not_below, map_append, lead_at, multiple_more}
+use Rattle.quotient_gb.proofs.Places.{not_below, map_append, multiple_more}
 use Rattle.quotient_gb.proofs.Tails.{member_leads, standard_tail}
 
 module _ {E : Type 0} (P : Presented E) (H : IsPresentation P) where
@@ -72,15 +72,12 @@ module _ {F E : Type 0} (P : Presented E) (H : IsPresentation P) (b : Basis F E)
   minimal x y hx hy d = ⊎_elim
       (λ i. ⊎_elim (λ j. h.before.2.basis.leads.minimal (lead_monomial x) (lead_monomial y) (contains_map lead_monomial b.members.items x i) (contains_map lead_monomial b.members.items y j) d)
       (λ j. absurd (h.fresh y j (lead_monomial x, contains_map lead_monomial b.members.items x i, d))) (contains_either b.members.items found y hy))
-      (λ i. ⊎_elim (λ j. absurd (let l = lower_degree y j in let e = h.degrees x i in let q = divisor_degree P.order H.order (lead_monomial x) (lead_monomial y) (mono x hx).trimmed (mono y hy).trimmed d in omega arith))
+      (λ i. ⊎_elim (λ j. absurd (let l = lower_degree y j in let e = h.degrees x i in let q = divisor_degree P.order H.order (lead_monomial x) (lead_monomial y) (lead_is P H G member x hx).trimmed (lead_is P H G member y hy).trimmed d in omega arith))
       (λ j. same (h.degrees x i) (h.degrees y j)) (contains_either b.members.items found y hy))
       (contains_either b.members.items found x hx)
     where
-      mono : (g : Polynomial E) → Contains G g → IsMonomial P.order.places (lead_monomial g)
-      mono g k = lead_monomial_of P H (lead_monomial g) (member_leads P H g (member g k))
-
       same : P.order.degree (lead_monomial x) ≡ s.degree → P.order.degree (lead_monomial y) ≡ s.degree → lead_monomial x ≡ lead_monomial y
-      same ex ey = ⊎_elim (λ e. e) (λ ne. absurd (let p = proper_divisor P.order H.order (lead_monomial x) (lead_monomial y) (mono y hy) (mono x hx).trimmed d ne in let q = p.1 in omega arith)) (equal_or_not (lead_monomial x) (lead_monomial y))
+      same ex ey = ⊎_elim (λ e. e) (λ ne. absurd (let p = proper_divisor P.order H.order (lead_monomial x) (lead_monomial y) (lead_is P H G member y hy) (lead_is P H G member x hx).trimmed d ne in let q = p.1 in omega arith)) (equal_or_not (lead_monomial x) (lead_monomial y))
 
   pub ideal_leads : DividesLeads P b s → AreIdealLeads P s.degree (map lead_monomial G)
   ideal_leads v = record {

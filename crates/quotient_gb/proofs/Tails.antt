@@ -1,16 +1,15 @@
 -- A member whose tail is reduced.
 use Rattle.std.proofs.Common.{◌≡◌, refl, ◌≢◌, ℕ, ◌≤◌, sym, ◌∙◌, ap, subst, List, [], ◌∷◌, ◌++◌, ⊎_elim, arith}
-use Rattle.polynomials.specs.laws.Coefficients.{sum_nonzero, single_term, found_monomial, decreasing_leads, monic_some, small_lead}
+use Rattle.polynomials.specs.laws.Coefficients.{sum_nonzero, single_term, found_monomial, decreasing_leads, monic_some}
 use Rattle.std.specs.Prelude.{Contains, map}
 use Rattle.std.specs.declared.cmp.Ordering.TheVariants.{Less}
 use Rattle.word_field.specs.Field.{FieldOps, IsField}
 use Rattle.word_field.specs.laws.Field.{negate-plus}
 use Rattle.monomial_order.specs.declared.terms.Term.{Term}
-use Rattle.monomial_order.specs.Monomial.{IsMonomial, IsMultiple, Exponents}
-use Rattle.monomial_order.specs.MonomialOrder.{MonomialOrder}
+use Rattle.monomial_order.specs.Monomial.{IsMultiple, Exponents}
 use Rattle.monomial_order.specs.laws.Comparing.{degree_falls, degree_one, one_below}
-use Rattle.monomial_order.specs.laws.Lists.{contains_none, contains_map}
-use Rattle.polynomials.specs.Polynomial.{Polynomial, coefficient, Same, minus, IsBelow, IsDecreasing, IsLead, IsHomogeneous, AllAt, lead_monomial}
+use Rattle.monomial_order.specs.laws.Lists.{contains_none}
+use Rattle.polynomials.specs.Polynomial.{Polynomial, coefficient, Same, minus, IsDecreasing, IsLead, IsHomogeneous, lead_monomial}
 use Rattle.polynomials.specs.Subalgebra.{Presented, IsPresentation, IsGenerator, LeadsIdeal}
 use Rattle.polynomials.specs.laws.Ring.{coefficient-append}
 use Rattle.polynomials.specs.laws.Decreasing.{IsDecreasing_unique, IsLead_first, coefficient_first, IsDecreasing_IsPoly}

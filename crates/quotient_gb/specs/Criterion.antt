@@ -1,7 +1,6 @@
 -- S-polynomials, and the premises of the criterion to a degree.
 use Rattle.std.specs.Prelude.{◌≡◌, ℕ, ◌≤◌, List, Contains}
 use Rattle.word_field.specs.Field.{FieldOps}
-use Rattle.monomial_order.specs.declared.terms.Term.{Term}
 use Rattle.monomial_order.specs.Monomial.{product, least_common_multiple, IsTrimmed, Exponents}
 use Rattle.monomial_order.specs.MonomialOrder.{MonomialOrder}
 use Rattle.polynomials.specs.Polynomial.{Polynomial, term_of, scaled, minus, IsHomogeneous, lead_monomial}

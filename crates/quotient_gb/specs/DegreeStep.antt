@@ -1,7 +1,6 @@
 -- The step from the basis to a degree to the basis to the next one: facts of private functions.
 use Rattle.std.specs.Prelude.{◌≡◌, ◌≢◌, ℕ, ◌+◌, ◌≤◌, ◌<◌, ◌++◌, List, [], length, map, slice_index_or, Contains}
 use Rattle.monomial_order.specs.Limits.{degree_max}
-use Rattle.monomial_order.specs.declared.terms.Term.{Term}
 use Rattle.monomial_order.specs.Monomial.{IsMultiple, Exponents}
 use Rattle.polynomials.specs.Polynomial.{Polynomial, coefficient, IsHomogeneous, lead_monomial}
 use Rattle.polynomials.specs.Subalgebra.{Presented, LeadsIdeal}

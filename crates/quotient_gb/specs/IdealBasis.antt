@@ -1,6 +1,5 @@
 -- The reduced basis of the ideal to a degree, and the minimal leads of the ideal.
 use Rattle.std.specs.Prelude.{◌≡◌, ◌≢◌, ℕ, ◌≤◌, List, map, Contains}
-use Rattle.monomial_order.specs.declared.terms.Term.{Term}
 use Rattle.monomial_order.specs.Monomial.{Divides, IsMultiple, Exponents}
 use Rattle.polynomials.specs.Polynomial.{Polynomial, coefficient, IsDecreasing, lead_monomial}
 use Rattle.polynomials.specs.Ideal.{InIdeal}

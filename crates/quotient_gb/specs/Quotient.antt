@@ -1,7 +1,6 @@
 -- What a quotient knows of the ideal of a presentation.
 use Rattle.std.specs.Prelude.{◌≡◌, ℕ, ◌≤◌, ◌++◌, List, Bool, true, map}
 use Rattle.monomial_order.specs.Limits.{degree_max}
-use Rattle.monomial_order.specs.declared.terms.Term.{Term}
 use Rattle.monomial_order.specs.Monomial.{IsMultiple, Exponents}
 use Rattle.polynomials.specs.Polynomial.{Polynomial, lead_monomial}
 use Rattle.polynomials.specs.Subalgebra.{Presented, LeadsIdeal}

@@ -1,4 +1,4 @@
-use Rattle.std.proofs.Common.{◌≡◌, ◌+◌, ◌≤◌, ℕ, sym, subst, arith}
+use Rattle.std.proofs.Common.{◌+◌, ◌≤◌, ℕ, sym, subst, arith}
 use Rattle.monomial_order.specs.Monomial.{IsMonomial, least_common_multiple}
 use Rattle.monomial_order.specs.laws.Monomial.{IsMonomial-least_common_multiple}
 use Rattle.quotient_gb.proofs.Multiples.{degree-lcm}

@@ -1,4 +1,4 @@
-use Rattle.std.proofs.Common.{◌<◌, ◌≤◌, ℕ, length, sym, subst, arith}
+use Rattle.std.proofs.Common.{length, sym, subst}
 use Rattle.quotient_gb.specs.CriticalPairs.{HasPairs}
 use Rattle.quotient_gb.proofs.Listing.{no_pairs}
 use Rattle.quotient_gb.proofs.Places.{below_stop}

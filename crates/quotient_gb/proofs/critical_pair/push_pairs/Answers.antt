@@ -4,7 +4,6 @@ use borrow.Author.Count.{below_more}
 use Rattle.monomial_order.specs.laws.Comparing.{le_or_not}
 use Rattle.monomial_order.specs.laws.Lists.{contains_left, contains_right, contains_here}
 use Rattle.quotient_gb.specs.CriticalPairs.{IsCriticalPair, IsCoprimeOrListed, pair_at}
-use Rattle.quotient_gb.specs.DegreeStep.{IsPart}
 use Rattle.quotient_gb.proofs.Listing.{listed_more, push_cases}
 use Rattle.quotient_gb.proofs.Places.{below_stop, not_below}
 use Rattle.quotient_gb.proofs.critical_pair.push_pairs.Goals as goal

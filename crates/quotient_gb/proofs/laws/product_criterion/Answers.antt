@@ -1,4 +1,4 @@
-use Rattle.quotient_gb.proofs.Bases.{reducer}
+use Rattle.quotient_gb.proofs.Criterion.{reducer}
 use Rattle.quotient_gb.proofs.Pairs.{below_coprime}
 use Rattle.quotient_gb.proofs.laws.product_criterion.Goals as goal
 

@@ -1,4 +1,4 @@
-use Rattle.std.proofs.Common.{◌≡◌, ◌++◌, [], refl, sym, ap, subst}
+use Rattle.std.proofs.Common.{◌++◌, [], refl, sym, ap, subst}
 use Rattle.polynomials.specs.Polynomial.{lead_monomial}
 use Rattle.poly_core.specs.Presentation.{presented}
 use Rattle.quotient_gb.specs.Combinations.{HasLeadDivisor}

@@ -1,4 +1,4 @@
-use Rattle.std.proofs.Common.{◌≡◌, ◌≤◌, refl, sym, ◌∙◌, ap, subst}
+use Rattle.std.proofs.Common.{◌≤◌, refl, sym, ◌∙◌, ap, subst}
 use Rattle.polynomials.specs.laws.Coefficients.{monic_some}
 use Rattle.monomial_order.specs.Monomial.{product, IsMonomial, Divides}
 use Rattle.monomial_order.specs.laws.Monomial.{product_comm}

@@ -1,4 +1,4 @@
-use Rattle.std.proofs.Common.{◌≡◌, ◌<◌, ◌≤◌, ◌+◌, sym, ◌∙◌, ap, subst, ℕ, [], length, arith, get_or}
+use Rattle.std.proofs.Common.{◌≡◌, ◌<◌, ◌+◌, sym, ◌∙◌, ap, subst, ℕ, length, arith, get_or}
 use borrow.Author.Count.{below_more}
 use Rattle.monomial_order.specs.laws.Lists.{contains_at}
 use Rattle.poly_core.specs.Presentation.{presented}

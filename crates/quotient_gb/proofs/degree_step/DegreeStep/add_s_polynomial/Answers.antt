@@ -1,4 +1,4 @@
-use Rattle.std.proofs.Common.{◌≤◌, ◌≡◌, ℕ, sym, ◌∙◌, arith, rules}
+use Rattle.std.proofs.Common.{◌≤◌, ◌≡◌, ℕ, sym, arith, rules}
 use Rattle.monomial_order.specs.Monomial.{least_common_multiple}
 use Rattle.polynomials.specs.Polynomial.{lead_monomial}
 use Rattle.poly_core.specs.Presentation.{presented}

@@ -1,4 +1,4 @@
-use Rattle.std.proofs.Common.{◌≡◌, ◌∙◌, ap}
+use Rattle.std.proofs.Common.{◌∙◌}
 use Rattle.poly_core.specs.Presentation.{presented}
 use Rattle.quotient_gb.proofs.Finishing.{divides}
 use Rattle.quotient_gb.proofs.Steps.{empty_step}

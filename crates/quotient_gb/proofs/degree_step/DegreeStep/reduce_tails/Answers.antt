@@ -1,5 +1,4 @@
-use Rattle.std.proofs.Common.{◌≡◌, ◌<◌, ◌≤◌, sym, ◌∙◌, ap, subst, refl, ℕ, length, arith}
-use Rattle.std.proofs.lemmas.List.{length-map}
+use Rattle.std.proofs.Common.{◌<◌, ◌≤◌, subst, refl, length}
 use Rattle.poly_core.specs.Presentation.{presented}
 use Rattle.quotient_gb.proofs.Places.{below_stop}
 use Rattle.quotient_gb.proofs.Steps.{set_step, set_tails, divides_same, found_count}

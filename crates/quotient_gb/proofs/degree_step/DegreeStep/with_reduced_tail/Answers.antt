@@ -1,7 +1,6 @@
-use Rattle.std.proofs.Common.{◌≡◌, refl, sym, ◌∙◌, ap, subst, [], ◌∷◌}
+use Rattle.std.proofs.Common.{refl, sym, ◌∙◌, ap, subst, []}
 use Rattle.polynomials.specs.laws.Coefficients.{monic_some}
 use Rattle.std.specs.Prelude.{Contains}
-use Rattle.monomial_order.specs.laws.Lists.{contains_right}
 use Rattle.polynomials.specs.Polynomial.{lead_monomial}
 use Rattle.poly_core.specs.Presentation.{presented}
 use Rattle.quotient_gb.specs.DegreeStep.{all_members}

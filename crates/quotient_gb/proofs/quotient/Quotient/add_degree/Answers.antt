@@ -1,4 +1,4 @@
-use Rattle.std.proofs.Common.{◌≡◌, ◌++◌, ◌∙◌, refl, sym, subst, length}
+use Rattle.std.proofs.Common.{◌∙◌, refl, sym, subst, length}
 use Rattle.std.specs.Prelude.{Contains}
 use Rattle.poly_core.specs.Presentation.{presented}
 use Rattle.quotient_gb.specs.CriticalPairs.{HasPairs}

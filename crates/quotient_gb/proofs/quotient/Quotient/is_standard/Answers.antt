@@ -1,5 +1,4 @@
-use Rattle.std.proofs.Common.{◌∙◌, sym, ap, subst, length, [], get_or, rules}
-use Rattle.std.specs.Prelude.{Contains}
+use Rattle.std.proofs.Common.{◌∙◌, sym, ap, subst, length, [], rules}
 use Rattle.monomial_order.specs.Monomial.{Divides}
 use Rattle.quotient_gb.specs.IdealBasis.{AreIdealLeads}
 use Rattle.quotient_gb.proofs.Knowing.{standard, not_standard, quotient_leads}
