@@ -93,9 +93,10 @@ module _ {F E : Type 0} (P : Presented E) (H : IsPresentation P) (b : Basis F E)
 
   pub step_leads : (n : Exponents) → Contains s.found.leads.items n → IsMonomial P.order.places n × (P.order.degree n ≤ 65535)
   step_leads n k =
-      let r = map_contains lead_monomial found n (subst (λ ms. Contains ms n) h.leads k) in
-      (subst (IsMonomial P.order.places) r.2 (lead_monomial_of P H (lead_monomial r.0) (member_leads P H r.0 (h.members r.0 r.1))),
-      let e = h.degrees r.0 r.1 in let q = h.small in let d : P.order.degree (lead_monomial r.0) ≡ P.order.degree n = ap P.order.degree r.2 in omega arith)
+      let r = map_contains lead_monomial found n (subst (λ ms. Contains ms n) h.leads k) in (
+        subst (IsMonomial P.order.places) r.2 (lead_monomial_of P H (lead_monomial r.0) (member_leads P H r.0 (h.members r.0 r.1))),
+        let e = h.degrees r.0 r.1 in let q = h.small in let d : P.order.degree (lead_monomial r.0) ≡ P.order.degree n = ap P.order.degree r.2 in omega arith,
+      )
 
   -- the leads of both lists
   pub all_leads : DividesLeads P b s → (n : Exponents) → Contains (b.leads.items ++ s.found.leads.items) n → IsMonomial P.order.places n × (P.order.degree n ≤ 30000)

@@ -1,5 +1,5 @@
 //! Monic members of the ideal, each with its lead.
-ghost use Rattle.std.specs.Prelude.{◌≡◌, ◌<◌, ℕ, ◌≤◌, List, [], length, Contains, IfSome, IsNone, slice_index_or};
+ghost use Rattle.std.specs.Prelude.{◌≡◌, ◌<◌, ℕ, ◌≤◌, [], length, Contains, IfSome, IsNone, slice_index_or};
 ghost use Rattle.monomial_order.specs.Limits.{exponent_max};
 ghost use Rattle.std.specs.declared.cmp.Ordering.TheVariants.{Less};
 ghost use Rattle.monomial_order.specs.Monomial.{IsMonomial, Divides, Exponents};

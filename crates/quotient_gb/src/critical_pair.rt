@@ -1,5 +1,5 @@
 //! Critical pairs: two leads of a basis, at the degree of their least common multiple.
-ghost use Rattle.std.specs.Prelude.{◌≡◌, ℕ, ◌+◌, ◌≤◌, ◌<◌, List, [], true, length, filter, nat_lt, IfOk, OnOk, IfSome, IsNone, Contains, slice_index_or};
+ghost use Rattle.std.specs.Prelude.{◌≡◌, ℕ, ◌+◌, ◌≤◌, ◌<◌, [], true, length, filter, nat_lt, IfOk, OnOk, IfSome, IsNone, Contains, slice_index_or};
 ghost use Rattle.monomial_order.specs.Limits.{degree_max};
 ghost use Rattle.monomial_order.specs.Monomial.{IsMonomial, AreCoprime, Exponents};
 ghost use Rattle.quotient_gb.specs.CriticalPairs.{HasPairs, pair_at};

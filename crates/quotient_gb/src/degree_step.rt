@@ -1,15 +1,14 @@
 //! The step to the next degree: its new members are made aside, before the basis changes.
-ghost use Rattle.std.specs.Prelude.{◌≡◌, ◌≢◌, ℕ, ◌+◌, ◌≤◌, ◌<◌, ◌⊎◌, ◌++◌, List, [], false, true, length, map, OnOk, IfOk, Contains, slice_index_or};
+ghost use Rattle.std.specs.Prelude.{◌≡◌, ◌≢◌, ℕ, ◌+◌, ◌≤◌, ◌<◌, ◌⊎◌, [], false, true, length, map, OnOk, IfOk, Contains, slice_index_or};
 ghost use Rattle.monomial_order.specs.Limits.{degree_max};
-ghost use Rattle.monomial_order.specs.declared.terms.Term.{Term};
 ghost use Rattle.monomial_order.specs.Monomial.{IsMultiple};
-ghost use Rattle.polynomials.specs.Polynomial.{IsCanonical, IsHomogeneous, degree_of, lead_monomial};
+ghost use Rattle.polynomials.specs.Polynomial.{IsCanonical, degree_of, lead_monomial};
 ghost use Rattle.polynomials.specs.Ideal.{InIdeal};
 ghost use Rattle.poly_core.specs.Presentation.{presented, AreCanonicalGenerators};
 ghost use Rattle.polynomials.specs.Subalgebra.{IsPresentation};
 ghost use Rattle.quotient_gb.specs.Combinations.{HasStandardRepresentation};
 ghost use Rattle.quotient_gb.specs.CriticalPairs.{HasPairsAbove, IsCriticalPair};
-ghost use Rattle.quotient_gb.specs.DegreeStep.{all_members, IsBasisTo, IsStepAfter, IsLaterStep, IsFinishedStep, ReducesGeneratorsAt, ReducesPair, DividesLeads, HasReducedTail, HasTails};
+ghost use Rattle.quotient_gb.specs.DegreeStep.{all_members, IsBasisTo, IsStepAfter, IsLaterStep, IsFinishedStep, ReducesGeneratorsAt, ReducesPair, DividesLeads, HasReducedTail};
 ghost use Rattle.quotient_gb.specs.IdealBasis.{IsMonicMember};
 ghost use Rattle.quotient_gb.specs.Remainder.{IsCanonicalIn};
 ghost use Rattle.quotient_gb.specs.declared.critical_pair.CriticalPair.{CriticalPair};
@@ -19,8 +18,7 @@ use crate::critical_pair::CriticalPair;
 use crate::remainder::remainder;
 use crate::s_polynomial::s_polynomial;
 use monomial_order::{Memory, Order};
-use poly_core::Poly;
-use poly_core::Presentation;
+use poly_core::{Poly, Presentation};
 use std::alloc::Global;
 use word_field::Field;
 

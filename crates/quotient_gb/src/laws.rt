@@ -1,7 +1,6 @@
 //! Laws of the ideal to a degree, as contracts of calls that do nothing.
 ghost use Rattle.std.specs.Prelude.{◌≡◌, ℕ, ◌+◌, ◌≤◌, List, Contains};
 ghost use Rattle.monomial_order.specs.Monomial.{AreCoprime, Exponents};
-ghost use Rattle.monomial_order.specs.declared.terms.Term.{Term};
 ghost use Rattle.polynomials.specs.Polynomial.{Polynomial, IsPoly, IsLead, IsHomogeneous, IsDecreasing, lead_monomial};
 ghost use Rattle.polynomials.specs.Ideal.{InIdeal};
 ghost use Rattle.polynomials.specs.Subalgebra.{Presented, IsPresentation, LeadsIdeal, IsNormalForm};

@@ -1,5 +1,5 @@
 //! The ideal of a presentation to a degree.
-ghost use Rattle.std.specs.Prelude.{◌≡◌, ℕ, ◌≤◌, ◌<◌, ◌+◌, ◌↔◌, List, max, true, false, IsTrue, IfOk, OnOk, OnErr, Contains};
+ghost use Rattle.std.specs.Prelude.{◌≡◌, ◌≤◌, ◌<◌, ◌+◌, ◌↔◌, max, true, false, IsTrue, IfOk, OnOk, OnErr, Contains};
 ghost use Rattle.monomial_order.specs.Limits.{degree_max};
 ghost use Rattle.monomial_order.specs.Monomial.{IsMonomial, IsMultiple, Exponents};
 ghost use Rattle.polynomials.specs.Polynomial.{degree_of};
@@ -15,8 +15,7 @@ use crate::critical_pair::{CriticalPair, critical_pairs, retain_above};
 use crate::degree_step::DegreeStep;
 use crate::remainder::remainder;
 use monomial_order::{Memory, Monomial, Order};
-use poly_core::Poly;
-use poly_core::Presentation;
+use poly_core::{Poly, Presentation};
 use std::alloc::Global;
 use std::marker::{Model, PhantomData};
 use word_field::Field;
@@ -38,11 +37,11 @@ impl<F: Field, O: Order> Model for Quotient<F, O> {
     ghost Value = { QuotientState F.Elem };
 
     ghost view = { λ q. record {
-        degree = q.degree;
-        leads = q.basis.leads.items;
-        members = q.basis.members.items;
-        pairs = q.pairs.items;
-        closed = q.closed
+      degree = q.degree;
+      leads = q.basis.leads.items;
+      members = q.basis.members.items;
+      pairs = q.pairs.items;
+      closed = q.closed;
     } };
 
     // Nothing finds out so far that a quotient is closed.

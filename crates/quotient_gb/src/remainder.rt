@@ -1,5 +1,5 @@
 //! Reduction of a polynomial by monic members of the ideal.
-ghost use Rattle.std.specs.Prelude.{◌≡◌, ◌≢◌, ◌++◌, [], Contains, IfOk, IfSome, IsNone};
+ghost use Rattle.std.specs.Prelude.{◌≢◌, ◌++◌, [], Contains, IfOk, IfSome, IsNone};
 ghost use Rattle.monomial_order.specs.Monomial.{Divides};
 ghost use Rattle.polynomials.specs.Polynomial.{lead_monomial};
 ghost use Rattle.poly_core.specs.Presentation.{presented};
@@ -10,8 +10,7 @@ ghost use Rattle.quotient_gb.specs.Remainder.{IsCanonicalIn, IsReducerIn, AreRed
 
 use crate::basis::Basis;
 use monomial_order::{Memory, Monomial, Order};
-use poly_core::Poly;
-use poly_core::Presentation;
+use poly_core::{Poly, Presentation};
 use std::alloc::Global;
 use word_field::Field;
 
@@ -32,9 +31,7 @@ fn reduce_lead<F: Field, O: Order>(
     let Some(first) = a.lead() else {
         unreachable!()
     };
-    let Some(top) = g.lead() else {
-        unreachable!()
-    };
+    let Some(top) = g.lead() else { unreachable!() };
     let Some(u) = first.at.quotient(alloc, &top.at)? else {
         unreachable!()
     };
@@ -60,7 +57,12 @@ fn split_off_lead<F: Field, O: Order>(
     let Some(first) = a.lead() else {
         unreachable!()
     };
-    let minus = Poly::term(alloc, &p.field, first.at.copy(alloc)?, p.field.neg(first.by))?;
+    let minus = Poly::term(
+        alloc,
+        &p.field,
+        first.at.copy(alloc)?,
+        p.field.neg(first.by),
+    )?;
     let plus = Poly::term(alloc, &p.field, first.at.copy(alloc)?, first.by)?;
     let rest = Poly::add(alloc, &p.field, &p.order, a, &minus)?;
     let more = Poly::add(alloc, &p.field, &p.order, done, &plus)?;

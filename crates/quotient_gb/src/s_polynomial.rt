@@ -1,5 +1,5 @@
 //! S-polynomials.
-ghost use Rattle.std.specs.Prelude.{◌≡◌, ◌≢◌, ℕ, ◌≤◌, List, [], IfOk};
+ghost use Rattle.std.specs.Prelude.{◌≡◌, ◌≢◌, ◌≤◌, [], IfOk};
 ghost use Rattle.monomial_order.specs.Limits.{exponent_max};
 ghost use Rattle.monomial_order.specs.Monomial.{product, least_common_multiple, IsTrimmed, IsMonomial, Divides, Exponents};
 ghost use Rattle.polynomials.specs.Polynomial.{Same, term_of, scaled, lead_monomial};
@@ -9,8 +9,7 @@ ghost use Rattle.quotient_gb.specs.Criterion.{AreCofactors, s_polynomial};
 ghost use Rattle.quotient_gb.specs.Remainder.{IsCanonicalIn, IsReducerIn};
 
 use monomial_order::{Memory, Monomial, Order};
-use poly_core::Poly;
-use poly_core::Presentation;
+use poly_core::{Poly, Presentation};
 use std::alloc::Global;
 use word_field::Field;
 

@@ -8,9 +8,7 @@ ghost use Rattle.polynomials.specs.Subalgebra.{IsPresentation};
 
 use crate::quotient::Quotient;
 use monomial_order::{Memory, Monomial, Order, Row, Tie, WeightOrder, WordOrder};
-use poly_core::Names;
-use poly_core::Poly;
-use poly_core::Presentation;
+use poly_core::{Names, Poly, Presentation};
 use std::alloc::Global;
 use std::process::Abort;
 use std::test::Fail;
@@ -116,8 +114,8 @@ fn has_leads(
     leads: &[Exponents],
 ) -> Result<bool, Fail>
     requires presentation { IsPresentation (presented (λ f. residues f.modulus) weight_order_of p.now) }
-    requires ideal {
-        AreCanonicalGenerators (residues p.now.field.modulus) (weight_order_of p.now.order) p.now.ideal.items }
+    requires ideal { AreCanonicalGenerators (residues p.now.field.modulus) (weight_order_of p.now.order)
+        p.now.ideal.items }
     requires degree { degree ≤ 30000 }
 {
     let mut quotient = Quotient::new(alloc, p)?;
