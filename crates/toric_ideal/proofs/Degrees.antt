@@ -10,18 +10,18 @@ use Rattle.monomial_order.specs.Words.{image_of, order_of, AreLetters, IsMinimal
 use Rattle.monomial_order.specs.WordLaws.{degree_image, degree_x, image_x, word_laws}
 use Rattle.monomial_order.specs.ReducibleLaws.{IsMultiple}
 use Rattle.toric_ideal.specs.declared.rule.Rule.{Rule}
-use Rattle.toric_ideal.specs.Rising.{Rises}
+use Rattle.toric_ideal.specs.Increasing.{Rises}
 use Rattle.toric_ideal.specs.Listing.{AgreeTo, AreRules, IsLeastOrZero}
-use Rattle.toric_ideal.specs.Finding.{AreFound}
+use Rattle.toric_ideal.specs.Enumeration.{AreMinimalWords}
 use Rattle.toric_ideal.proofs.Members.{append_cases, contains_mapped}
-use Rattle.toric_ideal.proofs.RisingLists.{rises_append}
-use Rattle.toric_ideal.proofs.FindingWords.{degree_none}
+use Rattle.toric_ideal.proofs.IncreasingLists.{rises_append}
+use Rattle.toric_ideal.proofs.EnumerationLemmas.{degree_none}
 
 module _ (L : Letters) (H : AreLetters L) (zeros : List (List ℕ)) where
   -- at degree 0 there is no rule
   pub rules_none : ((z : List ℕ) → Contains zeros z → IsTrimmed z × (1 ≤ weighted_degree L.degrees z)) → AreRules L zeros 0 []
   rules_none hz = record {
-    rise = tt;
+    increasing = tt;
     minimal = λ r c. absurd (contains_none r c);
     degree = λ r c. absurd (contains_none r c);
     least = λ r c. absurd (contains_none r c);
@@ -46,12 +46,12 @@ module _ (L : Letters) (H : AreLetters L) (zeros : List (List ℕ)) where
           (λ n. let x = some_exponent z t n in let a = x.2 in let b = d x.0 in omega arith) (equal_or_not z [])
 
   -- the rules of the next degree follow
-  pub rules_more : (d : ℕ) (rules next : List Rule) → AreRules L zeros d rules → AreFound L zeros (suc d) (map (λ r. r.word) next) →
+  pub rules_more : (d : ℕ) (rules next : List Rule) → AreRules L zeros d rules → AreMinimalWords L zeros (suc d) (map (λ r. r.word) next) →
       ((w : List ℕ) → IsMinimalReducible (IsMultiple zeros) L w → (order_of L).degree w ≡ suc d → Contains (map (λ r. r.word) next) w) →
       ((r : Rule) → Contains next r → IsLeastOrZero zeros L (image_of L r.word) r.least) → AreRules L zeros (suc d) (rules ++ next)
   rules_more d rules next R F complete least = record {
-    rise = subst (Rises (order_of L)) (sym (map-append (λ r. r.word) rules next))
-        (rises_append (order_of L) (word_laws L H) (map (λ r. r.word) rules) (map (λ r. r.word) next) R.rise F.rise
+    increasing = subst (Rises (order_of L)) (sym (map-append (λ r. r.word) rules next))
+        (rises_append (order_of L) (word_laws L H) (map (λ r. r.word) rules) (map (λ r. r.word) next) R.increasing F.increasing
         (λ k m c e.
         let a = contains_mapped (λ (r : Rule). r.word) rules k c in
         let da = R.degree a.0 a.1 in
@@ -112,7 +112,7 @@ module _ (L : Letters) (H : AreLetters L) (d : ℕ) where
 
     pub rules_agree : (rules : List Rule) → AreRules L old d rules → AreRules L new d rules
     rules_agree rules R = record {
-      rise = R.rise;
+      increasing = R.increasing;
       minimal = λ r c. minimal_there r.word (R.degree r c) (R.minimal r c);
       degree = R.degree;
       least = λ r c. least_there r.word (R.degree r c) r.least (R.least r c);

@@ -10,7 +10,7 @@ use Rattle.monomial_order.specs.Lists.{contains_cases, contains_none}
 use Rattle.monomial_order.specs.Words.{image, image_of, lead_degrees, order_of, variables, AreLetters, IsWord, Letters}
 use Rattle.monomial_order.specs.ImageLaws.{length-variables, variable_monomial}
 use Rattle.monomial_order.specs.WordLaws.{image_same}
-use Rattle.toric_ideal.specs.Leads.{letters, AreLeads}
+use Rattle.toric_ideal.specs.Leads.{letters, AreLetterLeads}
 use Rattle.toric_ideal.specs.Alphabet.{letters_of, IsAlphabet}
 use Rattle.toric_ideal.specs.declared.alphabet.Alphabet.{Alphabet}
 
@@ -19,7 +19,7 @@ positive_from [] h d c = absurd (contains_none d c)
 positive_from (x ∷ ds) h d c =
     ⊎_elim (λ e. subst (λ y. 1 ≤ y) e (between_first 1 30000 x ds h).0) (λ k. positive_from ds (between_rest 1 30000 x ds h) d k) (contains_cases x ds d c)
 
-pub leads_letters : (xs : List ℕ) (leads : List (List ℕ)) → all_between 1 30000 xs ≡ true → AreLeads xs leads → AreLetters (letters xs leads)
+pub leads_letters : (xs : List ℕ) (leads : List (List ℕ)) → all_between 1 30000 xs ≡ true → AreLetterLeads xs leads → AreLetters (letters xs leads)
 leads_letters xs leads h k = record {
   positive = positive_from xs h;
   leads = λ m c. (k m c).monomial;

@@ -5,7 +5,7 @@ use Rattle.std.specs.declared.cmp.Ordering.TheVariants.{Less}
 use Rattle.monomial_order.specs.MonomialOrder.{MonomialOrder, IsMonomialOrder}
 use Rattle.monomial_order.specs.Comparing.{not_below_self}
 use Rattle.monomial_order.specs.Lists.{contains_at, contains_here, contains_there}
-use Rattle.toric_ideal.specs.Rising.{Rises}
+use Rattle.toric_ideal.specs.Increasing.{Rises}
 use Rattle.toric_ideal.proofs.Members.{append_cases, contains_take}
 
 module _ {A : Type 0} (R : A → A → Type 0) where

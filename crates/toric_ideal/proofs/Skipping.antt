@@ -5,7 +5,7 @@ use Rattle.monomial_order.specs.MonomialLaws.{exponent-product}
 use Rattle.monomial_order.specs.Cofactors.{cofactor, length-product_right}
 use Rattle.monomial_order.specs.Comparing.{le_or_not}
 use Rattle.monomial_order.specs.ImageLaws.{variable_trimmed}
-use Rattle.toric_ideal.specs.Finding.{Skips}
+use Rattle.toric_ideal.specs.LeastWords.{Skips}
 
 pub variable_here : (i : ℕ) → exponent (variable i) i ≡ 1
 variable_here zero = refl

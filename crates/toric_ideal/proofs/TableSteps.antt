@@ -8,7 +8,8 @@ use Rattle.toric_ideal.specs.declared.rule.Rule.{Rule}
 use Rattle.toric_ideal.specs.declared.table.Table.{Table}
 use Rattle.toric_ideal.specs.Alphabet.{letters_of, IsAlphabet}
 use Rattle.toric_ideal.specs.Listing.{AreRules, IsLeastOrZero}
-use Rattle.toric_ideal.specs.Tables.{AreNext, AreNextRules, CanGrow, IsComplete, IsGrown, IsListed, IsRuleOf, IsSameBut}
+use Rattle.toric_ideal.specs.Enumeration.{AreNextRules, AreNextWords, HasAllNextWords}
+use Rattle.toric_ideal.specs.Tables.{CanGrow, HasSameLetters, IsGrown, IsListed, IsRuleOf}
 use Rattle.toric_ideal.proofs.LetterLemmas.{alphabet_letters}
 use Rattle.toric_ideal.proofs.Members.{append_cases}
 use Rattle.toric_ideal.proofs.Degrees.{rules_more}
@@ -16,7 +17,7 @@ use Rattle.toric_ideal.proofs.Degrees.{rules_more}
 -- a table on its way to a degree
 pub record IsGrowing (from table : Table) (degree : ℕ) : Type 0 where
   pub listed : IsListed table
-  pub same : IsSameBut from table
+  pub same : HasSameLetters from table
   pub within : table.degree ≤ degree
 
 pub growing_start : (t : Table) (d : ℕ) → IsListed t → t.degree ≤ d → IsGrowing t t d
@@ -57,16 +58,16 @@ rules_next t words i rules w r l e F h = record {
       (λ n. absurd (contains_none s n)) (contains_cases r [] s k)) (append_cases rules (r ∷ []) s c);
 }
 
-pub rules_end : (t : Table) (words : List (List ℕ)) (i : ℕ) (rules : List Rule) → length words ≤ i → AreRulesSoFar t words i rules → AreNext t words → IsComplete t words → AreNextRules t rules
+pub rules_end : (t : Table) (words : List (List ℕ)) (i : ℕ) (rules : List Rule) → length words ≤ i → AreRulesSoFar t words i rules → AreNextWords t words → HasAllNextWords t words → AreNextRules t rules
 rules_end t words i rules l F next all =
     let e : words ≡ map (λ r. r.word) rules = sym (F.words_are ∙ take_all words i l) in
-    record { next = subst (AreNext t) e next; all = subst (IsComplete t) e all; least = F.least }
+    record { next = subst (AreNextWords t) e next; all = subst (HasAllNextWords t) e all; least = F.least }
 
 -- the table of the next degree, from what it has
 pub grown : (t u : Table) (next : List Rule) → CanGrow t → AreNextRules t next → u.alphabet ≡ t.alphabet → u.zeros.items ≡ t.zeros.items → u.degree ≡ suc t.degree → u.rules.items ≡ t.rules.items ++ next → IsGrown t u
 grown t u next G N a z d r =
     let rules : AreRules (letters_of t.alphabet) t.zeros.items (suc t.degree) (t.rules.items ++ next) =
-    rules_more (letters_of t.alphabet) (alphabet_letters t.alphabet G.listed.alphabet) t.zeros.items t.degree t.rules.items next G.listed.rules N.next N.all (λ r c. (N.least r c).least) in
+    rules_more (letters_of t.alphabet) (alphabet_letters t.alphabet G.listed.alphabet) t.zeros.items t.degree t.rules.items next G.listed.rules N.next (λ w m d. N.all w (record { minimal = m; degree = d })) (λ r c. (N.least r c).least) in
     record {
       same = record { letters = ap letters_of a; zeros = z };
       degree = d;

@@ -8,10 +8,10 @@ abbrev pub letters : List ℕ → List (List ℕ) → Letters
 letters degrees leads = record { degrees = degrees; leads = leads }
 
 -- a monomial in the x of a degree from 1 to 30000
-pub record IsLead (degrees : List ℕ) (m : List ℕ) : Type 0 where
+pub record IsLetterLead (degrees : List ℕ) (m : List ℕ) : Type 0 where
   pub monomial : IsMonomial (length degrees) m
   pub positive : 1 ≤ weighted_degree degrees m
   pub small : weighted_degree degrees m ≤ 30000
 
-abbrev pub AreLeads : List ℕ → List (List ℕ) → Type 0
-AreLeads degrees leads = (m : List ℕ) → Contains leads m → IsLead degrees m
+abbrev pub AreLetterLeads : List ℕ → List (List ℕ) → Type 0
+AreLetterLeads degrees leads = (m : List ℕ) → Contains leads m → IsLetterLead degrees m

@@ -2,7 +2,7 @@
 ghost use Rattle.std.specs.Prelude.{◌≡◌, true, IfOk};
 ghost use Rattle.monomial_order.specs.Ranges.{all_between};
 ghost use Rattle.toric_ideal.specs.Alphabet.{IsAlphabet};
-ghost use Rattle.toric_ideal.specs.Leads.{AreLeads};
+ghost use Rattle.toric_ideal.specs.Leads.{AreLetterLeads};
 
 use crate::growing::copy_monomials;
 use monomial_order::{Memory, Monomial, Order, WordOrder};
@@ -22,7 +22,7 @@ impl Alphabet {
         leads: Vec<Monomial>,
     ) -> Result<Alphabet, Memory>
         requires degrees { all_between 1 30000 x_degrees.now ≡ true }
-        requires leads { AreLeads x_degrees.now leads.items }
+        requires leads { AreLetterLeads x_degrees.now leads.items }
         ensures degrees { IfOk result (λ a. a.order.x_degrees.items ≡ x_degrees.now) }
         ensures leads { IfOk result (λ a. a.leads.items ≡ leads.items) }
         ensures alphabet { IfOk result IsAlphabet }

@@ -5,9 +5,10 @@ ghost use Rattle.monomial_order.specs.Monomial.{exponent, product, variable, Div
 ghost use Rattle.monomial_order.specs.Words.{order_of, image_of, IsWord};
 ghost use Rattle.monomial_order.specs.ReducibleLaws.{IsMultiple};
 ghost use Rattle.toric_ideal.specs.Alphabet.{letters_of, IsAlphabet};
+ghost use Rattle.toric_ideal.specs.Increasing.{IsComparable};
 
 use crate::alphabet::Alphabet;
-use crate::imaged::Imaged;
+use crate::word_with_image::WordWithImage;
 use monomial_order::{Memory, Monomial, Order};
 use std::alloc::Global;
 
@@ -21,7 +22,7 @@ pub(crate) fn letter(alloc: Global, place: usize) -> Result<Monomial, Memory>
     Monomial::from_places(alloc, exponents.as_slice())
 }
 
-/// The word without one letter that stands in it.
+/// The word without one of its letters.
 fn without(alloc: Global, w: &Monomial, letter: &Monomial) -> Result<Monomial, Memory>
     requires { Divides letter.now w.now }
     ensures cofactor { IfOk result (λ k. product letter.now k ≡ w.now) }
@@ -56,8 +57,7 @@ impl Alphabet {
 
     pub(crate) fn degree(&self, w: &Monomial) -> u32
         requires alphabet { IsAlphabet self.now }
-        requires word { IsWord (letters_of self.now) w.now }
-        requires small { (order_of (letters_of self.now)).degree w.now ≤ 65535 }
+        requires word { IsComparable (order_of (letters_of self.now)) w.now }
         ensures { result ≡ (order_of (letters_of self.now)).degree w.now }
     {
         self.order.degree(w)
@@ -65,10 +65,8 @@ impl Alphabet {
 
     pub(crate) fn is_less(&self, v: &Monomial, w: &Monomial) -> bool
         requires alphabet { IsAlphabet self.now }
-        requires left { IsWord (letters_of self.now) v.now }
-        requires right { IsWord (letters_of self.now) w.now }
-        requires left_small { (order_of (letters_of self.now)).degree v.now ≤ 65535 }
-        requires right_small { (order_of (letters_of self.now)).degree w.now ≤ 65535 }
+        requires left { IsComparable (order_of (letters_of self.now)) v.now }
+        requires right { IsComparable (order_of (letters_of self.now)) w.now }
         ensures { IsTrue result ↔ ((order_of (letters_of self.now)).compare v.now w.now ≡ Less) }
     {
         self.order.compare(v, w).is_lt()
@@ -89,13 +87,17 @@ impl Alphabet {
     }
 
     /// The letter at a place, with its image.
-    pub(crate) fn letter_with_image(&self, alloc: Global, place: usize) -> Result<Imaged, Memory>
+    pub(crate) fn letter_with_image(
+        &self,
+        alloc: Global,
+        place: usize,
+    ) -> Result<WordWithImage, Memory>
         requires alphabet { IsAlphabet self.now }
         requires place { place < (order_of (letters_of self.now)).places }
         ensures word { IfOk result (λ l. l.word ≡ variable place) }
         ensures image { IfOk result (λ l. l.image ≡ image_of (letters_of self.now) (variable place)) }
     {
-        Ok(Imaged {
+        Ok(WordWithImage {
             word: letter(alloc, place)?,
             image: self.letter_image(alloc, place)?,
         })
@@ -104,8 +106,7 @@ impl Alphabet {
     /// The image of a word.
     pub(crate) fn image(&self, alloc: Global, w: &Monomial) -> Result<Monomial, Memory>
         requires alphabet { IsAlphabet self.now }
-        requires word { IsWord (letters_of self.now) w.now }
-        requires small { (order_of (letters_of self.now)).degree w.now ≤ 65535 }
+        requires word { IsComparable (order_of (letters_of self.now)) w.now }
         ensures { IfOk result (λ m. m ≡ image_of (letters_of self.now) w.now) }
     {
         let mut rest = w.copy(alloc)?;

@@ -1,7 +1,7 @@
 use Rattle.std.proofs.Common.{◌≡◌, ◌+◌, suc, sym, ◌∙◌, subst, take, arith, ⊎_elim}
 use Rattle.std.specs.Prelude.{Contains}
 use Rattle.monomial_order.specs.Monomial.{Divides}
-use Rattle.toric_ideal.proofs.Tests.{no_from, not_true}
+use Rattle.toric_ideal.proofs.Results.{no_from, not_true}
 use Rattle.toric_ideal.proofs.Members.{take_next, take_whole}
 use Rattle.toric_ideal.proofs.letters.is_multiple.Goals as goal
 

@@ -2,14 +2,14 @@ use Rattle.std.proofs.Common.{◌≡◌, ◌+◌, ◌-◌, ◌≤◌, ◌∙◌,
 use Rattle.monomial_order.specs.Monomial.{exponent, variable, product, Divides}
 use Rattle.toric_ideal.specs.Alphabet.{letters_of}
 use Rattle.toric_ideal.proofs.LetterLemmas.{alphabet_letters}
-use Rattle.toric_ideal.proofs.Images.{image_fits, imaged_next, imaged_start, last_divides, rest_falls, IsImagedSoFar}
+use Rattle.toric_ideal.proofs.ImageLoop.{image_fits, imaged_next, imaged_start, last_divides, rest_falls, IsImagedSoFar}
 use Rattle.toric_ideal.proofs.alphabet.Alphabet.image.Goals as goal
 
 pub letters-init : goal.letters-init
 letters-init c =
     let L = letters_of c.args.self.now in
     subst (λ x. IsImagedSoFar L c.args.w.now c.in_ok-rest.rest x) (sym c.one-image.ensures)
-    (subst (λ x. IsImagedSoFar L c.args.w.now x []) (sym c.in_ok-rest.ensures.same) (imaged_start L (alphabet_letters c.args.self.now c.requires.alphabet) c.args.w.now c.requires.word))
+    (subst (λ x. IsImagedSoFar L c.args.w.now x []) (sym c.in_ok-rest.ensures.same) (imaged_start L (alphabet_letters c.args.self.now c.requires.alphabet) c.args.w.now c.requires.word.monomial))
 
 pub without-requires : goal.without-requires
 without-requires c =
@@ -25,7 +25,7 @@ times-requires c =
     let e : product (variable i) c.in_ok-next.next ≡ c.letters.rest = ap (λ x. product x c.in_ok-next.next) (sym c.in_ok-letter.ensures) ∙ c.in_ok-next.ensures.cofactor in
     record {
       fits = subst (λ x. (j : ℕ) → exponent c.letters.image j + exponent x j ≤ 65535) (sym c.in_ok-letter_image.ensures)
-          (image_fits L (alphabet_letters c.args.self.now c.requires.alphabet) c.args.w.now c.letters.rest c.letters.image c.in_ok-next.next i c.letters.invariant last c.in_ok-next.ensures.trimmed e c.requires.small);
+          (image_fits L (alphabet_letters c.args.self.now c.requires.alphabet) c.args.w.now c.letters.rest c.letters.image c.in_ok-next.next i c.letters.invariant last c.in_ok-next.ensures.trimmed e c.requires.word.small);
     }
 
 pub letters-smaller : goal.letters-smaller

@@ -2,7 +2,7 @@ use Rattle.monomial_order.specs.Words.{order_of}
 use Rattle.monomial_order.specs.WordLaws.{word_laws}
 use Rattle.toric_ideal.specs.Alphabet.{letters_of}
 use Rattle.toric_ideal.proofs.LetterLemmas.{alphabet_letters}
-use Rattle.toric_ideal.proofs.Tests.{no_from}
+use Rattle.toric_ideal.proofs.Results.{no_from}
 use Rattle.toric_ideal.proofs.LeastWords.{lesser_first, lesser_second}
 use Rattle.toric_ideal.proofs.alphabet.Alphabet.lesser.Goals as goal
 

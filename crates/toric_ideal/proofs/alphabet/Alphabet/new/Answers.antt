@@ -3,14 +3,14 @@ use Rattle.std.specs.Prelude.{map, Contains}
 use Rattle.monomial_order.specs.Monomial.{weighted_degree}
 use Rattle.monomial_order.specs.ImageLaws.{weighted_front}
 use Rattle.monomial_order.specs.Lists.{contains_at}
-use Rattle.toric_ideal.specs.Leads.{AreLeads, IsLead}
+use Rattle.toric_ideal.specs.Leads.{AreLetterLeads, IsLetterLead}
 use Rattle.toric_ideal.proofs.alphabet.Alphabet.new.Goals as goal
 
 -- the lead at an index, of a list that is also kept elsewhere
-lead_at : (xs : List ℕ) (leads items : List (List ℕ)) (i : ℕ) (m : List ℕ) → items ≡ leads → AreLeads xs leads → i < length items → m ≡ get_or items i m → IsLead xs m
+lead_at : (xs : List ℕ) (leads items : List (List ℕ)) (i : ℕ) (m : List ℕ) → items ≡ leads → AreLetterLeads xs leads → i < length items → m ≡ get_or items i m → IsLetterLead xs m
 lead_at xs leads items i m e h l q = h m (subst (λ ms. Contains ms m) e (subst (Contains items) (sym q) (contains_at items i m l)))
 
-in_front : (xs ss ys m : List ℕ) → xs ≡ ys → IsLead ys m → weighted_degree (xs ++ ss) m ≡ weighted_degree ys m
+in_front : (xs ss ys m : List ℕ) → xs ≡ ys → IsLetterLead ys m → weighted_degree (xs ++ ss) m ≡ weighted_degree ys m
 in_front xs ss ys m e h = weighted_front xs ss m (subst (λ zs. length m ≤ length zs) (sym e) h.monomial.within) ∙ ap (λ zs. weighted_degree zs m) e
 
 map_push : (f : List ℕ → ℕ) (ms : List (List ℕ)) (i : ℕ) (m : List ℕ) → i < length ms → m ≡ get_or ms i m → map f (take i ms) ++ f m ∷ [] ≡ map f (take (suc i) ms)

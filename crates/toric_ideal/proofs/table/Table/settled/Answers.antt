@@ -2,8 +2,8 @@ use Rattle.std.proofs.Common.{◌≡◌, ◌∙◌, ◌++◌, ℕ, List, take, d
 use Rattle.std.proofs.lemmas.Result.{IfOk-weaker}
 use Rattle.monomial_order.specs.MonomialOrder.{MonomialOrder, IsMonomialOrder}
 use Rattle.toric_ideal.specs.declared.table.Table.{Table}
-use Rattle.toric_ideal.specs.Leads.{AreLeads}
-use Rattle.toric_ideal.specs.Rising.{AreComparable, IsSorted}
+use Rattle.toric_ideal.specs.Leads.{AreLetterLeads}
+use Rattle.toric_ideal.specs.Increasing.{AreComparable, IsSorted}
 use Rattle.toric_ideal.specs.Listing.{IsSettled}
 use Rattle.toric_ideal.specs.Tables.{IsParted, IsRelisted, IsSettledTable}
 use Rattle.toric_ideal.proofs.OtherLeads.{leads_comparable, settled_is, settled_leads, settled_parted}
@@ -24,26 +24,26 @@ sorted-requires g c =
     let t = c.args.self.now in
     let O = g.O.Order.order c.args.o.now in
     let back = c.split_at.ensures.back in
-    subst (AreComparable O) (sym (c.split_at.ensures.back ∙ ap (drop c.args.below) c.as_slice.ensures.value))
-    (leads_comparable O t.alphabet.order.x_degrees.items t.alphabet.leads.items c.args.below (g.met.O.Order.laws c.args.o.now) c.requires.order c.requires.parted.alphabet.are_leads)
+    subst (AreComparable O) (sym (c.split_at.ensures.back ∙ ap (drop c.args.settled_count) c.as_slice.ensures.value))
+    (leads_comparable O t.alphabet.order.x_degrees.items t.alphabet.leads.items c.args.settled_count (g.met.O.Order.laws c.args.o.now) c.requires.order c.requires.parted.alphabet.are_leads)
 
 pub relisted-requires-clause-leads : goal.relisted-requires-clause-leads
 relisted-requires-clause-leads g c =
     let t = c.args.self.now in
     let O = g.O.Order.order c.args.o.now in
-    let front : c.in_ok-leads.leads.items ≡ take c.args.below t.alphabet.leads.items = c.in_ok-leads.ensures ∙ (c.split_at.ensures.front ∙ ap (take c.args.below) c.as_slice.ensures.value) in
-    let e : c.append.new.self.items ≡ take c.args.below t.alphabet.leads.items ++ c.in_ok-last.last.items = c.in_ok-append.ensures.items ∙ ap (λ xs. xs ++ c.in_ok-last.last.items) front in
-    let s : IsSorted O (drop c.args.below t.alphabet.leads.items) c.in_ok-last.last.items =
-    subst (λ xs. IsSorted O xs c.in_ok-last.last.items) (c.split_at.ensures.back ∙ ap (drop c.args.below) c.as_slice.ensures.value) c.in_ok-last.ensures in
-    subst (AreLeads t.alphabet.order.x_degrees.items) (sym e) (settled_leads O t.alphabet.order.x_degrees.items t.alphabet.leads.items c.in_ok-last.last.items c.args.below c.requires.parted.alphabet.are_leads s)
+    let front : c.in_ok-leads.leads.items ≡ take c.args.settled_count t.alphabet.leads.items = c.in_ok-leads.ensures ∙ (c.split_at.ensures.front ∙ ap (take c.args.settled_count) c.as_slice.ensures.value) in
+    let e : c.append.new.self.items ≡ take c.args.settled_count t.alphabet.leads.items ++ c.in_ok-last.last.items = c.in_ok-append.ensures.items ∙ ap (λ xs. xs ++ c.in_ok-last.last.items) front in
+    let s : IsSorted O (drop c.args.settled_count t.alphabet.leads.items) c.in_ok-last.last.items =
+    subst (λ xs. IsSorted O xs c.in_ok-last.last.items) (c.split_at.ensures.back ∙ ap (drop c.args.settled_count) c.as_slice.ensures.value) c.in_ok-last.ensures in
+    subst (AreLetterLeads t.alphabet.order.x_degrees.items) (sym e) (settled_leads O t.alphabet.order.x_degrees.items t.alphabet.leads.items c.in_ok-last.last.items c.args.settled_count c.requires.parted.alphabet.are_leads s)
 
 pub returns : goal.returns
 returns g c =
     let t = c.args.self.now in
     let O = g.O.Order.order c.args.o.now in
-    let front : c.in_ok-leads.leads.items ≡ take c.args.below t.alphabet.leads.items = c.in_ok-leads.ensures ∙ (c.split_at.ensures.front ∙ ap (take c.args.below) c.as_slice.ensures.value) in
-    let e : c.append.new.self.items ≡ take c.args.below t.alphabet.leads.items ++ c.in_ok-last.last.items = c.in_ok-append.ensures.items ∙ ap (λ xs. xs ++ c.in_ok-last.last.items) front in
-    let s : IsSorted O (drop c.args.below t.alphabet.leads.items) c.in_ok-last.last.items =
-    subst (λ xs. IsSorted O xs c.in_ok-last.last.items) (c.split_at.ensures.back ∙ ap (drop c.args.below) c.as_slice.ensures.value) c.in_ok-last.ensures in
-    IfOk-weaker c.relisted.result (λ v. IsRelisted t v c.append.new.self.items) (IsSettledTable O c.args.below t)
-    (λ v r. settled_table O (g.met.O.Order.laws c.args.o.now) t v c.args.below c.requires.parted c.in_ok-last.last.items c.append.new.self.items e s r) c.relisted.ensures
+    let front : c.in_ok-leads.leads.items ≡ take c.args.settled_count t.alphabet.leads.items = c.in_ok-leads.ensures ∙ (c.split_at.ensures.front ∙ ap (take c.args.settled_count) c.as_slice.ensures.value) in
+    let e : c.append.new.self.items ≡ take c.args.settled_count t.alphabet.leads.items ++ c.in_ok-last.last.items = c.in_ok-append.ensures.items ∙ ap (λ xs. xs ++ c.in_ok-last.last.items) front in
+    let s : IsSorted O (drop c.args.settled_count t.alphabet.leads.items) c.in_ok-last.last.items =
+    subst (λ xs. IsSorted O xs c.in_ok-last.last.items) (c.split_at.ensures.back ∙ ap (drop c.args.settled_count) c.as_slice.ensures.value) c.in_ok-last.ensures in
+    IfOk-weaker c.relisted.result (λ v. IsRelisted t v c.append.new.self.items) (IsSettledTable O c.args.settled_count t)
+    (λ v r. settled_table O (g.met.O.Order.laws c.args.o.now) t v c.args.settled_count c.requires.parted c.in_ok-last.last.items c.append.new.self.items e s r) c.relisted.ensures

@@ -1,0 +1,43 @@
+use Rattle.std.proofs.Common.{◌≡◌, ◌≢◌, ◌≤◌, ◌<◌, ℕ, zero, suc, List, [], ◌∷◌, false, ◌∙◌, sym, subst, length, get_or, drop, arith}
+use lib.Pointwise.{pointwise}
+use lib.Dec.{eqb}
+use Rattle.std.specs.Cmp.Lexicographic.{nat_list_eq_equiv}
+use Rattle.toric_ideal.specs.Increasing.{IsInsertionIndex, IsInserted}
+use Rattle.toric_ideal.proofs.IncreasingLists.{insert_new}
+use Rattle.toric_ideal.proofs.Members.{get_or_any}
+use Rattle.toric_ideal.proofs.increasing.insert.Goals as goal
+use Rattle.toric_ideal.proofs.increasing.insert.Goals.{else-index-len-via-then-index-len+else-eq, else-index-len-via-else-index-len}
+
+-- what stands first from an index on stands at it
+first_at : (ms : List (List ℕ)) (i : ℕ) (d : List ℕ) (es : List (List ℕ)) → drop i ms ≡ d ∷ es → (get_or ms i [] ≡ d)
+first_at [] zero d es e = cc
+first_at [] (suc i) d es e = cc
+first_at (m ∷ ms) zero d es e = cc
+first_at (m ∷ ms) (suc i) d es e = first_at ms i d es e
+
+none_past : (ms : List (List ℕ)) (i : ℕ) (d : List ℕ) (es : List (List ℕ)) → length ms ≤ i → drop i ms ≡ d ∷ es → ⊥
+none_past [] zero d es l e = cc
+none_past [] (suc i) d es l e = cc
+none_past (m ∷ ms) zero d es l e = absurd (omega arith)
+none_past (m ∷ ms) (suc i) d es l e = none_past ms i d es (omega arith) e
+
+differs : (x m : List ℕ) → pointwise eqb x m ≡ false → x ≢ m
+differs x m h e = let t = nat_list_eq_equiv.refl m in let q : pointwise eqb m m ≡ false = subst (λ y. pointwise eqb y m ≡ false) e h in cc
+
+pub returns : goal.returns
+returns g c =
+    let O = g.O.Order.order c.args.o.now in
+    let ms = c.args.list.now.items in
+    let i = c.insertion_index-index.result in
+    let m = c.args.m in
+    let W = g.met.O.Order.laws c.args.o.now in
+    let place : IsInsertionIndex O ms m i = subst (λ xs. IsInsertionIndex O xs m i) c.as_slice.ensures.value c.insertion_index-index.ensures in
+    subst (λ new. IsInserted O ms new m) (sym c.in_ok-insert.ensures.items)
+    (insert_new O W ms m i c.requires.increasing place
+    (elim c.else-index-len.branch [
+      | else-index-len-via-then-index-len+else-eq w ↦ λ d es e q.
+          let l : i < length ms = let a = w.if-index-len.true in let b = c.len.ensures in let o = c.args.list.now.ok in omega arith in
+          let f : w.index.result.now ≡ d = w.index.ensures ∙ (get_or_any ms i w.index.result.now [] l ∙ first_at ms i d es e) in
+          differs w.index.result.now m (sym w.eq.ensures ∙ w.if-eq.false) (f ∙ q)
+      | else-index-len-via-else-index-len w ↦ λ d es e q. none_past ms i d es (let a = w.if-index-len.false in let b = c.len.ensures in let o = c.args.list.now.ok in omega arith) e
+    ]))
