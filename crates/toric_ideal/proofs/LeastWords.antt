@@ -2,20 +2,20 @@
 use Rattle.std.proofs.Common.{◌≡◌, ◌≢◌, ℕ, suc, ◌+◌, ◌<◌, ◌≤◌, refl, sym, ◌∙◌, ap, subst, List, [], length, arith, get_or, inl, inr, ⊎_elim}
 use Rattle.std.specs.Prelude.{Option, Some, None, IfSome, IsNone, ◌↔◌}
 use Rattle.std.specs.declared.cmp.Ordering.TheVariants.{Less}
-use Rattle.monomial_order.specs.Monomial.{exponent, product, Divides, IsMonomial, IsTrimmed}
+use Rattle.monomial_order.specs.Monomial.{exponent, product, Divides, IsMonomial, IsTrimmed, IsMultiple}
 use Rattle.monomial_order.specs.MonomialOrder.{MonomialOrder, IsMonomialOrder}
-use Rattle.monomial_order.specs.MonomialLaws.{exponent_past, product_fits, IsMonomial-product}
-use Rattle.monomial_order.specs.Cofactors.{product_cancel, length-product_right, Divides-product}
-use Rattle.monomial_order.specs.Comparing.{not_below_self, three_ways}
-use Rattle.monomial_order.specs.Lists.{contains_at}
-use Rattle.monomial_order.specs.Words.{image_of, order_of, AreLetters, IsLeast, IsReducible, IsSmaller, IsSWord, IsWord, Letters}
-use Rattle.monomial_order.specs.WordLaws.{degree_image, degree_x, image_same, image_times, image_x, word_laws, x_word}
-use Rattle.monomial_order.specs.ReducibleLaws.{least_s_word, IsMultiple}
+use Rattle.monomial_order.specs.laws.Monomial.{exponent_past, product_fits, IsMonomial-product}
+use Rattle.monomial_order.specs.laws.Cofactors.{product_cancel, length-product_right, Divides-product}
+use Rattle.monomial_order.specs.laws.Comparing.{not_below_self, three_ways}
+use Rattle.monomial_order.specs.laws.Lists.{contains_at}
+use Rattle.word_laws.specs.Words.{image_of, word_order_of, AreLetters, IsLeast, IsReducible, IsSmaller, IsSWord, IsWord, Letters}
+use Rattle.word_laws.specs.laws.Words.{degree_image, degree_x, image_same, image_times, image_x, word_laws, x_word}
+use Rattle.word_laws.specs.laws.Reducible.{least_s_word}
 use Rattle.toric_ideal.specs.declared.alphabet.Alphabet.{Alphabet}
 use Rattle.toric_ideal.specs.Alphabet.{letters_of, IsAlphabet}
 use Rattle.toric_ideal.specs.Increasing.{IsComparable}
 use Rattle.toric_ideal.specs.LeastWords.{lead_at, lead_letter, IsFactor, IsLeadCofactor, IsLeadQuotient, IsLeastFrom, IsLesser, Skips}
-use Rattle.toric_ideal.proofs.Members.{get_or_any}
+use Rattle.std.proofs.lemmas.List.{get_or_default}
 use Rattle.toric_ideal.proofs.Skipping.{next_letter, skips_all, skips_less, skips_product, skips_variable}
 use Rattle.toric_ideal.proofs.LetterLemmas.{alphabet_letters, image_lead, letter_word, places_count}
 
@@ -41,22 +41,22 @@ module _ (L : Letters) (H : AreLetters L) where
     least = λ u k s.
         let hu : IsMonomial (length L.degrees) u = record { trimmed = k.word.trimmed; within = skips_all (length L.degrees) (length L.leads) u (subst (λ p. IsMonomial p u) (places_count L) k.word) s } in
         let e : u ≡ m = sym (image_same L H u hu) ∙ (k.image ∙ image_same L H m h) in
-        not_below_self (order_of L) (word_laws L H) m (subst (λ x. (order_of L).compare x m ≡ Less) e k.less);
+        not_below_self (word_order_of L) (word_laws L H) m (subst (λ x. (word_order_of L).compare x m ≡ Less) e k.less);
   }
 
   -- a least word has the degree of its image
-  pub least_comparable : (i : ℕ) (m v : List ℕ) → IsLeastFrom L i m v → (order_of L).degree m ≤ 65535 → IsComparable (order_of L) v
+  pub least_comparable : (i : ℕ) (m v : List ℕ) → IsLeastFrom L i m v → (word_order_of L).degree m ≤ 65535 → IsComparable (word_order_of L) v
   least_comparable i m v F small =
       let d = degree_image L H v in
-      let e : (order_of L).degree (image_of L v) ≡ (order_of L).degree m = ap (order_of L).degree F.image in
+      let e : (word_order_of L).degree (image_of L v) ≡ (word_order_of L).degree m = ap (word_order_of L).degree F.image in
       record { monomial = F.word; small = omega arith }
 
   module _ (i : ℕ) (below : i < length L.leads) where
     s_word : IsWord L (lead_letter L i)
     s_word = letter_word L (length L.degrees + i) (let p = places_count L in omega arith)
 
-    pub letter_fits : (w : List ℕ) → IsWord L w → IsComparable (order_of L) (product (lead_letter L i) w) → (j : ℕ) → exponent (lead_letter L i) j + exponent w j ≤ 65535
-    letter_fits w hw p = product_fits (order_of L) (word_laws L H) (lead_letter L i) w s_word hw (let d = (word_laws L H).degree_product (lead_letter L i) w in let s = p.small in omega arith)
+    pub letter_fits : (w : List ℕ) → IsWord L w → IsComparable (word_order_of L) (product (lead_letter L i) w) → (j : ℕ) → exponent (lead_letter L i) j + exponent w j ≤ 65535
+    letter_fits w hw p = product_fits (word_order_of L) (word_laws L H) (lead_letter L i) w s_word hw (let d = (word_laws L H).degree_product (lead_letter L i) w in let s = p.small in omega arith)
 
     image_s : (k : List ℕ) → image_of L (product (lead_letter L i) k) ≡ product (lead_at L i) (image_of L k)
     image_s k = image_times L H (lead_letter L i) k ∙ ap (λ x. product x (image_of L k)) (image_lead L i)
@@ -72,7 +72,7 @@ module _ (L : Letters) (H : AreLetters L) where
       skips = skips_less (length L.degrees) i v F.skips;
       least = λ u k z. ⊎_elim (F.least u k)
           (λ t. none (subst (Divides (lead_at L i)) (sym (image_s t.0) ∙ (ap (image_of L) t.1.whole ∙ (k.image ∙ F.image))) (Divides-product (lead_at L i) (image_of L t.0))))
-          (next_letter (order_of L).places (length L.degrees) i u k.word z);
+          (next_letter (word_order_of L).places (length L.degrees) i u k.word z);
     }
 
     module _ (m rest tail : List ℕ) (C : IsLeadCofactor L i m rest) (T : IsLeastFrom L i rest tail) where
@@ -80,19 +80,19 @@ module _ (L : Letters) (H : AreLetters L) where
       image_with = image_s tail ∙ (ap (product (lead_at L i)) T.image ∙ C.whole)
 
       word_with : IsWord L (product (lead_letter L i) tail)
-      word_with = IsMonomial-product (order_of L).places (lead_letter L i) tail s_word T.word
+      word_with = IsMonomial-product (word_order_of L).places (lead_letter L i) tail s_word T.word
 
-      pub with_comparable : (order_of L).degree m ≤ 65535 → IsComparable (order_of L) (product (lead_letter L i) tail)
+      pub with_comparable : (word_order_of L).degree m ≤ 65535 → IsComparable (word_order_of L) (product (lead_letter L i) tail)
       with_comparable small =
           let d = degree_image L H (product (lead_letter L i) tail) in
-          let e : (order_of L).degree (image_of L (product (lead_letter L i) tail)) ≡ (order_of L).degree m = ap (order_of L).degree image_with in
+          let e : (word_order_of L).degree (image_of L (product (lead_letter L i) tail)) ≡ (word_order_of L).degree m = ap (word_order_of L).degree image_with in
           record { monomial = word_with; small = omega arith }
 
       -- the lesser of the least word without the letter and of the letter times the least word of what the lead leaves
-      pub least_with : (without least : List ℕ) → IsLeastFrom L (i + 1) m without → IsLesser (order_of L) without (product (lead_letter L i) tail) least → IsLeastFrom L i m least
+      pub least_with : (without least : List ℕ) → IsLeastFrom L (i + 1) m without → IsLesser (word_order_of L) without (product (lead_letter L i) tail) least → IsLeastFrom L i m least
       least_with without least F1 D =
           let F = next m without F1 in
-          let O = order_of L in
+          let O = word_order_of L in
           let W = word_laws L H in
           let s = lead_letter L i in
           let image : image_of L least ≡ m = ⊎_elim (λ a. subst (λ x. image_of L x ≡ m) a F.image) (λ b. subst (λ x. image_of L x ≡ m) b image_with) D.one in
@@ -125,16 +125,16 @@ module _ (L : Letters) (H : AreLetters L) where
 
   -- a word whose image is no multiple of a zero is reducible exactly if the least word is less
   pub less_reducible : (zeros : List (List ℕ)) (w least : List ℕ) → IsWord L w → IsLeastFrom L 0 (image_of L w) least → ¬ IsMultiple zeros (image_of L w) →
-      ((order_of L).compare least w ≡ Less) ↔ IsReducible (IsMultiple zeros) L w
+      ((word_order_of L).compare least w ≡ Less) ↔ IsReducible (IsMultiple zeros) L w
   less_reducible zeros w least h f n =
       let none = (least_of_all (image_of L w) least f).least in (
         λ e. inr (least, record { word = f.word; image = f.image; less = e }),
         λ r. ⊎_elim (λ z. absurd (n z))
             (λ s. ⊎_elim (λ e. e)
             (λ b. ⊎_elim
-            (λ q. absurd (none s.0 (record { word = s.1.word; image = s.1.image ∙ sym f.image; less = subst (λ x. (order_of L).compare s.0 x ≡ Less) (sym q) s.1.less })))
+            (λ q. absurd (none s.0 (record { word = s.1.word; image = s.1.image ∙ sym f.image; less = subst (λ x. (word_order_of L).compare s.0 x ≡ Less) (sym q) s.1.less })))
             (λ a. absurd (none w (record { word = h; image = sym f.image; less = a }))) b)
-            (three_ways (order_of L) (word_laws L H) least w)) r,
+            (three_ways (word_order_of L) (word_laws L H) least w)) r,
       )
 
 -- what a lead leaves of a monomial that it divides
@@ -148,7 +148,7 @@ lead_cofactor a h i m rest below mono e t =
     let p = is_lead.positive in
     let dl = degree_x L H lead is_lead.monomial in
     let d = (word_laws L H).degree_product lead rest in
-    let q : (order_of L).degree (product lead rest) ≡ (order_of L).degree m = ap (order_of L).degree e in
+    let q : (word_order_of L).degree (product lead rest) ≡ (word_order_of L).degree m = ap (word_order_of L).degree e in
     let l = length-product_right lead rest in
     let k : length (product lead rest) ≡ length m = ap length e in
     let w = mono.within in
@@ -156,5 +156,5 @@ lead_cofactor a h i m rest below mono e t =
 
 pub lead_quotient : (a : Alphabet) (h : IsAlphabet a) (i : ℕ) (m lead : List ℕ) → lead ≡ get_or a.leads.items i lead → i < length a.leads.items → IsMonomial (length a.order.x_degrees.items) m →
     (o : Option (List ℕ)) → IfSome o (λ k. product lead k ≡ m) → IfSome o IsTrimmed → (IsNone o → Divides lead m → ⊥) → IsLeadQuotient (letters_of a) i m o
-lead_quotient a h i m lead e below mono None s t n = λ d. n refl (subst (λ x. Divides x m) (sym (e ∙ get_or_any a.leads.items i lead [] below)) d)
-lead_quotient a h i m lead e below mono (Some rest) s t n = lead_cofactor a h i m rest below mono (ap (λ x. product x rest) (sym (e ∙ get_or_any a.leads.items i lead [] below)) ∙ s) t
+lead_quotient a h i m lead e below mono None s t n = λ d. n refl (subst (λ x. Divides x m) (sym (e ∙ get_or_default a.leads.items i lead [] below)) d)
+lead_quotient a h i m lead e below mono (Some rest) s t n = lead_cofactor a h i m rest below mono (ap (λ x. product x rest) (sym (e ∙ get_or_default a.leads.items i lead [] below)) ∙ s) t

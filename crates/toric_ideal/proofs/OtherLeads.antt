@@ -1,27 +1,30 @@
 -- Tables of other zeros and of other leads.
 use Rattle.std.proofs.Common.{◌≡◌, ◌≢◌, ℕ, zero, suc, ◌+◌, ◌<◌, ◌≤◌, refl, sym, ◌∙◌, ap, subst, List, [], ◌∷◌, ◌++◌, length, length-append, take, drop, get_or, arith, ⊎_elim}
 use Rattle.std.specs.Prelude.{Contains, map, sum, AllPairs, true}
-use Rattle.std.proofs.lemmas.List.{take-append-drop}
+use Rattle.std.proofs.Math.Seq.{drop-append_seam, take-append_seam}
+use Rattle.std.proofs.lemmas.List.{drop-append-le, length-take-le, take-append-drop, take-append-le}
 use Rattle.std.proofs.lemmas.List.Quantifiers.{all_pairs_push}
-use Rattle.std.proofs.lemmas.List.Sums.{sum_by-cons}
 use Rattle.monomial_order.specs.Monomial.{exponent, variable, weighted_degree, IsMonomial, IsTrimmed}
 use Rattle.monomial_order.specs.MonomialOrder.{MonomialOrder, IsMonomialOrder}
 use Rattle.monomial_order.specs.Ranges.{all_between}
-use Rattle.monomial_order.specs.ImageLaws.{degree_weighted}
-use Rattle.monomial_order.specs.Comparing.{le_or_not}
-use Rattle.monomial_order.specs.Lists.{contains_cases, contains_none}
-use Rattle.monomial_order.specs.Words.{image_of, order_of, variables, AreLetters, IsSWord, Letters}
-use Rattle.monomial_order.specs.WordLaws.{degree_x, word_laws, x_word}
+use Rattle.word_laws.specs.laws.Images.{degree_weighted}
+use Rattle.monomial_order.specs.laws.Comparing.{le_or_not}
+use Rattle.monomial_order.specs.laws.Lists.{contains_cases, contains_none}
+use Rattle.word_laws.specs.Words.{image_of, word_order_of, variables, AreLetters, IsSWord, Letters}
+use Rattle.word_laws.specs.laws.Words.{degree_x, word_laws, x_word}
 use Rattle.toric_ideal.specs.declared.table.Table.{Table}
 use Rattle.toric_ideal.specs.Leads.{letters, AreLetterLeads, IsLetterLead}
 use Rattle.toric_ideal.specs.Alphabet.{letters_of, IsAlphabet}
 use Rattle.toric_ideal.specs.Increasing.{AreComparable, IsSorted}
 use Rattle.toric_ideal.specs.Listing.{AgreeTo, AreParted, AreRules, AreZeros, OrdersByDegrees, IsListing, IsNewLead, IsSettled}
 use Rattle.toric_ideal.specs.Tables.{listing_of, IsExtended, IsListed, IsParted, IsRelisted, HasSameLetters}
-use Rattle.toric_ideal.proofs.Members.{append_cases, contains_drop, contains_parts, contains_take, drop_none, get_or_any}
+use Rattle.std.proofs.lemmas.List.Elements.{Contains-append_cases}
+use Rattle.std.proofs.lemmas.List.{get_or_default}
+use Rattle.toric_ideal.proofs.Members.{contains_drop, contains_parts, contains_take, drop_none}
 use Rattle.toric_ideal.proofs.Results.{not_true}
-use Rattle.toric_ideal.proofs.Pairs.{pairs_append, pairs_drop, pairs_from, pairs_take, pairs_to, rises_distinct}
-use Rattle.toric_ideal.proofs.Skipping.{variable_off}
+use Rattle.toric_ideal.proofs.Pairs.{pairs_append, pairs_drop, pairs_from, pairs_take, pairs_to, increasing_distinct}
+use Rattle.word_laws.specs.laws.Images.{variable_off}
+use Rattle.toric_ideal.proofs.Skipping.{sum_skipped}
 use Rattle.toric_ideal.proofs.LetterLemmas.{alphabet_letters, image_lead, leads_letters, letter_word, places_count}
 use Rattle.toric_ideal.proofs.EnumerationLemmas.{degree_none}
 use Rattle.toric_ideal.proofs.Degrees.{rules_agree, rules_none}
@@ -103,31 +106,11 @@ extended_is t u v zs c h k low above small hz eL ez same ed listed =
           });
     }
 
-take_front : {A : Type 0} (k : ℕ) (xs ys : List A) → k ≤ length xs → take k (xs ++ ys) ≡ take k xs
-take_front zero xs ys l = refl
-take_front (suc k) [] ys l = absurd (omega arith)
-take_front (suc k) (x ∷ xs) ys l = ap (λ zs. x ∷ zs) (take_front k xs ys (omega arith))
-
-drop_front : {A : Type 0} (k : ℕ) (xs ys : List A) → k ≤ length xs → drop k (xs ++ ys) ≡ drop k xs ++ ys
-drop_front zero xs ys l = refl
-drop_front (suc k) [] ys l = absurd (omega arith)
-drop_front (suc k) (x ∷ xs) ys l = drop_front k xs ys (omega arith)
-
 take_taken : {A : Type 0} (k : ℕ) (xs ys : List A) → k ≤ length xs → take k (take k xs ++ ys) ≡ take k xs
-take_taken zero xs ys l = refl
-take_taken (suc k) [] ys l = absurd (omega arith)
-take_taken (suc k) (x ∷ xs) ys l = ap (λ zs. x ∷ zs) (take_taken k xs ys (omega arith))
+take_taken k xs ys l = subst (λ n. take n (take k xs ++ ys) ≡ take k xs) (length-take-le k xs l) (take-append_seam (take k xs) ys)
 
 drop_taken : {A : Type 0} (k : ℕ) (xs ys : List A) → k ≤ length xs → drop k (take k xs ++ ys) ≡ ys
-drop_taken zero xs ys l = refl
-drop_taken (suc k) [] ys l = absurd (omega arith)
-drop_taken (suc k) (x ∷ xs) ys l = drop_taken k xs ys (omega arith)
-
-sum_none : (n k : ℕ) (w : List ℕ) → n ≤ k → ((j : ℕ) → j < k → exponent w j ≡ 0) → sum (take n w) ≡ 0
-sum_none zero k w l h = refl
-sum_none (suc n) k [] l h = refl
-sum_none (suc n) zero (e ∷ w) l h = absurd (omega arith)
-sum_none (suc n) (suc k) (e ∷ w) l h = let a : e ≡ 0 = h 0 (omega arith) in let b = sum_none n k w (omega arith) (λ j i. h (suc j) (omega arith)) in let q = sum_by-cons (λ y. y) e (take n w) in omega arith
+drop_taken k xs ys l = subst (λ n. drop n (take k xs ++ ys) ≡ ys) (length-take-le k xs l) (drop-append_seam (take k xs) ys)
 
 -- the new lead is a lead, and none of the old ones
 new_lead : (t : Table) (m : List ℕ) → IsAlphabet t.alphabet → IsListing (listing_of t) → IsNewLead (listing_of t) m → IsLetterLead t.alphabet.order.x_degrees.items m
@@ -141,8 +124,8 @@ new_lead t m h k n =
       positive = ⊎_elim
           (λ (z : weighted_degree t.alphabet.order.x_degrees.items m ≤ 0).
           let e = degree_x L H m n.monomial in
-          let none : m ≡ [] = degree_none (order_of L) (word_laws L H) m (x_word L H m n.monomial) (omega arith) in
-          absurd (n.fresh [] (record { trimmed = tt; within = omega arith }, sum_none (length L.degrees) (length L.degrees) [] (omega arith) (λ j l. refl)) (sym none)))
+          let none : m ≡ [] = degree_none (word_order_of L) (word_laws L H) m (x_word L H m n.monomial) (omega arith) in
+          absurd (n.fresh [] (record { trimmed = tt; within = omega arith }, sum_skipped (length L.degrees) (length L.degrees) [] (omega arith) (λ j l. refl)) (sym none)))
           (λ p. let q = p in omega arith) (le_or_not (weighted_degree t.alphabet.order.x_degrees.items m) 0);
       small = omega arith;
     }
@@ -151,14 +134,14 @@ lead_differs : (L : Letters) (m : List ℕ) → ((u : List ℕ) → IsSWord L u 
 lead_differs L m fresh j d l e =
     fresh (variable (length L.degrees + j)) (
       letter_word L (length L.degrees + j) (let p = places_count L in omega arith),
-      sum_none (length L.degrees) (length L.degrees) (variable (length L.degrees + j)) (omega arith) (λ i q. variable_off (length L.degrees + j) i (λ s. let r = s in absurd (omega arith))),
+      sum_skipped (length L.degrees) (length L.degrees) (variable (length L.degrees + j)) (omega arith) (λ i q. variable_off (length L.degrees + j) i (λ s. let r = s in absurd (omega arith))),
     )
-    (image_lead L j ∙ (get_or_any L.leads j [] d l ∙ e))
+    (image_lead L j ∙ (get_or_default L.leads j [] d l ∙ e))
 
 pub pushed_leads : (t : Table) (m : List ℕ) → IsAlphabet t.alphabet → IsListing (listing_of t) → IsNewLead (listing_of t) m → AreLetterLeads t.alphabet.order.x_degrees.items (t.alphabet.leads.items ++ m ∷ [])
 pushed_leads t m h k n x c =
     ⊎_elim (λ a. h.are_leads x a) (λ b. ⊎_elim (λ e. subst (IsLetterLead t.alphabet.order.x_degrees.items) e (new_lead t m h k n)) (λ z. absurd (contains_none x z)) (contains_cases m [] x b))
-    (append_cases t.alphabet.leads.items (m ∷ []) x c)
+    (Contains-append_cases t.alphabet.leads.items (m ∷ []) x c)
 
 pub pushed_parted : (t v : Table) (m : List ℕ) → IsListing (listing_of t) → IsNewLead (listing_of t) m → IsRelisted t v (t.alphabet.leads.items ++ m ∷ []) → (k : ℕ) → IsParted t k → IsParted v k
 pushed_parted t v m kept n r k p =
@@ -177,10 +160,10 @@ pushed_parted t v m kept n r k p =
     })
     (record {
       whole = sym (take-append-drop k (leads ++ m ∷ []));
-      lower_less = λ x c. p.parted.lower_less x (subst (λ ys. Contains ys x) (take_front k leads (m ∷ []) w) c);
+      lower_less = λ x c. p.parted.lower_less x (subst (λ ys. Contains ys x) (take-append-le k leads (m ∷ []) w) c);
       last_equal = λ x c. ⊎_elim (λ a. p.parted.last_equal x a)
           (λ b. ⊎_elim (λ e. subst (λ y. weighted_degree xs y ≡ t.degree) e n.degree) (λ z. absurd (contains_none x z)) (contains_cases m [] x b))
-          (append_cases (drop k leads) (m ∷ []) x (subst (λ ys. Contains ys x) (drop_front k leads (m ∷ []) w) c));
+          (Contains-append_cases (drop k leads) (m ∷ []) x (subst (λ ys. Contains ys x) (drop-append-le k leads (m ∷ []) w) c));
     })
 
 -- the order that gives each x its degree gives each monomial its degree
@@ -198,7 +181,7 @@ leads_comparable O xs leads k W f h m c =
 
 pub settled_leads : (O : MonomialOrder) (xs : List ℕ) (leads after : List (List ℕ)) (k : ℕ) → AreLetterLeads xs leads → IsSorted O (drop k leads) after → AreLetterLeads xs (take k leads ++ after)
 settled_leads O xs leads after k h s m c =
-    ⊎_elim (λ a. h m (contains_take leads k m a)) (λ b. h m (contains_drop leads k m ((s.members m).1 b))) (append_cases (take k leads) after m c)
+    ⊎_elim (λ a. h m (contains_take leads k m a)) (λ b. h m (contains_drop leads k m ((s.members m).1 b))) (Contains-append_cases (take k leads) after m c)
 
 module _ (O : MonomialOrder) (W : IsMonomialOrder O) (t : Table) (k : ℕ) (p : IsParted t k) (after : List (List ℕ)) (s : IsSorted O (drop k t.alphabet.leads.items) after) where
   last_after : (m : List ℕ) → Contains after m → weighted_degree t.alphabet.order.x_degrees.items m ≡ t.degree
@@ -223,7 +206,7 @@ module _ (O : MonomialOrder) (W : IsMonomialOrder O) (t : Table) (k : ℕ) (p : 
   settled_distinct =
       pairs_to (λ m n. m ≢ n) (take k t.alphabet.leads.items ++ after)
       (pairs_append (λ m n. m ≢ n) (take k t.alphabet.leads.items) after
-      (pairs_take (λ m n. m ≢ n) k t.alphabet.leads.items (pairs_from (λ m n. m ≢ n) t.alphabet.leads.items p.listing.distinct)) (rises_distinct O W after s.increasing)
+      (pairs_take (λ m n. m ≢ n) k t.alphabet.leads.items (pairs_from (λ m n. m ≢ n) t.alphabet.leads.items p.listing.distinct)) (increasing_distinct O W after s.increasing)
       (λ x y c d e.
       let a = p.parted.lower_less x c in
       let b = last_after y d in

@@ -1,9 +1,10 @@
 -- Tables as they grow.
 use Rattle.std.proofs.Common.{◌≡◌, ℕ, zero, suc, ◌<◌, ◌≤◌, refl, sym, ◌∙◌, ap, subst, List, [], ◌∷◌, ◌++◌, length, take, get_or, arith, ⊎_elim}
 use Rattle.std.specs.Prelude.{Contains, map}
-use Rattle.std.proofs.lemmas.List.{map-append}
-use Rattle.monomial_order.specs.Lists.{contains_cases, contains_none}
-use Rattle.monomial_order.specs.Words.{image_of}
+use Rattle.std.proofs.Math.Seq.{take-suc}
+use Rattle.std.proofs.lemmas.List.{map-append, take_all}
+use Rattle.monomial_order.specs.laws.Lists.{contains_cases, contains_none}
+use Rattle.word_laws.specs.Words.{image_of}
 use Rattle.toric_ideal.specs.declared.rule.Rule.{Rule}
 use Rattle.toric_ideal.specs.declared.table.Table.{Table}
 use Rattle.toric_ideal.specs.Alphabet.{letters_of, IsAlphabet}
@@ -11,7 +12,7 @@ use Rattle.toric_ideal.specs.Listing.{AreRules, IsLeastOrZero}
 use Rattle.toric_ideal.specs.Enumeration.{AreNextRules, AreNextWords, HasAllNextWords}
 use Rattle.toric_ideal.specs.Tables.{CanGrow, HasSameLetters, IsGrown, IsListed, IsRuleOf}
 use Rattle.toric_ideal.proofs.LetterLemmas.{alphabet_letters}
-use Rattle.toric_ideal.proofs.Members.{append_cases}
+use Rattle.std.proofs.lemmas.List.Elements.{Contains-append_cases}
 use Rattle.toric_ideal.proofs.Degrees.{rules_more}
 
 -- a table on its way to a degree
@@ -38,29 +39,18 @@ pub record AreRulesSoFar (t : Table) (words : List (List ℕ)) (i : ℕ) (rules 
 pub rules_start : (t : Table) (words : List (List ℕ)) → AreRulesSoFar t words 0 []
 rules_start t words = record { words_are = refl; least = λ r c. absurd (contains_none r c) }
 
-take_push : (words : List (List ℕ)) (i : ℕ) (w : List ℕ) → i < length words → get_or words i w ≡ w → take (suc i) words ≡ take i words ++ w ∷ []
-take_push [] i w l e = absurd (omega arith)
-take_push (x ∷ words) zero w l e = ap (λ y. y ∷ []) e
-take_push (x ∷ words) (suc i) w l e = ap (λ ys. x ∷ ys) (take_push words i w (omega arith) e)
-
-take_all : (words : List (List ℕ)) (i : ℕ) → length words ≤ i → take i words ≡ words
-take_all [] zero l = refl
-take_all [] (suc i) l = refl
-take_all (x ∷ words) zero l = absurd (omega arith)
-take_all (x ∷ words) (suc i) l = ap (λ ys. x ∷ ys) (take_all words i (omega arith))
-
 pub rules_next : (t : Table) (words : List (List ℕ)) (i : ℕ) (rules : List Rule) (w : List ℕ) (r : Rule) → i < length words → get_or words i w ≡ w → AreRulesSoFar t words i rules → IsRuleOf t w r →
     AreRulesSoFar t words (suc i) (rules ++ r ∷ [])
 rules_next t words i rules w r l e F h = record {
-  words_are = map-append (λ (r : Rule). r.word) rules (r ∷ []) ∙ (ap (λ xs. xs ++ r.word ∷ []) F.words_are ∙ (ap (λ x. take i words ++ x ∷ []) h.word ∙ sym (take_push words i w l e)));
+  words_are = map-append (λ (r : Rule). r.word) rules (r ∷ []) ∙ (ap (λ xs. xs ++ r.word ∷ []) F.words_are ∙ (ap (λ x. take i words ++ x ∷ []) h.word ∙ (ap (λ x. take i words ++ x ∷ []) (sym e) ∙ sym (take-suc words i w l))));
   least = λ s c. ⊎_elim (F.least s)
       (λ k. ⊎_elim (λ q. subst (λ s. IsRuleOf t s.word s) q (record { word = refl; least = subst (λ x. IsLeastOrZero t.zeros.items (letters_of t.alphabet) (image_of (letters_of t.alphabet) x) r.least) (sym h.word) h.least }))
-      (λ n. absurd (contains_none s n)) (contains_cases r [] s k)) (append_cases rules (r ∷ []) s c);
+      (λ n. absurd (contains_none s n)) (contains_cases r [] s k)) (Contains-append_cases rules (r ∷ []) s c);
 }
 
 pub rules_end : (t : Table) (words : List (List ℕ)) (i : ℕ) (rules : List Rule) → length words ≤ i → AreRulesSoFar t words i rules → AreNextWords t words → HasAllNextWords t words → AreNextRules t rules
 rules_end t words i rules l F next all =
-    let e : words ≡ map (λ r. r.word) rules = sym (F.words_are ∙ take_all words i l) in
+    let e : words ≡ map (λ r. r.word) rules = sym (F.words_are ∙ take_all i words l) in
     record { next = subst (AreNextWords t) e next; all = subst (HasAllNextWords t) e all; least = F.least }
 
 -- the table of the next degree, from what it has

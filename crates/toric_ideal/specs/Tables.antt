@@ -1,6 +1,7 @@
 -- Tables of rules, and how they change.
 use Rattle.std.specs.Prelude.{◌≡◌, ℕ, suc, ◌≤◌, List, false, length, map, take, drop, Contains}
-use Rattle.monomial_order.specs.Words.{image_of}
+use Rattle.monomial_order.specs.Monomial.{Exponents}
+use Rattle.word_laws.specs.Words.{image_of}
 use Rattle.monomial_order.specs.MonomialOrder.{MonomialOrder}
 use Rattle.toric_ideal.specs.declared.table.Table.{Table}
 use Rattle.toric_ideal.specs.declared.rule.Rule.{Rule}
@@ -34,7 +35,7 @@ pub record HasSameLetters (old new : Table) : Type 0 where
   pub zeros : new.zeros.items ≡ old.zeros.items
 
 -- the rule of a word
-pub record IsRuleOf (t : Table) (w : List ℕ) (r : Rule) : Type 0 where
+pub record IsRuleOf (t : Table) (w : Exponents) (r : Rule) : Type 0 where
   pub word : r.word ≡ w
   pub least : IsLeastOrZero t.zeros.items (letters_of t.alphabet) (image_of (letters_of t.alphabet) w) r.least
 
@@ -53,14 +54,14 @@ pub record IsParted (t : Table) (settled_count : ℕ) : Type 0 where
       (take settled_count t.alphabet.leads.items) (drop settled_count t.alphabet.leads.items)
 
 -- the table of other leads, with the same zeros to the same degree
-pub record IsRelisted (old new : Table) (leads : List (List ℕ)) : Type 0 where
+pub record IsRelisted (old new : Table) (leads : List Exponents) : Type 0 where
   pub letters : letters_of new.alphabet ≡ letters old.alphabet.order.x_degrees.items leads
   pub zeros : new.zeros.items ≡ old.zeros.items
   pub degree : new.degree ≡ old.degree
   pub listed : IsListed new
 
 -- the table of a greater degree
-pub record IsExtended (old new : Table) (c : ℕ) (zero : List (List ℕ)) : Type 0 where
+pub record IsExtended (old new : Table) (c : ℕ) (zero : List Exponents) : Type 0 where
   pub letters : letters_of new.alphabet ≡ letters_of old.alphabet
   pub zeros : new.zeros.items ≡ zero
   pub degree : new.degree ≡ c

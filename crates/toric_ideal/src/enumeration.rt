@@ -1,7 +1,7 @@
 //! Minimal reducible words of the next degree.
 ghost use Rattle.std.specs.Prelude.{◌≡◌, ◌≤◌, ◌<◌, ◌↔◌, suc, IfOk, OnOk, IsTrue};
-ghost use Rattle.monomial_order.specs.Words.{order_of, IsMinimalReducible};
-ghost use Rattle.monomial_order.specs.ReducibleLaws.{IsMultiple};
+ghost use Rattle.word_laws.specs.Words.{word_order_of, IsMinimalReducible};
+ghost use Rattle.monomial_order.specs.Monomial.{IsMultiple};
 ghost use Rattle.toric_ideal.specs.Alphabet.{letters_of};
 ghost use Rattle.toric_ideal.specs.Enumeration.{AreNextWords, Enumerates, HasAllNextWords, IsLonger, IsWordWithImage};
 ghost use Rattle.toric_ideal.specs.Listing.{HasRuleDivisor};
@@ -31,7 +31,7 @@ impl Table {
     fn is_minimal(&self, alloc: Global, w: &WordWithImage) -> Result<bool, Memory>
         requires table { CanGrow self.now }
         requires word { IsWordWithImage (letters_of self.now.alphabet) w.now }
-        requires degree { (order_of (letters_of self.now.alphabet)).degree w.now.word ≡ suc self.now.degree }
+        requires degree { (word_order_of (letters_of self.now.alphabet)).degree w.now.word ≡ suc self.now.degree }
         ensures { IfOk result (λ b.
             IsTrue b ↔ IsMinimalReducible (IsMultiple self.now.zeros.items) (letters_of self.now.alphabet) w.now.word) }
     {
@@ -51,7 +51,7 @@ impl Table {
     ) -> Result<(), Memory>
         requires table { CanGrow self.now }
         requires word { IsWordWithImage (letters_of self.now.alphabet) w.now }
-        requires degree { (order_of (letters_of self.now.alphabet)).degree w.now.word ≡ suc self.now.degree }
+        requires degree { (word_order_of (letters_of self.now.alphabet)).degree w.now.word ≡ suc self.now.degree }
         requires found { AreNextWords self.now found.old.items }
         ensures { OnOk result (Enumerates self.now 0 w.now.word found.old.items found.new.items) }
     {
@@ -70,8 +70,8 @@ impl Table {
     ) -> Result<Option<WordWithImage>, Memory>
         requires table { CanGrow self.now }
         requires word { IsWordWithImage (letters_of self.now.alphabet) w.now }
-        requires degree { (order_of (letters_of self.now.alphabet)).degree w.now.word ≤ self.now.degree }
-        requires place { place < (order_of (letters_of self.now.alphabet)).places }
+        requires degree { (word_order_of (letters_of self.now.alphabet)).degree w.now.word ≤ self.now.degree }
+        requires place { place < (word_order_of (letters_of self.now.alphabet)).places }
         ensures { IfOk result (IsLonger self.now place w.now.word) }
     {
         let letter = self.alphabet.letter_with_image(alloc, place)?;
@@ -95,8 +95,8 @@ impl Table {
     ) -> Result<(), Memory>
         requires table { CanGrow self.now }
         requires word { IsWordWithImage (letters_of self.now.alphabet) w.now }
-        requires degree { (order_of (letters_of self.now.alphabet)).degree w.now.word ≤ suc self.now.degree }
-        requires place { place ≤ (order_of (letters_of self.now.alphabet)).places }
+        requires degree { (word_order_of (letters_of self.now.alphabet)).degree w.now.word ≤ suc self.now.degree }
+        requires place { place ≤ (word_order_of (letters_of self.now.alphabet)).places }
         requires found { AreNextWords self.now found.old.items }
         ensures { OnOk result (Enumerates self.now place w.now.word found.old.items found.new.items) }
     {

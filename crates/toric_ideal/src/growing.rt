@@ -1,6 +1,6 @@
 //! Tables of a greater degree.
 ghost use Rattle.std.specs.Prelude.{◌≡◌, ◌≤◌, ◌<◌, suc, IfOk, OnOk};
-ghost use Rattle.monomial_order.specs.Words.{order_of};
+ghost use Rattle.word_laws.specs.Words.{word_order_of};
 ghost use Rattle.toric_ideal.specs.Alphabet.{letters_of, IsAlphabet};
 ghost use Rattle.toric_ideal.specs.Enumeration.{AreNextRules};
 ghost use Rattle.toric_ideal.specs.Increasing.{IsComparable};
@@ -37,7 +37,7 @@ impl Table {
     /// The rule of a word.
     fn rule(&self, alloc: Global, word: &Monomial) -> Result<Rule, Memory>
         requires alphabet { IsAlphabet self.now.alphabet }
-        requires word { IsComparable (order_of (letters_of self.now.alphabet)) word.now }
+        requires word { IsComparable (word_order_of (letters_of self.now.alphabet)) word.now }
         ensures { IfOk result (IsRuleOf self.now word.now) }
     {
         let least = self

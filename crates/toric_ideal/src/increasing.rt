@@ -1,13 +1,14 @@
 //! Increasing lists of monomials.
 ghost use Rattle.std.specs.Prelude.{IfOk, OnOk};
-ghost use Rattle.toric_ideal.specs.Increasing.{AreComparable, IsComparable, IsInsertionIndex, IsInserted, IsSorted, Rises};
+ghost use Rattle.toric_ideal.specs.Increasing.{AreComparable, IsComparable, IsInsertionIndex, IsInserted, IsSorted};
+ghost use Rattle.monomial_order.specs.MonomialOrder.{IsIncreasing};
 
 use monomial_order::{Memory, Monomial, Order};
 use std::alloc::Global;
 
 /// Inserts the monomial, unless it is in the list.
 pub(crate) fn insert<O: Order>(o: &O, list: &mut Vec<Monomial>, m: Monomial) -> Result<(), Memory>
-    requires increasing { Rises (O.order o.now) list.old.items }
+    requires increasing { IsIncreasing (O.order o.now) list.old.items }
     requires comparable { AreComparable (O.order o.now) list.old.items }
     requires monomial { IsComparable (O.order o.now) m }
     ensures { OnOk result (IsInserted (O.order o.now) list.old.items list.new.items m) }
@@ -22,7 +23,7 @@ pub(crate) fn insert<O: Order>(o: &O, list: &mut Vec<Monomial>, m: Monomial) -> 
 
 /// The index of the monomial in the increasing list, or that at which it would be.
 fn insertion_index<O: Order>(o: &O, list: &[Monomial], m: &Monomial) -> usize
-    requires increasing { Rises (O.order o.now) list.now }
+    requires increasing { IsIncreasing (O.order o.now) list.now }
     requires comparable { AreComparable (O.order o.now) list.now }
     requires monomial { IsComparable (O.order o.now) m.now }
     ensures { IsInsertionIndex (O.order o.now) list.now m.now result }

@@ -1,8 +1,7 @@
 //! Least words.
 ghost use Rattle.std.specs.Prelude.{◌≡◌, ◌≤◌, ◌<◌, ◌↔◌, length, true, false, IfOk, IsTrue};
-ghost use Rattle.monomial_order.specs.Monomial.{product, IsMonomial};
-ghost use Rattle.monomial_order.specs.Words.{image_of, order_of, IsReducible, IsSWord, IsWord};
-ghost use Rattle.monomial_order.specs.ReducibleLaws.{IsMultiple};
+ghost use Rattle.monomial_order.specs.Monomial.{product, IsMonomial, IsMultiple};
+ghost use Rattle.word_laws.specs.Words.{image_of, word_order_of, IsReducible, IsSWord, IsWord};
 ghost use Rattle.toric_ideal.specs.Alphabet.{letters_of, IsAlphabet};
 ghost use Rattle.toric_ideal.specs.Increasing.{IsComparable};
 ghost use Rattle.toric_ideal.specs.LeastWords.{lead_letter, IsFactor, IsLeadQuotient, IsLeastFrom, IsLesser};
@@ -23,7 +22,7 @@ impl Alphabet {
     ) -> Result<Monomial, Memory>
         requires alphabet { IsAlphabet self.now }
         requires monomial { IsMonomial (length (letters_of self.now).degrees) m.now }
-        requires small { (order_of (letters_of self.now)).degree m.now ≤ 65535 }
+        requires small { (word_order_of (letters_of self.now)).degree m.now ≤ 65535 }
         requires within { i ≤ length (letters_of self.now).leads }
         ensures { IfOk result (IsLeastFrom (letters_of self.now) i m.now) }
     {
@@ -56,7 +55,7 @@ impl Alphabet {
         requires alphabet { IsAlphabet self.now }
         requires within { i < length (letters_of self.now).leads }
         requires word { IsWord (letters_of self.now) w.now }
-        requires product { IsComparable (order_of (letters_of self.now)) (product (lead_letter (letters_of self.now) i) w.now) }
+        requires product { IsComparable (word_order_of (letters_of self.now)) (product (lead_letter (letters_of self.now) i) w.now) }
         ensures { IfOk result (λ v. v ≡ product (lead_letter (letters_of self.now) i) w.now) }
     {
         letter(alloc, self.order.x_degrees.len() + i)?.times(alloc, w)
@@ -65,9 +64,9 @@ impl Alphabet {
     /// The second word if it is less, and else the first.
     fn lesser(&self, v: Monomial, w: Monomial) -> Monomial
         requires alphabet { IsAlphabet self.now }
-        requires left { IsComparable (order_of (letters_of self.now)) v }
-        requires right { IsComparable (order_of (letters_of self.now)) w }
-        ensures { IsLesser (order_of (letters_of self.now)) v w result }
+        requires left { IsComparable (word_order_of (letters_of self.now)) v }
+        requires right { IsComparable (word_order_of (letters_of self.now)) w }
+        ensures { IsLesser (word_order_of (letters_of self.now)) v w result }
     {
         if self.is_less(&w, &v) { w } else { v }
     }
@@ -80,7 +79,7 @@ impl Alphabet {
         w: &Monomial,
     ) -> Result<Option<Monomial>, Memory>
         requires alphabet { IsAlphabet self.now }
-        requires word { IsComparable (order_of (letters_of self.now)) w.now }
+        requires word { IsComparable (word_order_of (letters_of self.now)) w.now }
         ensures { IfOk result (IsLeastOrZero zeros.now (letters_of self.now) (image_of (letters_of self.now) w.now)) }
     {
         let image = self.image(alloc, w)?;
@@ -94,7 +93,7 @@ impl Alphabet {
     pub(crate) fn factor(&self, alloc: Global, m: &Monomial) -> Result<Option<Monomial>, Memory>
         requires alphabet { IsAlphabet self.now }
         requires monomial { IsMonomial (length (letters_of self.now).degrees) m.now }
-        requires small { (order_of (letters_of self.now)).degree m.now ≤ 65535 }
+        requires small { (word_order_of (letters_of self.now)).degree m.now ≤ 65535 }
         ensures { IfOk result (IsFactor (letters_of self.now) m.now) }
     {
         let least = self.least_from(alloc, m, 0)?;
@@ -128,7 +127,7 @@ impl Alphabet {
         image: &Monomial,
     ) -> Result<bool, Memory>
         requires alphabet { IsAlphabet self.now }
-        requires word { IsComparable (order_of (letters_of self.now)) w.now }
+        requires word { IsComparable (word_order_of (letters_of self.now)) w.now }
         requires image { image.now ≡ image_of (letters_of self.now) w.now }
         ensures { IfOk result (λ b. IsTrue b ↔ IsReducible (IsMultiple zeros.now) (letters_of self.now) w.now) }
     {

@@ -1,9 +1,8 @@
 //! Single letters, images and comparisons of words.
 ghost use Rattle.std.specs.Prelude.{◌≡◌, ◌≤◌, ◌<◌, ◌+◌, ◌^◌, ◌↔◌, length, IfOk, IsTrue, Contains};
 ghost use Rattle.std.specs.declared.cmp.Ordering.TheVariants.{Less};
-ghost use Rattle.monomial_order.specs.Monomial.{exponent, product, variable, Divides, IsTrimmed};
-ghost use Rattle.monomial_order.specs.Words.{order_of, image_of, IsWord};
-ghost use Rattle.monomial_order.specs.ReducibleLaws.{IsMultiple};
+ghost use Rattle.monomial_order.specs.Monomial.{exponent, product, variable, Divides, IsTrimmed, IsMultiple};
+ghost use Rattle.word_laws.specs.Words.{word_order_of, image_of, IsWord};
 ghost use Rattle.toric_ideal.specs.Alphabet.{letters_of, IsAlphabet};
 ghost use Rattle.toric_ideal.specs.Increasing.{IsComparable};
 
@@ -50,24 +49,24 @@ impl Alphabet {
     /// How many letters there are.
     pub(crate) fn places(&self) -> usize
         requires { IsAlphabet self.now }
-        ensures { result ≡ (order_of (letters_of self.now)).places }
+        ensures { result ≡ (word_order_of (letters_of self.now)).places }
     {
         self.order.places()
     }
 
     pub(crate) fn degree(&self, w: &Monomial) -> u32
         requires alphabet { IsAlphabet self.now }
-        requires word { IsComparable (order_of (letters_of self.now)) w.now }
-        ensures { result ≡ (order_of (letters_of self.now)).degree w.now }
+        requires word { IsComparable (word_order_of (letters_of self.now)) w.now }
+        ensures { result ≡ (word_order_of (letters_of self.now)).degree w.now }
     {
         self.order.degree(w)
     }
 
     pub(crate) fn is_less(&self, v: &Monomial, w: &Monomial) -> bool
         requires alphabet { IsAlphabet self.now }
-        requires left { IsComparable (order_of (letters_of self.now)) v.now }
-        requires right { IsComparable (order_of (letters_of self.now)) w.now }
-        ensures { IsTrue result ↔ ((order_of (letters_of self.now)).compare v.now w.now ≡ Less) }
+        requires left { IsComparable (word_order_of (letters_of self.now)) v.now }
+        requires right { IsComparable (word_order_of (letters_of self.now)) w.now }
+        ensures { IsTrue result ↔ ((word_order_of (letters_of self.now)).compare v.now w.now ≡ Less) }
     {
         self.order.compare(v, w).is_lt()
     }
@@ -75,7 +74,7 @@ impl Alphabet {
     /// The image of the letter at a place.
     pub(crate) fn letter_image(&self, alloc: Global, place: usize) -> Result<Monomial, Memory>
         requires alphabet { IsAlphabet self.now }
-        requires place { place < (order_of (letters_of self.now)).places }
+        requires place { place < (word_order_of (letters_of self.now)).places }
         ensures { IfOk result (λ m. m ≡ image_of (letters_of self.now) (variable place)) }
     {
         let x_count = self.order.x_degrees.len();
@@ -93,7 +92,7 @@ impl Alphabet {
         place: usize,
     ) -> Result<WordWithImage, Memory>
         requires alphabet { IsAlphabet self.now }
-        requires place { place < (order_of (letters_of self.now)).places }
+        requires place { place < (word_order_of (letters_of self.now)).places }
         ensures word { IfOk result (λ l. l.word ≡ variable place) }
         ensures image { IfOk result (λ l. l.image ≡ image_of (letters_of self.now) (variable place)) }
     {
@@ -106,7 +105,7 @@ impl Alphabet {
     /// The image of a word.
     pub(crate) fn image(&self, alloc: Global, w: &Monomial) -> Result<Monomial, Memory>
         requires alphabet { IsAlphabet self.now }
-        requires word { IsComparable (order_of (letters_of self.now)) w.now }
+        requires word { IsComparable (word_order_of (letters_of self.now)) w.now }
         ensures { IfOk result (λ m. m ≡ image_of (letters_of self.now) w.now) }
     {
         let mut rest = w.copy(alloc)?;

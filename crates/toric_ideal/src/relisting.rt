@@ -1,6 +1,6 @@
 //! Tables of other zeros or other leads.
 ghost use Rattle.std.specs.Prelude.{◌≤◌, ◌<◌, ◌++◌, ◌∷◌, [], ℕ, List, Contains, IfOk};
-ghost use Rattle.monomial_order.specs.Monomial.{weighted_degree};
+ghost use Rattle.monomial_order.specs.Monomial.{Exponents, weighted_degree};
 ghost use Rattle.toric_ideal.specs.Alphabet.{letters_of, IsAlphabet};
 ghost use Rattle.toric_ideal.specs.Leads.{AreLetterLeads};
 ghost use Rattle.toric_ideal.specs.Listing.{AgreeTo, AreZeros, IsListing, IsNewLead, OrdersByDegrees};
@@ -18,7 +18,7 @@ impl Table {
     pub(crate) fn extended(&self, alloc: Global, c: u32, zero: &[Monomial]) -> Result<Table, Memory>
         requires alphabet { IsAlphabet self.now.alphabet }
         requires listing { IsListing (listing_of self.now) }
-        requires low { (m : List ℕ) → Contains self.now.alphabet.leads.items m
+        requires low { (m : Exponents) → Contains self.now.alphabet.leads.items m
             → weighted_degree self.now.alphabet.order.x_degrees.items m ≤ self.now.degree }
         requires above { self.now.degree < c }
         requires small { c ≤ 30000 }

@@ -1,10 +1,9 @@
 //! Words to a degree.
 ghost use Rattle.std.specs.Prelude.{◌≡◌, ◌≤◌, ◌<◌, ◌≢◌, ◌++◌, ◌∷◌, [], ℕ, List, length, max, true, false, IfOk, OnOk, OnErr, IfSome, IsSome, IsNone, IsTrue};
-ghost use Rattle.monomial_order.specs.Monomial.{weighted_degree, IsMonomial};
+ghost use Rattle.monomial_order.specs.Monomial.{Exponents, weighted_degree, IsMonomial, IsMultiple};
 ghost use Rattle.monomial_order.specs.MonomialOrder.{MonomialOrder};
 ghost use Rattle.monomial_order.specs.Ranges.{all_between};
-ghost use Rattle.monomial_order.specs.Words.{image_of, lead_degrees, order_of, IsLeast, IsSWord, IsWord};
-ghost use Rattle.monomial_order.specs.ReducibleLaws.{IsMultiple};
+ghost use Rattle.word_laws.specs.Words.{image_of, lead_degrees, word_order_of, IsLeast, IsSWord, IsWord};
 ghost use Rattle.toric_ideal.specs.Leads.{letters};
 ghost use Rattle.toric_ideal.specs.Listing.{AgreeTo, AreRules, AreZeros, IsClosed, IsListing, IsNewLead, IsSettled, OrdersByDegrees};
 
@@ -67,9 +66,9 @@ impl Words {
         if c <= self.table.degree {
             return Ok(());
         }
-        let table = self.table.extended(alloc, c, zero)?;
-        self.settled_count = table.alphabet.leads.len();
-        self.table = table;
+        let extended = self.table.extended(alloc, c, zero)?;
+        self.settled_count = extended.alphabet.leads.len();
+        self.table = extended;
         Ok(())
     }
 
@@ -82,8 +81,8 @@ impl Words {
         ensures degree { self.new.degree ≡ self.old.degree }
         ensures err { OnErr result (self.new ≡ self.old) }
     {
-        let table = self.table.with_lead(alloc, m)?;
-        self.table = table;
+        let relisted = self.table.with_lead(alloc, m)?;
+        self.table = relisted;
         Ok(())
     }
 
@@ -97,8 +96,8 @@ impl Words {
         ensures degree { self.new.degree ≡ self.old.degree }
         ensures err { OnErr result (self.new ≡ self.old) }
     {
-        let table = self.table.settled(alloc, o, self.settled_count)?;
-        self.table = table;
+        let settled = self.table.settled(alloc, o, self.settled_count)?;
+        self.table = settled;
         Ok(())
     }
 
@@ -140,7 +139,7 @@ impl Words {
         ensures s_word { IfOk result (λ v. IfSome v (IsSWord self.now.letters)) }
         ensures least { IfOk result (λ v. IfSome v (IsLeast self.now.letters m.now)) }
         ensures none { IfOk result (λ v.
-            IsNone v → (u : List ℕ) → IsSWord self.now.letters u → image_of self.now.letters u ≢ m.now) }
+            IsNone v → (u : Exponents) → IsSWord self.now.letters u → image_of self.now.letters u ≢ m.now) }
     {
         self.table.alphabet.factor(alloc, m)
     }
@@ -148,7 +147,7 @@ impl Words {
     /// The least word with the image of w, or None if that is a multiple of a zero.
     pub fn least(&self, alloc: Global, w: &Monomial) -> Result<Option<Monomial>, Memory>
         requires word { IsWord self.now.letters w.now }
-        requires degree { (order_of self.now.letters).degree w.now ≤ self.now.degree }
+        requires degree { (word_order_of self.now.letters).degree w.now ≤ self.now.degree }
         ensures least { IfOk result (λ v. IfSome v (IsLeast self.now.letters (image_of self.now.letters w.now))) }
         ensures standard { IfOk result (λ v.
             IsSome v → ¬ IsMultiple self.now.zeros (image_of self.now.letters w.now)) }
@@ -173,6 +172,6 @@ impl Words {
         ensures closed { IsTrue result → IsClosed self.now }
         ensures never { result ≡ false }
     {
-        false
+        self.table.known_closed()
     }
 }

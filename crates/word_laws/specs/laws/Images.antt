@@ -1,7 +1,7 @@
 -- Images of words: products, exponents, degrees.
 use Rattle.std.proofs.Common.{◌≡◌, ◌≢◌, ℕ, zero, suc, ◌+◌, ◌*◌, ◌<◌, ◌≤◌, refl, sym, ◌∙◌, ap, List, [], ◌∷◌, ◌++◌, length, arith}
 use Rattle.std.specs.Prelude.{map}
-use Rattle.monomial_order.specs.Monomial.{exponent, IsTrimmed, IsMonomial, product, variable, weighted_degree}
+use Rattle.monomial_order.specs.Monomial.{exponent, Divides, IsTrimmed, IsMonomial, product, variable, weighted_degree}
 use Rattle.word_laws.specs.Words.{monomial_power, image, variables}
 use Rattle.monomial_order.specs.laws.Monomial.{product_assoc, product_comm, product-one, IsMonomial-product, exponent-product}
 use Rattle.monomial_order.specs.laws.Cofactors.{same_exponents}
@@ -130,17 +130,26 @@ image_front [] ms ns l = refl
 image_front (e ∷ w) [] ns l = absurd (omega arith)
 image_front (e ∷ w) (m ∷ ms) ns l = ap (product (monomial_power m e)) (image_front w ms ns (omega arith))
 
--- the exponents of the image of a word over the variables
+-- the exponents of a variable, and what it divides
 variable_at : (i : ℕ) → exponent (variable i) i ≡ 1
 variable_at zero = refl
 variable_at (suc i) = variable_at i
 
-variable_off : (i j : ℕ) → i ≢ j → exponent (variable i) j ≡ 0
+pub variable_off : (i j : ℕ) → i ≢ j → exponent (variable i) j ≡ 0
 variable_off zero zero h = absurd (h refl)
 variable_off zero (suc j) h = refl
 variable_off (suc i) zero h = refl
 variable_off (suc i) (suc j) h = variable_off i j (λ e. h (ap suc e))
 
+pub variable_divides : (i : ℕ) (u : List ℕ) → 1 ≤ exponent u i → Divides (variable i) u
+variable_divides zero [] h j = absurd (omega arith)
+variable_divides zero (e ∷ u) h zero = h
+variable_divides zero (e ∷ u) h (suc j) = omega arith
+variable_divides (suc i) [] h j = absurd (omega arith)
+variable_divides (suc i) (e ∷ u) h zero = omega arith
+variable_divides (suc i) (e ∷ u) h (suc j) = variable_divides i u h j
+
+-- the exponents of the image of a word over the variables
 exponent_power : (j : ℕ) (m : List ℕ) (e : ℕ) → exponent (monomial_power m e) j ≡ exponent m j * e
 exponent_power j m e = power_sum (λ x. exponent x j) refl (λ x y. exponent-product x y j) m e
 

@@ -4,7 +4,7 @@ use lib.Dec.{eqb}
 use Rattle.std.specs.Cmp.Lexicographic.{nat_list_eq_equiv}
 use Rattle.toric_ideal.specs.Increasing.{IsInsertionIndex, IsInserted}
 use Rattle.toric_ideal.proofs.IncreasingLists.{insert_new}
-use Rattle.toric_ideal.proofs.Members.{get_or_any}
+use Rattle.std.proofs.lemmas.List.{get_or_default}
 use Rattle.toric_ideal.proofs.increasing.insert.Goals as goal
 use Rattle.toric_ideal.proofs.increasing.insert.Goals.{else-index-len-via-then-index-len+else-eq, else-index-len-via-else-index-len}
 
@@ -37,7 +37,7 @@ returns g c =
     (elim c.else-index-len.branch [
       | else-index-len-via-then-index-len+else-eq w ↦ λ d es e q.
           let l : i < length ms = let a = w.if-index-len.true in let b = c.len.ensures in let o = c.args.list.now.ok in omega arith in
-          let f : w.index.result.now ≡ d = w.index.ensures ∙ (get_or_any ms i w.index.result.now [] l ∙ first_at ms i d es e) in
+          let f : w.index.result.now ≡ d = w.index.ensures ∙ (get_or_default ms i w.index.result.now [] l ∙ first_at ms i d es e) in
           differs w.index.result.now m (sym w.eq.ensures ∙ w.if-eq.false) (f ∙ q)
       | else-index-len-via-else-index-len w ↦ λ d es e q. none_past ms i d es (let a = w.if-index-len.false in let b = c.len.ensures in let o = c.args.list.now.ok in omega arith) e
     ]))

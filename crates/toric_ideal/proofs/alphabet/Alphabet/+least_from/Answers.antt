@@ -1,6 +1,6 @@
 use Rattle.std.proofs.Common.{◌≡◌, ◌+◌, ◌<◌, ◌≤◌, sym, subst, length, arith}
 use Rattle.std.proofs.lemmas.Result.{IfOk-weaker}
-use Rattle.monomial_order.specs.Words.{order_of}
+use Rattle.word_laws.specs.Words.{word_order_of}
 use Rattle.toric_ideal.specs.Alphabet.{letters_of}
 use Rattle.toric_ideal.specs.Increasing.{IsComparable}
 use Rattle.toric_ideal.specs.LeastWords.{IsLeadQuotient, IsLeastFrom, IsLesser}
@@ -38,7 +38,7 @@ pub lesser-requires-clause-right : goal.lesser-requires-clause-right
 lesser-requires-clause-right t c =
     let L = letters_of c.args.self.now in
     let below : c.args.i < length L.leads = let a = c.args.self.now.leads.ok in let b = c.if-i-len.false in let d = c.len.ensures in let w = c.requires.within in omega arith in
-    subst (IsComparable (order_of L)) (sym c.in_ok-with-in-Some.ensures)
+    subst (IsComparable (word_order_of L)) (sym c.in_ok-with-in-Some.ensures)
     (with_comparable L (alphabet_letters c.args.self.now c.requires.alphabet) c.args.i below c.args.m.now c.in-Some.rest c.in_ok-tail-in-Some.tail
     (subst (IsLeadQuotient L c.args.i c.args.m.now) c.in-Some.is c.in_ok-quotient.ensures) c.in_ok-tail-in-Some.ensures c.requires.small)
 
@@ -48,4 +48,4 @@ returns-in_ok-with-in-Some t c =
     let below : c.args.i < length L.leads = let a = c.args.self.now.leads.ok in let b = c.if-i-len.false in let d = c.len.ensures in let w = c.requires.within in omega arith in
     least_with L (alphabet_letters c.args.self.now c.requires.alphabet) c.args.i below c.args.m.now c.in-Some.rest c.in_ok-tail-in-Some.tail
     (subst (IsLeadQuotient L c.args.i c.args.m.now) c.in-Some.is c.in_ok-quotient.ensures) c.in_ok-tail-in-Some.ensures c.in_ok-without.without c.lesser.result c.in_ok-without.ensures
-    (subst (λ x. IsLesser (order_of L) c.in_ok-without.without x c.lesser.result) c.in_ok-with-in-Some.ensures c.lesser.ensures)
+    (subst (λ x. IsLesser (word_order_of L) c.in_ok-without.without x c.lesser.result) c.in_ok-with-in-Some.ensures c.lesser.ensures)

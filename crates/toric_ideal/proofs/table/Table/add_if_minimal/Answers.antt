@@ -2,7 +2,8 @@ use Rattle.std.proofs.Common.{◌≡◌, sym, subst}
 use Rattle.std.proofs.lemmas.Result.{on_ok_weaker}
 use Rattle.monomial_order.specs.Orders.{word_order}
 use Rattle.toric_ideal.specs.Alphabet.{letters_of}
-use Rattle.toric_ideal.specs.Increasing.{IsInserted, Rises}
+use Rattle.toric_ideal.specs.Increasing.{IsInserted}
+use Rattle.monomial_order.specs.MonomialOrder.{IsIncreasing}
 use Rattle.toric_ideal.proofs.Results.{no_from}
 use Rattle.toric_ideal.proofs.LetterLemmas.{alphabet_order}
 use Rattle.toric_ideal.proofs.EnumerationLemmas.{enumerates_none, enumerates_one}
@@ -14,7 +15,7 @@ returns-then-not-branch c =
 
 pub insert-requires-clause-increasing : goal.insert-requires-clause-increasing
 insert-requires-clause-increasing c =
-    subst (λ o. Rises o c.args.found.now.items) (sym (alphabet_order c.args.self.now.alphabet c.requires.table.listed.alphabet)) c.requires.found.increasing
+    subst (λ o. IsIncreasing o c.args.found.now.items) (sym (alphabet_order c.args.self.now.alphabet c.requires.table.listed.alphabet)) c.requires.found.increasing
 
 pub returns : goal.returns
 returns c =

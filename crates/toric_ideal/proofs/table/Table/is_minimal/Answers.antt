@@ -1,8 +1,8 @@
 use Rattle.std.proofs.Common.{sym, subst}
 use Rattle.std.specs.Prelude.{◌↔◌, IsTrue}
 use Rattle.std.proofs.lemmas.Result.{IfOk-weaker}
-use Rattle.monomial_order.specs.Words.{IsMinimalReducible, IsReducible}
-use Rattle.monomial_order.specs.ReducibleLaws.{IsMultiple}
+use Rattle.word_laws.specs.Words.{IsMinimalReducible, IsReducible}
+use Rattle.monomial_order.specs.Monomial.{IsMultiple}
 use Rattle.toric_ideal.specs.Alphabet.{letters_of}
 use Rattle.toric_ideal.specs.Listing.{HasRuleDivisor}
 use Rattle.toric_ideal.proofs.Results.{no_from, not_true}

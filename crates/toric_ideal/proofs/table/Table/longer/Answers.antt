@@ -1,6 +1,6 @@
 use Rattle.std.proofs.Common.{◌≡◌, ◌+◌, ◌<◌, ◌≤◌, ◌∙◌, suc, ap, subst, arith}
 use Rattle.monomial_order.specs.Monomial.{product}
-use Rattle.monomial_order.specs.Words.{image_of, order_of}
+use Rattle.word_laws.specs.Words.{image_of, word_order_of}
 use Rattle.toric_ideal.specs.Alphabet.{letters_of}
 use Rattle.toric_ideal.specs.Listing.{HasRuleDivisor}
 use Rattle.toric_ideal.proofs.EnumerationLemmas.{longer_above, longer_comparable, longer_divided, longer_fits, longer_image_fits, longer_is}
