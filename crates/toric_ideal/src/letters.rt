@@ -1,7 +1,7 @@
 //! Single letters, images and comparisons of words.
-ghost use Rattle.std.specs.Prelude.{◌≡◌, ◌≤◌, ◌<◌, ◌+◌, ◌^◌, ◌↔◌, length, IfOk, IsTrue, Contains};
+ghost use Rattle.std.specs.Prelude.{◌≡◌, ◌≤◌, ◌<◌, ◌+◌, ◌-◌, ◌^◌, ◌↔◌, length, IfOk, IsTrue, Contains};
 ghost use Rattle.std.specs.declared.cmp.Ordering.TheVariants.{Less};
-ghost use Rattle.monomial_order.specs.Monomial.{exponent, product, variable, Divides, IsTrimmed, IsMultiple};
+ghost use Rattle.monomial_order.specs.Monomial.{exponent, product, variable, IsTrimmed, IsMultiple};
 ghost use Rattle.word_laws.specs.Words.{word_order_of, image_of, IsWord};
 ghost use Rattle.toric_ideal.specs.Alphabet.{letters_of, IsAlphabet};
 ghost use Rattle.toric_ideal.specs.Increasing.{IsComparable};
@@ -21,13 +21,13 @@ pub(crate) fn letter(alloc: Global, place: usize) -> Result<Monomial, Memory>
     Monomial::from_places(alloc, exponents.as_slice())
 }
 
-/// The word without one of its letters.
-fn without(alloc: Global, w: &Monomial, letter: &Monomial) -> Result<Monomial, Memory>
-    requires { Divides letter.now w.now }
-    ensures cofactor { IfOk result (λ k. product letter.now k ≡ w.now) }
+/// The word without the last of its letters.
+fn without_last(alloc: Global, w: &Monomial) -> Result<Monomial, Memory>
+    requires { 0 < length w.now }
+    ensures cofactor { IfOk result (λ k. product (variable (length w.now - 1)) k ≡ w.now) }
     ensures trimmed { IfOk result IsTrimmed }
 {
-    match w.quotient(alloc, letter)? {
+    match w.quotient(alloc, &letter(alloc, w.places() - 1)?)? {
         Some(k) => Ok(k),
         None => Ok(Monomial::one(alloc)),
     }
@@ -112,7 +112,7 @@ impl Alphabet {
         let mut image = Monomial::one(alloc);
         'letters: while rest.places() > 0 {
             let place = rest.places() - 1;
-            let next = without(alloc, &rest, &letter(alloc, place)?)?;
+            let next = without_last(alloc, &rest)?;
             image = image.times(alloc, &self.letter_image(alloc, place)?)?;
             rest = next;
         }
