@@ -15,7 +15,7 @@ same_true m n h = (bytes_decides m n).0 h
 pub same_refl : (m : List ℕ) → same_monomial m m ≡ true
 same_refl m = (bytes_decides m m).1 refl
 
--- a term's coefficient times what stands for its monomial
+-- a term's coefficient times what is put for its monomial
 abbrev pub weighed : {E : Type 0} → FieldOps E → (List ℕ → E) → Term E → E
 weighed K g t = K.times t.by (g t.at)
 
@@ -60,7 +60,7 @@ module _ {E : Type 0} (K : FieldOps E) (F : IsField K) (g : List ℕ → E) wher
       (same_true t.at k) (coefficient_value K F p k) (total_value K F (weighed K g) (without k p)) (split k p) refl
 
 module _ {E : Type 0} (K : FieldOps E) (F : IsField K) where
-  -- what stands for a monomial in the coefficient at m
+  -- what is put for a monomial in the coefficient at m
   abbrev unit_at : List ℕ → List ℕ → E
   unit_at m a = cond (same_monomial a m) K.one K.zero
 
@@ -132,7 +132,7 @@ module _ {E : Type 0} (K : FieldOps E) (F : IsField K) where
       total_value K F (weighed K g) q))
 
   -- the product with q, as a linear sum
-  share_times : (b : Bool) (c d : E) → cond b (K.times c d) K.zero ≡ K.times c (cond b d K.zero)
+  pub share_times : (b : Bool) (c d : E) → cond b (K.times c d) K.zero ≡ K.times c (cond b d K.zero)
   share_times true c d = refl
   share_times false c d = sym (times-zero K F c)
 

@@ -1,4 +1,4 @@
--- Falling lists: their terms, their parts, and their products with a term.
+-- Decreasing lists: their terms, their parts, and their products with a term.
 use Rattle.std.proofs.Common.{◌≡◌, ◌≢◌, ℕ, zero, suc, ◌+◌, ◌<◌, ◌≤◌, sym, ◌∙◌, subst, List, [], ◌∷◌, ◌++◌, length, get_or, arith, cond, Bool, true, false}
 use Rattle.std.specs.Prelude.{All, nat_eq}
 use Rattle.std.specs.declared.cmp.Ordering.TheVariants.{Less}
@@ -24,6 +24,11 @@ pub all_back : {A : Type 0} (P : A → Type 0) (xs ys : List A) → All P (xs ++
 all_back P [] ys h k d l = h k d l
 all_back P (x ∷ xs) ys h k d l = all_back P xs ys (λ j e m. h (suc j) e (omega arith)) k d l
 
+module _ {E : Type 0} where
+  pub AllAt-append : (P : List ℕ → Type 0) (p q : Polynomial E) → AllAt P p → AllAt P q → AllAt P (p ++ q)
+  AllAt-append P [] q h k = k
+  AllAt-append P (t ∷ p) q h k = (h.0, AllAt-append P p q h.1 k)
+
 module _ {E : Type 0} (K : FieldOps E) where
   pub terms_all : (n : ℕ) (p : Polynomial E) → IsPoly K n p → All (IsTerm K n) p
   terms_all n [] h k d l = absurd (omega arith)
@@ -35,7 +40,7 @@ module _ {E : Type 0} (K : FieldOps E) where
   all_terms n (t ∷ p) h = (h zero t (omega arith), all_terms n p (λ k d l. h (suc k) d (omega arith)))
 
   module _ (O : MonomialOrder) where
-    -- the coefficients of a falling list are values, and not zero
+    -- the coefficients of a decreasing list are values, and not zero
     pub decreasing_values : (p : Polynomial E) → IsDecreasing K O p → All (λ t. IsValue K t.by) p
     decreasing_values [] h k d l = absurd (omega arith)
     decreasing_values (t ∷ p) h zero d l = h.0.term.value
@@ -46,7 +51,7 @@ module _ {E : Type 0} (K : FieldOps E) where
     decreasing_nonzero (t ∷ p) h zero d l = h.0.nonzero
     decreasing_nonzero (t ∷ p) h (suc k) d l = decreasing_nonzero p h.1 k d (omega arith)
 
-    -- the degree of each term of a kept list can be computed
+    -- the degree of each term of a canonical list can be computed
     pub canonical_measured : (p : Polynomial E) → IsCanonical K O p → All (IsMeasured O) p
     canonical_measured [] h k d l = absurd (omega arith)
     canonical_measured (t ∷ p) h zero d l = record { monomial = h.decreasing.0.term.monomial; small = h.small.0 }
@@ -64,7 +69,7 @@ module _ {E : Type 0} (K : FieldOps E) where
     IsBelow-right m [] q h = h
     IsBelow-right m (t ∷ p) q h = IsBelow-right m p q h.1
 
-    -- the parts of a falling list fall
+    -- the parts of a decreasing list are decreasing
     pub IsDecreasing-left : (p q : Polynomial E) → IsDecreasing K O (p ++ q) → IsDecreasing K O p
     IsDecreasing-left [] q h = tt
     IsDecreasing-left (x ∷ p) q h = (record { term = h.0.term; nonzero = h.0.nonzero; above = IsBelow-left x.at p q h.0.above }, IsDecreasing-left p q h.1)
@@ -136,17 +141,13 @@ module _ {E : Type 0} (K : FieldOps E) (O : MonomialOrder) where
   within_scaled L t [] d e h k = tt
   within_scaled L t (u ∷ q) d e h k = (let s = L.degree_product t.at u.at in let a = k.0 in omega arith, within_scaled L t q d e h k.1)
 
-  AllAt-append : (P : List ℕ → Type 0) (p q : Polynomial E) → AllAt P p → AllAt P q → AllAt P (p ++ q)
-  AllAt-append P [] q h k = k
-  AllAt-append P (t ∷ p) q h k = (h.0, AllAt-append P p q h.1 k)
-
   pub within_times : IsMonomialOrder O → (p q : Polynomial E) (d e : ℕ) → AllAt (λ m. O.degree m ≤ d) p → AllAt (λ m. O.degree m ≤ e) q → AllAt (λ m. O.degree m ≤ d + e) (times K p q)
   within_times L [] q d e h k = tt
   within_times L (t ∷ p) q d e h k =
       AllAt-append (λ m. O.degree m ≤ d + e) (scaled K t q) (times K p q) (within_scaled L t q d e h.0 k) (within_times L p q d e h.1 k)
 
 module _ {E : Type 0} (K : FieldOps E) (F : IsField K) (O : MonomialOrder) where
-  -- a multiple by a nonzero constant falls
+  -- a multiple by a nonzero constant is decreasing
   pub IsDecreasing-multiple : (c : E) (p : Polynomial E) → IsValue K c → c ≢ K.zero → IsDecreasing K O p → IsDecreasing K O (scaled K (term_of [] c) p)
   IsDecreasing-multiple c [] v n h = tt
   IsDecreasing-multiple c (t ∷ p) v n h = (
@@ -166,12 +167,13 @@ module _ {E : Type 0} (K : FieldOps E) (F : IsField K) (O : MonomialOrder) where
   canonical_multiple c p v n h = record { decreasing = IsDecreasing-multiple c p v n h.decreasing; small = IsSmall-multiple K O c p h.small }
 
   module _ (L : IsMonomialOrder O) where
-    scaled_below : (s t : Term E) (p : Polynomial E) → IsTerm K O.places s → IsTerm K O.places t → IsPoly K O.places p → IsBelow K O t.at p → IsBelow K O (product s.at t.at) (scaled K s p)
+    -- products with a term keep the order
+    pub scaled_below : (s t : Term E) (p : Polynomial E) → IsTerm K O.places s → IsTerm K O.places t → IsPoly K O.places p → IsBelow K O t.at p → IsBelow K O (product s.at t.at) (scaled K s p)
     scaled_below s t [] hs ht hp h = tt
     scaled_below s t (u ∷ p) hs ht hp h =
         (L.kept s.at u.at t.at hs.monomial.trimmed hp.0.monomial.trimmed ht.monomial.trimmed ∙ h.0, scaled_below s t p hs ht hp.1 h.1)
 
-    -- the product with a nonzero term falls
+    -- the product with a nonzero term is decreasing
     pub IsDecreasing-scaled : (s : Term E) (p : Polynomial E) → IsTerm K O.places s → s.by ≢ K.zero → IsDecreasing K O p → IsDecreasing K O (scaled K s p)
     IsDecreasing-scaled s [] hs n h = tt
     IsDecreasing-scaled s (t ∷ p) hs n h = (

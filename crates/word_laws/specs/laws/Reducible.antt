@@ -11,11 +11,11 @@ use Rattle.monomial_order.specs.laws.Comparing.{equal_or_not, monomial_or_not, l
 use Rattle.monomial_order.specs.laws.Rank.{IsWithin, below_induction, lists, within_listed}
 use Rattle.word_laws.specs.laws.Words.{word_laws, image_x, image_times, s_smaller}
 
--- a word is reducible in both senses where its image counts as zero in both
+-- a word is reducible in both senses if its image counts as zero in both
 pub reducible_zeros : (Y Z : List ℕ → Type 0) (L : Letters) (w : List ℕ) → (Y (image_of L w) → Z (image_of L w)) → IsReducible Y L w → IsReducible Z L w
 reducible_zeros Y Z L w h r = ⊎_elim (λ z. inl (h z)) inr r
 
--- where the monomials that count as zero are the same, the minimal reducible words are
+-- if the same monomials count as zero, the minimal reducible words are the same
 pub minimal_zeros : (Y Z : List ℕ → Type 0) (L : Letters) (w : List ℕ) → ((m : List ℕ) → Y m → Z m) → ((m : List ℕ) → Z m → Y m) → IsMinimalReducible Y L w → IsMinimalReducible Z L w
 minimal_zeros Y Z L w h k m = record {
   word = m.word;
@@ -157,7 +157,7 @@ module _ (L : Letters) (H : AreLetters L) where
           ))
           (find_member (IsDivisor w) (divisor_or_not w) (lists (word_order_of L).places d)))
 
-      -- a word is reducible exactly where a minimal reducible word divides it
+      -- a word is reducible exactly if a minimal reducible word divides it
       pub reducible_exactly : (w : List ℕ) → IsWord L w → IsReducible IsZero L w ↔ ((u : List ℕ) × IsMinimalReducible IsZero L u × Divides u w)
       reducible_exactly w h =
           (λ r. minimal_within ((word_order_of L).degree w) w (within_own w h) r, λ u. reducible_multiple u.0 w u.1.word h u.2 u.1.reducible)
