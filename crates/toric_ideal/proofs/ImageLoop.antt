@@ -1,9 +1,9 @@
 -- The image of a word, letter by letter from its end.
 use Rattle.std.proofs.Common.{◌≡◌, ℕ, zero, suc, ◌+◌, ◌-◌, ◌<◌, ◌≤◌, sym, ◌∙◌, ap, subst, List, [], ◌∷◌, length, arith}
 use Rattle.monomial_order.specs.Monomial.{exponent, product, variable, Divides, IsMonomial, IsTrimmed}
-use Rattle.monomial_order.specs.laws.Monomial.{product_assoc, product_comm, product_fits, product-one, IsMonomial-product}
+use Rattle.monomial_order.specs.laws.Monomial.{product_assoc, product_comm, product_fits, product-one, IsMonomial-product, variable_divides}
 use Rattle.monomial_order.specs.laws.Cofactors.{length-product_right}
-use Rattle.word_laws.specs.laws.Images.{monomial_one, variable_divides}
+use Rattle.word_laws.specs.laws.Images.{monomial_one}
 use Rattle.word_laws.specs.Words.{image_of, word_order_of, AreLetters, IsWord, Letters}
 use Rattle.word_laws.specs.laws.Words.{degree_image, image_times, image_x, word_laws, x_word}
 

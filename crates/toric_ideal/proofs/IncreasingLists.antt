@@ -1,10 +1,11 @@
 -- Increasing lists.
-use Rattle.std.proofs.Common.{◌≡◌, ◌≢◌, ℕ, zero, suc, ◌<◌, ◌≤◌, refl, sym, ◌∙◌, ap, subst, List, [], ◌∷◌, ◌++◌, length, length-append, take, drop, get_or, arith, ◌⊎◌, inl, inr, ⊎_elim}
+use Rattle.std.proofs.Common.{◌≡◌, ◌≢◌, ℕ, zero, suc, ◌<◌, ◌≤◌, refl, sym, ◌∙◌, ap, subst, List, [], ◌∷◌, ◌++◌, length, length-append, take, drop, drop-cons, get_or, arith, ◌⊎◌, inl, inr, ⊎_elim}
 use Rattle.std.specs.Prelude.{Contains, AllPairs}
+use Rattle.std.proofs.Math.ListN.{drop_of_length-le}
 use Rattle.std.proofs.lemmas.List.{take-append-drop}
 use Rattle.std.specs.declared.cmp.Ordering.TheVariants.{Less}
 use Rattle.monomial_order.specs.MonomialOrder.{IsIncreasing, IsMonomialOrder, MonomialOrder}
-use Rattle.monomial_order.specs.laws.Comparing.{increasing_below, increasing_cons, increasing_tail, three_ways}
+use Rattle.monomial_order.specs.laws.Comparing.{le_or_not, increasing_below, increasing_cons, increasing_tail, three_ways}
 use Rattle.monomial_order.specs.laws.Lists.{contains_at, contains_cases, contains_here, contains_left, contains_none, contains_right, contains_there}
 use Rattle.toric_ideal.specs.Increasing.{IsInsertionIndex, IsInserted, IsSorted}
 use Rattle.std.proofs.lemmas.List.Elements.{Contains-append_cases}
@@ -64,18 +65,25 @@ module _ (O : MonomialOrder) (W : IsMonomialOrder O) where
   increasing_drop (suc i) [] r = tt
   increasing_drop (suc i) (m ∷ ms) r = increasing_drop i ms (increasing_tail O m ms r)
 
-  above_all : (m : List ℕ) (ds : List (List ℕ)) → IsIncreasing O ds → ((k : List ℕ) → Contains ds k → O.compare k m ≢ Less) → ((d : List ℕ) (es : List (List ℕ)) → ds ≡ d ∷ es → d ≢ m) →
-      (k : List ℕ) → Contains ds k → O.compare m k ≡ Less
-  above_all m [] r h n k c = absurd (contains_none k c)
-  above_all m (d ∷ ds) r h n k c =
-      ⊎_elim (λ a. absurd (h d (contains_here d ds) a))
-      (λ b. ⊎_elim (λ e. absurd (n d ds refl e))
-      (λ a. ⊎_elim (λ q. subst (λ x. O.compare m x ≡ Less) q a) (λ later. W.total.trans m d k a (increasing_below O W d ds r k later)) (contains_cases d ds k c)) b)
-      (three_ways O W d m)
+  above_all : (ms : List (List ℕ)) (m : List ℕ) (i : ℕ) → IsIncreasing O ms → IsInsertionIndex O ms m i → (i < length ms → get_or ms i [] ≢ m) → (k : List ℕ) → Contains (drop i ms) k → O.compare m k ≡ Less
+  above_all ms m i r p n k c = ⊎_elim (λ l. later l) (λ g. absurd (none g)) (le_or_not (suc i) (length ms))
+    where
+      none : (suc i ≤ length ms → ⊥) → ⊥
+      none g = contains_none k (subst (λ ys. Contains ys k) (drop_of_length-le ms (let f = g in omega arith)) c)
 
-  pub insert_new : (ms : List (List ℕ)) (m : List ℕ) (i : ℕ) → IsIncreasing O ms → IsInsertionIndex O ms m i → ((d : List ℕ) (es : List (List ℕ)) → drop i ms ≡ d ∷ es → d ≢ m) → IsInserted O ms (take i ms ++ m ∷ drop i ms) m
+      later : suc i ≤ length ms → O.compare m k ≡ Less
+      later l =
+          let h = get_or ms i [] in
+          let d = drop (suc i) ms in
+          let e : drop i ms ≡ h ∷ d = drop-cons ms i [] (omega arith) in
+          let a : O.compare m h ≡ Less =
+          ⊎_elim (λ x. absurd (p.after h (subst (λ ys. Contains ys h) (sym e) (contains_here h d)) x)) (λ x. ⊎_elim (λ q. absurd (n (omega arith) q)) (λ y. y) x) (three_ways O W h m) in
+          ⊎_elim (λ q. subst (λ x. O.compare m x ≡ Less) q a) (λ b. W.total.trans m h k a (increasing_below O W h d (subst (IsIncreasing O) e (increasing_drop i ms r)) k b))
+          (contains_cases h d k (subst (λ ys. Contains ys k) e c))
+
+  pub insert_new : (ms : List (List ℕ)) (m : List ℕ) (i : ℕ) → IsIncreasing O ms → IsInsertionIndex O ms m i → (i < length ms → get_or ms i [] ≢ m) → IsInserted O ms (take i ms ++ m ∷ drop i ms) m
   insert_new ms m i r p n =
-      let above = above_all m (drop i ms) (increasing_drop i ms r) p.after n in
+      let above = above_all ms m i r p n in
       record {
         increasing = increasing_append (take i ms) (m ∷ drop i ms) (increasing_take i ms r) (increasing_cons O m (drop i ms) above (increasing_drop i ms r))
             (λ k x c d. ⊎_elim (λ e. subst (λ y. O.compare k y ≡ Less) e (p.before k c)) (λ later. W.total.trans k m x (p.before k c) (above x later)) (contains_cases m (drop i ms) x d));

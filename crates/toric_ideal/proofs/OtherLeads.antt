@@ -2,9 +2,10 @@
 use Rattle.std.proofs.Common.{◌≡◌, ◌≢◌, ℕ, zero, suc, ◌+◌, ◌<◌, ◌≤◌, refl, sym, ◌∙◌, ap, subst, List, [], ◌∷◌, ◌++◌, length, length-append, take, drop, get_or, arith, ⊎_elim}
 use Rattle.std.specs.Prelude.{Contains, map, sum, AllPairs, true}
 use Rattle.std.proofs.Math.Seq.{drop-append_seam, take-append_seam}
-use Rattle.std.proofs.lemmas.List.{drop-append-le, length-take-le, take-append-drop, take-append-le}
+use Rattle.std.proofs.lemmas.List.{drop-append-le, length-take-le, take-append-drop, take-append-le, get_or_default}
 use Rattle.std.proofs.lemmas.List.Quantifiers.{all_pairs_push}
 use Rattle.monomial_order.specs.Monomial.{exponent, variable, weighted_degree, IsMonomial, IsTrimmed}
+use Rattle.monomial_order.specs.laws.Monomial.{variable_off}
 use Rattle.monomial_order.specs.MonomialOrder.{MonomialOrder, IsMonomialOrder}
 use Rattle.monomial_order.specs.Ranges.{all_between}
 use Rattle.word_laws.specs.laws.Images.{degree_weighted}
@@ -19,11 +20,9 @@ use Rattle.toric_ideal.specs.Increasing.{AreComparable, IsSorted}
 use Rattle.toric_ideal.specs.Listing.{AgreeTo, AreParted, AreRules, AreZeros, OrdersByDegrees, IsListing, IsNewLead, IsSettled}
 use Rattle.toric_ideal.specs.Tables.{listing_of, IsExtended, IsListed, IsParted, IsRelisted, HasSameLetters}
 use Rattle.std.proofs.lemmas.List.Elements.{Contains-append_cases}
-use Rattle.std.proofs.lemmas.List.{get_or_default}
 use Rattle.toric_ideal.proofs.Members.{contains_drop, contains_parts, contains_take, drop_none}
 use Rattle.toric_ideal.proofs.Results.{not_true}
 use Rattle.toric_ideal.proofs.Pairs.{pairs_append, pairs_drop, pairs_from, pairs_take, pairs_to, increasing_distinct}
-use Rattle.word_laws.specs.laws.Images.{variable_off}
 use Rattle.toric_ideal.proofs.Skipping.{sum_skipped}
 use Rattle.toric_ideal.proofs.LetterLemmas.{alphabet_letters, image_lead, leads_letters, letter_word, places_count}
 use Rattle.toric_ideal.proofs.EnumerationLemmas.{degree_none}

@@ -1,5 +1,6 @@
 -- Increasing lists of monomials.
 use Rattle.std.specs.Prelude.{◌≡◌, ◌≢◌, ℕ, suc, ◌≤◌, List, [], ◌∷◌, length, take, drop, Contains, ◌⊎◌, ◌↔◌, AllPairs}
+use Rattle.monomial_order.specs.Limits.{exponent_max}
 use Rattle.std.specs.declared.cmp.Ordering.TheVariants.{Less}
 use Rattle.monomial_order.specs.Monomial.{Exponents, IsMonomial}
 use Rattle.monomial_order.specs.MonomialOrder.{IsIncreasing, MonomialOrder}
@@ -7,7 +8,7 @@ use Rattle.monomial_order.specs.MonomialOrder.{IsIncreasing, MonomialOrder}
 -- a monomial of the places, of a degree that the order compares
 pub record IsComparable (O : MonomialOrder) (m : Exponents) : Type 0 where
   pub monomial : IsMonomial O.places m
-  pub small : O.degree m ≤ 65535
+  pub small : O.degree m ≤ exponent_max
 
 abbrev pub AreComparable : MonomialOrder → List Exponents → Type 0
 AreComparable O ms = (m : Exponents) → Contains ms m → IsComparable O m

@@ -1,5 +1,6 @@
 -- Words to a degree: the least words, and the rules that are the minimal reducible words.
 use Rattle.std.specs.Prelude.{◌≡◌, ◌≢◌, ℕ, ◌≤◌, ◌<◌, ◌↔◌, Bool, List, ◌++◌, length, map, Contains, AllPairs, Option, Some, None, IsTrue}
+use Rattle.monomial_order.specs.Limits.{degree_max}
 use Rattle.monomial_order.specs.Monomial.{Exponents, IsMonomial, Divides, weighted_degree, IsMultiple}
 use Rattle.monomial_order.specs.MonomialOrder.{IsIncreasing, MonomialOrder}
 use Rattle.word_laws.specs.Words.{Letters, AreLetters, word_order_of, image_of, variables, IsLeast, IsMinimalReducible, IsReducible, IsSWord, IsWord}
@@ -74,7 +75,7 @@ pub record IsListing (W : Listing) : Type 0 where
   pub leads : AreLetterLeads W.letters.degrees W.letters.leads
   pub distinct : AllPairs (λ m n. m ≢ n) W.letters.leads
   pub zeros : AreZeros W.letters.degrees W.degree W.zeros
-  pub small : W.degree ≤ 30000
+  pub small : W.degree ≤ degree_max
   pub rules : AreRules W.letters W.zeros W.degree W.rules
   pub closed : IsTrue W.closed → IsClosed W
 

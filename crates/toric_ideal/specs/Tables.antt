@@ -1,5 +1,6 @@
 -- Tables of rules, and how they change.
 use Rattle.std.specs.Prelude.{◌≡◌, ℕ, suc, ◌≤◌, List, false, length, map, take, drop, Contains}
+use Rattle.monomial_order.specs.Limits.{degree_max}
 use Rattle.monomial_order.specs.Monomial.{Exponents}
 use Rattle.word_laws.specs.Words.{image_of}
 use Rattle.monomial_order.specs.MonomialOrder.{MonomialOrder}
@@ -27,7 +28,7 @@ pub record IsListed (t : Table) : Type 0 where
 -- the rules are those of the degree, and it isn't the greatest degree
 pub record CanGrow (t : Table) : Type 0 where
   pub listed : IsListed t
-  pub small : suc t.degree ≤ 30000
+  pub small : suc t.degree ≤ degree_max
 
 -- the tables are of the same letters and zeros
 pub record HasSameLetters (old new : Table) : Type 0 where

@@ -1,5 +1,6 @@
 //! Tables of a greater degree.
 ghost use Rattle.std.specs.Prelude.{◌≡◌, ◌≤◌, ◌<◌, suc, IfOk, OnOk};
+ghost use Rattle.monomial_order.specs.Limits.{degree_max};
 ghost use Rattle.word_laws.specs.Words.{word_order_of};
 ghost use Rattle.toric_ideal.specs.Alphabet.{letters_of, IsAlphabet};
 ghost use Rattle.toric_ideal.specs.Enumeration.{AreNextRules};
@@ -78,7 +79,7 @@ impl Table {
     pub(crate) fn grown_to(self, alloc: Global, degree: u32) -> Result<Table, Memory>
         requires listed { IsListed self }
         requires above { self.degree ≤ degree }
-        requires small { degree ≤ 30000 }
+        requires small { degree ≤ degree_max }
         ensures listed { IfOk result IsListed }
         ensures degree { IfOk result (λ t. t.degree ≡ degree) }
         ensures same { IfOk result (λ t. HasSameLetters self t) }

@@ -1,5 +1,6 @@
 //! Least words.
 ghost use Rattle.std.specs.Prelude.{◌≡◌, ◌≤◌, ◌<◌, ◌↔◌, length, true, false, IfOk, IsTrue};
+ghost use Rattle.monomial_order.specs.Limits.{exponent_max};
 ghost use Rattle.monomial_order.specs.Monomial.{product, IsMonomial, IsMultiple};
 ghost use Rattle.word_laws.specs.Words.{image_of, word_order_of, IsReducible, IsSWord, IsWord};
 ghost use Rattle.toric_ideal.specs.Alphabet.{letters_of, IsAlphabet};
@@ -22,7 +23,7 @@ impl Alphabet {
     ) -> Result<Monomial, Memory>
         requires alphabet { IsAlphabet self.now }
         requires monomial { IsMonomial (length (letters_of self.now).degrees) m.now }
-        requires small { (word_order_of (letters_of self.now)).degree m.now ≤ 65535 }
+        requires small { (word_order_of (letters_of self.now)).degree m.now ≤ exponent_max }
         requires within { i ≤ length (letters_of self.now).leads }
         ensures { IfOk result (IsLeastFrom (letters_of self.now) i m.now) }
     {
@@ -93,7 +94,7 @@ impl Alphabet {
     pub(crate) fn factor(&self, alloc: Global, m: &Monomial) -> Result<Option<Monomial>, Memory>
         requires alphabet { IsAlphabet self.now }
         requires monomial { IsMonomial (length (letters_of self.now).degrees) m.now }
-        requires small { (word_order_of (letters_of self.now)).degree m.now ≤ 65535 }
+        requires small { (word_order_of (letters_of self.now)).degree m.now ≤ exponent_max }
         ensures { IfOk result (IsFactor (letters_of self.now) m.now) }
     {
         let least = self.least_from(alloc, m, 0)?;

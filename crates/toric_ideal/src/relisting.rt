@@ -1,5 +1,6 @@
 //! Tables of other zeros or other leads.
 ghost use Rattle.std.specs.Prelude.{◌≤◌, ◌<◌, ◌++◌, ◌∷◌, [], ℕ, List, Contains, IfOk};
+ghost use Rattle.monomial_order.specs.Limits.{degree_max};
 ghost use Rattle.monomial_order.specs.Monomial.{Exponents, weighted_degree};
 ghost use Rattle.toric_ideal.specs.Alphabet.{letters_of, IsAlphabet};
 ghost use Rattle.toric_ideal.specs.Leads.{AreLetterLeads};
@@ -21,7 +22,7 @@ impl Table {
         requires low { (m : Exponents) → Contains self.now.alphabet.leads.items m
             → weighted_degree self.now.alphabet.order.x_degrees.items m ≤ self.now.degree }
         requires above { self.now.degree < c }
-        requires small { c ≤ 30000 }
+        requires small { c ≤ degree_max }
         requires zero { AreZeros (letters_of self.now.alphabet).degrees c zero.now }
         requires agree { AgreeTo (letters_of self.now.alphabet).degrees self.now.degree self.now.zeros.items zero.now }
         ensures { IfOk result (λ t. IsExtended self.now t c zero.now) }
@@ -39,7 +40,7 @@ impl Table {
     fn relisted(&self, alloc: Global, leads: Vec<Monomial>) -> Result<Table, Memory>
         requires leads { AreLetterLeads self.now.alphabet.order.x_degrees.items leads.items }
         requires zeros { AreZeros self.now.alphabet.order.x_degrees.items self.now.degree self.now.zeros.items }
-        requires small { self.now.degree ≤ 30000 }
+        requires small { self.now.degree ≤ degree_max }
         ensures { IfOk result (λ t. IsRelisted self.now t leads.items) }
     {
         let alphabet = Alphabet::new(alloc, self.alphabet.order.x_degrees.as_slice(), leads)?;

@@ -1,5 +1,6 @@
 //! Words with their images.
 ghost use Rattle.std.specs.Prelude.{◌≡◌, ◌≤◌, ℕ, ◌+◌, [], IfOk};
+ghost use Rattle.monomial_order.specs.Limits.{exponent_max};
 ghost use Rattle.monomial_order.specs.Monomial.{exponent, product};
 
 use monomial_order::{Memory, Monomial};
@@ -33,8 +34,8 @@ impl WordWithImage {
     }
 
     pub(crate) fn times(&self, alloc: Global, by: &WordWithImage) -> Result<WordWithImage, Memory>
-        requires word { (i : ℕ) → exponent self.now.word i + exponent by.now.word i ≤ 65535 }
-        requires image { (i : ℕ) → exponent self.now.image i + exponent by.now.image i ≤ 65535 }
+        requires word { (i : ℕ) → exponent self.now.word i + exponent by.now.word i ≤ exponent_max }
+        requires image { (i : ℕ) → exponent self.now.image i + exponent by.now.image i ≤ exponent_max }
         ensures word { IfOk result (λ w. w.word ≡ product self.now.word by.now.word) }
         ensures image { IfOk result (λ w. w.image ≡ product self.now.image by.now.image) }
     {

@@ -1,5 +1,6 @@
 //! Words to a degree.
 ghost use Rattle.std.specs.Prelude.{◌≡◌, ◌≤◌, ◌<◌, ◌≢◌, ◌++◌, ◌∷◌, [], ℕ, List, length, max, true, false, IfOk, OnOk, OnErr, IfSome, IsSome, IsNone, IsTrue};
+ghost use Rattle.monomial_order.specs.Limits.{degree_max};
 ghost use Rattle.monomial_order.specs.Monomial.{Exponents, weighted_degree, IsMonomial, IsMultiple};
 ghost use Rattle.monomial_order.specs.MonomialOrder.{MonomialOrder};
 ghost use Rattle.monomial_order.specs.Ranges.{all_between};
@@ -38,7 +39,7 @@ impl Model for Words {
 impl Words {
     /// No lead, no zero, and the degree 0.
     pub fn new(alloc: Global, x_degrees: &[u32]) -> Result<Words, Memory>
-        requires { all_between 1 30000 x_degrees.now ≡ true }
+        requires { all_between 1 degree_max x_degrees.now ≡ true }
         ensures letters { IfOk result (λ w. w.letters ≡ letters x_degrees.now []) }
         ensures zeros { IfOk result (λ w. w.zeros ≡ []) }
         ensures degree { IfOk result (λ w. w.degree ≡ 0) }
@@ -53,7 +54,7 @@ impl Words {
     /// Lists the words to the degree c, with the members of `zero` as zeros. If the degree is c or more already,
     /// nothing changes.
     pub fn extend_to(&mut self, alloc: Global, c: u32, zero: &[Monomial]) -> Result<(), Memory>
-        requires small { c ≤ 30000 }
+        requires small { c ≤ degree_max }
         requires zero { AreZeros self.old.letters.degrees c zero.now }
         requires agree { self.old.degree < c
             → AgreeTo self.old.letters.degrees self.old.degree self.old.zeros zero.now }

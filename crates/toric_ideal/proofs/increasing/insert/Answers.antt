@@ -8,19 +8,6 @@ use Rattle.std.proofs.lemmas.List.{get_or_default}
 use Rattle.toric_ideal.proofs.increasing.insert.Goals as goal
 use Rattle.toric_ideal.proofs.increasing.insert.Goals.{else-index-len-via-then-index-len+else-eq, else-index-len-via-else-index-len}
 
--- what stands first from an index on stands at it
-first_at : (ms : List (List ℕ)) (i : ℕ) (d : List ℕ) (es : List (List ℕ)) → drop i ms ≡ d ∷ es → (get_or ms i [] ≡ d)
-first_at [] zero d es e = cc
-first_at [] (suc i) d es e = cc
-first_at (m ∷ ms) zero d es e = cc
-first_at (m ∷ ms) (suc i) d es e = first_at ms i d es e
-
-none_past : (ms : List (List ℕ)) (i : ℕ) (d : List ℕ) (es : List (List ℕ)) → length ms ≤ i → drop i ms ≡ d ∷ es → ⊥
-none_past [] zero d es l e = cc
-none_past [] (suc i) d es l e = cc
-none_past (m ∷ ms) zero d es l e = absurd (omega arith)
-none_past (m ∷ ms) (suc i) d es l e = none_past ms i d es (omega arith) e
-
 differs : (x m : List ℕ) → pointwise eqb x m ≡ false → x ≢ m
 differs x m h e = let t = nat_list_eq_equiv.refl m in let q : pointwise eqb m m ≡ false = subst (λ y. pointwise eqb y m ≡ false) e h in cc
 
@@ -35,9 +22,6 @@ returns g c =
     subst (λ new. IsInserted O ms new m) (sym c.in_ok-insert.ensures.items)
     (insert_new O W ms m i c.requires.increasing place
     (elim c.else-index-len.branch [
-      | else-index-len-via-then-index-len+else-eq w ↦ λ d es e q.
-          let l : i < length ms = let a = w.if-index-len.true in let b = c.len.ensures in let o = c.args.list.now.ok in omega arith in
-          let f : w.index.result.now ≡ d = w.index.ensures ∙ (get_or_default ms i w.index.result.now [] l ∙ first_at ms i d es e) in
-          differs w.index.result.now m (sym w.eq.ensures ∙ w.if-eq.false) (f ∙ q)
-      | else-index-len-via-else-index-len w ↦ λ d es e q. none_past ms i d es (let a = w.if-index-len.false in let b = c.len.ensures in let o = c.args.list.now.ok in omega arith) e
+      | else-index-len-via-then-index-len+else-eq w ↦ λ l. λ q. differs w.index.result.now m (sym w.eq.ensures ∙ w.if-eq.false) (w.index.ensures ∙ (get_or_default ms i w.index.result.now [] l ∙ q))
+      | else-index-len-via-else-index-len w ↦ λ l. absurd (let a = w.if-index-len.false in let b = c.len.ensures in let o = c.args.list.now.ok in omega arith)
     ]))
