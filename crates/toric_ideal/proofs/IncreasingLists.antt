@@ -99,32 +99,32 @@ module _ (O : MonomialOrder) (W : IsMonomialOrder O) where
       }
 
 -- the increasing list of the first i members
-pub record IsSortedSoFar (O : MonomialOrder) (list : List (List ℕ)) (i : ℕ) (rising : List (List ℕ)) : Type 0 where
-  pub increasing : IsIncreasing O rising
-  pub has : (m : List ℕ) → Contains (take i list) m → Contains rising m
-  pub only : (m : List ℕ) → Contains rising m → Contains (take i list) m
-  pub number : AllPairs (λ m n. m ≢ n) list → length rising ≡ i
+pub record IsSortedSoFar (O : MonomialOrder) (list : List (List ℕ)) (i : ℕ) (sorted : List (List ℕ)) : Type 0 where
+  pub increasing : IsIncreasing O sorted
+  pub has : (m : List ℕ) → Contains (take i list) m → Contains sorted m
+  pub only : (m : List ℕ) → Contains sorted m → Contains (take i list) m
+  pub number : AllPairs (λ m n. m ≢ n) list → length sorted ≡ i
 
 pub sorted_start : (O : MonomialOrder) (list : List (List ℕ)) → IsSortedSoFar O list 0 []
 sorted_start O list = record { increasing = tt; has = λ m c. c; only = λ m c. c; number = λ _. refl }
 
-pub sorted_next : (O : MonomialOrder) (list : List (List ℕ)) (i : ℕ) (rising new : List (List ℕ)) (m : List ℕ) → i < length list → get_or list i m ≡ m →
-    IsSortedSoFar O list i rising → IsInserted O rising new m → IsSortedSoFar O list (suc i) new
-sorted_next O list i rising new m l e S p = record {
+pub sorted_next : (O : MonomialOrder) (list : List (List ℕ)) (i : ℕ) (sorted new : List (List ℕ)) (m : List ℕ) → i < length list → get_or list i m ≡ m →
+    IsSortedSoFar O list i sorted → IsInserted O sorted new m → IsSortedSoFar O list (suc i) new
+sorted_next O list i sorted new m l e S p = record {
   increasing = p.increasing;
   has = λ k c. ⊎_elim (λ q. subst (Contains new) (sym e ∙ q) p.here) (λ d. p.keeps k (S.has k d)) (take_next list i m l k c);
   only = λ k c. ⊎_elim (λ q. subst (Contains (take (suc i) list)) (e ∙ q) (take_at list i m l)) (λ d. take_more list i m l k (S.only k d)) (p.only k c);
   number = λ distinct.
       let n = S.number distinct in
-      let fresh : ¬ Contains rising m = λ c. new_at distinct (S.only m c) in
+      let fresh : ¬ Contains sorted m = λ c. new_at distinct (S.only m c) in
       let q = p.longer fresh in omega arith;
 }
   where
     new_at : AllPairs (λ m n. m ≢ n) list → Contains (take i list) m → ⊥
     new_at d c = let j = take_index list i m (omega arith) c in let a = j.1 in d j.0 i m a l (j.2 ∙ sym e)
 
-pub sorted_end : (O : MonomialOrder) (list : List (List ℕ)) (i : ℕ) (rising : List (List ℕ)) → length list ≤ i → i ≤ length list → IsSortedSoFar O list i rising → IsSorted O list rising
-sorted_end O list i rising l k S = record {
+pub sorted_end : (O : MonomialOrder) (list : List (List ℕ)) (i : ℕ) (sorted : List (List ℕ)) → length list ≤ i → i ≤ length list → IsSortedSoFar O list i sorted → IsSorted O list sorted
+sorted_end O list i sorted l k S = record {
   increasing = S.increasing;
   members = λ m. (λ c. S.has m (take_whole list i l m c), λ c. contains_take list i m (S.only m c));
   number = λ d. let n = S.number d in omega arith;

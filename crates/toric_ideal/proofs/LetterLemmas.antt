@@ -34,7 +34,7 @@ leads_letters xs leads h k = record {
 pub alphabet_letters : (a : Alphabet) → IsAlphabet a → AreLetters (letters_of a)
 alphabet_letters a h = leads_letters a.order.x_degrees.items a.leads.items a.order.x_in_range h.are_leads
 
--- the order that is kept is that of the words
+-- the order of an alphabet is that of its words
 pub alphabet_order : (a : Alphabet) → IsAlphabet a → word_order a.order.x_degrees.items a.order.s_degrees.items ≡ word_order_of (letters_of a)
 alphabet_order a h = ap (word_order a.order.x_degrees.items) h.lead_degrees
 

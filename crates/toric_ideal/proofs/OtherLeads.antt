@@ -28,7 +28,7 @@ use Rattle.toric_ideal.proofs.LetterLemmas.{alphabet_letters, image_lead, leads_
 use Rattle.toric_ideal.proofs.EnumerationLemmas.{degree_none}
 use Rattle.toric_ideal.proofs.Degrees.{rules_agree, rules_none}
 
--- what is kept of a listing, its rules apart
+-- what holds of every listing, its rules apart
 pub record IsSound (L : Letters) (zeros : List (List ℕ)) (d : ℕ) : Type 0 where
   pub letters : AreLetters L
   pub leads : AreLetterLeads L.degrees L.leads

@@ -44,7 +44,7 @@ pub record Enumerates (t : Table) (i : ℕ) (w : Exponents) (old new : List Expo
 pub record IsLongerWord (t : Table) (i : ℕ) (w : Exponents) (next : WordWithImage) : Type 0 where
   pub word : next.word ≡ product w (variable i)
   pub with_image : IsWordWithImage (letters_of t.alphabet) next
-  pub greater : (word_order_of (letters_of t.alphabet)).degree w < (word_order_of (letters_of t.alphabet)).degree next.word
+  pub greater : let O = word_order_of (letters_of t.alphabet) in O.degree w < O.degree next.word
   pub degree : (word_order_of (letters_of t.alphabet)).degree next.word ≤ suc t.degree
 
 -- the same, or none if no word of the next degree is a multiple of it

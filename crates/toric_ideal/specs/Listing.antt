@@ -67,7 +67,8 @@ pub record Listing : Type 0 where
 
 -- the word of a rule divides every reducible word
 abbrev pub IsClosed : Listing → Type 0
-IsClosed W = (w : Exponents) → IsWord W.letters w → IsReducible (IsMultiple W.zeros) W.letters w → HasRuleDivisor W.rules w
+IsClosed W = (w : Exponents) → IsWord W.letters w → IsReducible (IsMultiple W.zeros) W.letters w →
+    HasRuleDivisor W.rules w
 
 -- What holds of the listing of every `Words`.
 pub record IsListing (W : Listing) : Type 0 where

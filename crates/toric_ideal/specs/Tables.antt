@@ -71,5 +71,6 @@ pub record IsExtended (old new : Table) (c : ℕ) (zero : List Exponents) : Type
 -- the table in which the leads of the last degree are numbered again
 pub record IsSettledTable (O : MonomialOrder) (settled_count : ℕ) (old new : Table) : Type 0 where
   pub relisted : IsRelisted old new new.alphabet.leads.items
-  pub settled : IsSettled O old.alphabet.order.x_degrees.items old.degree old.alphabet.leads.items new.alphabet.leads.items
+  pub settled : IsSettled O old.alphabet.order.x_degrees.items old.degree
+      old.alphabet.leads.items new.alphabet.leads.items
   pub parted : IsParted new settled_count

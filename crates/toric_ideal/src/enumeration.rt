@@ -18,12 +18,7 @@ use std::alloc::Global;
 fn has_divisor(rules: &[Rule], w: &Monomial) -> bool
     ensures { IsTrue result ↔ HasRuleDivisor rules.now w.now }
 {
-    for rule in rules {
-        if rule.word.divides(w) {
-            return true;
-        }
-    }
-    false
+    rules.iter().any(|rule| rule.word.divides(w))
 }
 
 impl Table {

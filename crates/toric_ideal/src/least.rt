@@ -56,7 +56,8 @@ impl Alphabet {
         requires alphabet { IsAlphabet self.now }
         requires within { i < length (letters_of self.now).leads }
         requires word { IsWord (letters_of self.now) w.now }
-        requires product { IsComparable (word_order_of (letters_of self.now)) (product (lead_letter (letters_of self.now) i) w.now) }
+        requires product { let L = letters_of self.now in
+            IsComparable (word_order_of L) (product (lead_letter L i) w.now) }
         ensures { IfOk result (λ v. v ≡ product (lead_letter (letters_of self.now) i) w.now) }
     {
         letter(alloc, self.order.x_degrees.len() + i)?.times(alloc, w)

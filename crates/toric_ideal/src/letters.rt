@@ -37,12 +37,7 @@ fn without_last(alloc: Global, w: &Monomial) -> Result<Monomial, Memory>
 pub(crate) fn is_multiple(zeros: &[Monomial], m: &Monomial) -> bool
     ensures { IsTrue result ↔ IsMultiple zeros.now m.now }
 {
-    for zero in zeros {
-        if zero.divides(m) {
-            return true;
-        }
-    }
-    false
+    zeros.iter().any(|zero| zero.divides(m))
 }
 
 impl Alphabet {
