@@ -8,7 +8,7 @@ use Rattle.monomial_order.specs.laws.Monomial.{exponent_past, product_fits, IsMo
 use Rattle.monomial_order.specs.laws.Cofactors.{product_cancel, length-product_right, Divides-product}
 use Rattle.monomial_order.specs.laws.Comparing.{not_below_self, three_ways}
 use Rattle.monomial_order.specs.laws.Lists.{contains_at}
-use Rattle.word_laws.specs.Words.{image_of, word_order_of, AreLetters, IsLeast, IsReducible, IsSmaller, IsSWord, IsWord, Letters}
+use Rattle.word_laws.specs.Words.{image_of, word_order_of, AreLetters, IsLeast, IsReducible, IsSWord, IsWord, Letters}
 use Rattle.word_laws.specs.laws.Words.{degree_image, degree_x, image_same, image_times, image_x, word_laws, x_word}
 use Rattle.word_laws.specs.laws.Reducible.{least_s_word}
 use Rattle.toric_ideal.specs.declared.alphabet.Alphabet.{Alphabet}

@@ -1,6 +1,6 @@
 -- The letters of an alphabet.
 use Rattle.std.proofs.Common.{◌≡◌, ℕ, zero, suc, ◌+◌, ◌<◌, ◌≤◌, refl, sym, ◌∙◌, ap, subst, List, [], ◌∷◌, ◌++◌, length, true, length-append, arith, get_or, ⊎_elim}
-use Rattle.std.specs.Prelude.{map, Contains}
+use Rattle.std.specs.Prelude.{Contains}
 use Rattle.std.proofs.lemmas.List.{length-map}
 use Rattle.monomial_order.specs.Monomial.{product, variable, weighted_degree}
 use Rattle.monomial_order.specs.laws.Monomial.{product-one}

@@ -1,5 +1,5 @@
 -- Members of the parts of lists.
-use Rattle.std.proofs.Common.{◌≡◌, ℕ, zero, suc, ◌+◌, ◌<◌, ◌≤◌, refl, sym, ◌∙◌, subst, List, [], ◌∷◌, ◌++◌, length, take, drop, get_or, arith, drop-cons, ◌⊎◌, inl, inr, ⊎_elim}
+use Rattle.std.proofs.Common.{◌≡◌, ℕ, suc, ◌<◌, ◌≤◌, sym, ◌∙◌, subst, List, [], ◌∷◌, length, take, drop, get_or, arith, drop-cons, ◌⊎◌, inl, inr, ⊎_elim}
 use Rattle.std.specs.Prelude.{Contains, map}
 use Rattle.std.proofs.Math.Seq.{drop-length, take-suc}
 use Rattle.std.proofs.lemmas.List.{get_or-take, length-take-le, take-append-drop, take_all}

@@ -1,10 +1,10 @@
 -- Tables of other zeros and of other leads.
-use Rattle.std.proofs.Common.{◌≡◌, ◌≢◌, ℕ, zero, suc, ◌+◌, ◌<◌, ◌≤◌, refl, sym, ◌∙◌, ap, subst, List, [], ◌∷◌, ◌++◌, length, length-append, take, drop, get_or, arith, ⊎_elim}
-use Rattle.std.specs.Prelude.{Contains, map, sum, AllPairs, true}
+use Rattle.std.proofs.Common.{◌≡◌, ◌≢◌, ℕ, ◌+◌, ◌<◌, ◌≤◌, refl, sym, ◌∙◌, ap, subst, List, [], ◌∷◌, ◌++◌, length, length-append, take, drop, get_or, arith, ⊎_elim}
+use Rattle.std.specs.Prelude.{Contains, map, AllPairs, true}
 use Rattle.std.proofs.Math.Seq.{drop-append_seam, take-append_seam}
 use Rattle.std.proofs.lemmas.List.{drop-append-le, length-take-le, take-append-drop, take-append-le, get_or_default}
 use Rattle.std.proofs.lemmas.List.Quantifiers.{all_pairs_push}
-use Rattle.monomial_order.specs.Monomial.{exponent, variable, weighted_degree, IsMonomial, IsTrimmed}
+use Rattle.monomial_order.specs.Monomial.{variable, weighted_degree, IsMonomial, IsTrimmed}
 use Rattle.monomial_order.specs.laws.Monomial.{variable_off}
 use Rattle.monomial_order.specs.MonomialOrder.{MonomialOrder, IsMonomialOrder}
 use Rattle.monomial_order.specs.Ranges.{all_between}

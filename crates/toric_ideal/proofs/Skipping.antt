@@ -1,8 +1,8 @@
 -- Words without some letters.
-use Rattle.std.proofs.Common.{◌≡◌, ◌≢◌, ℕ, zero, suc, ◌+◌, ◌-◌, ◌<◌, ◌≤◌, refl, sym, ap, subst, List, [], ◌∷◌, length, take, arith, ◌⊎◌, inl, inr, ⊎_elim}
+use Rattle.std.proofs.Common.{◌≡◌, ℕ, zero, suc, ◌+◌, ◌-◌, ◌<◌, ◌≤◌, refl, sym, ap, subst, List, [], ◌∷◌, length, take, arith, ◌⊎◌, inl, inr, ⊎_elim}
 use Rattle.std.specs.Prelude.{sum}
 use Rattle.std.proofs.lemmas.List.Sums.{sum_by-cons}
-use Rattle.monomial_order.specs.Monomial.{exponent, product, variable, Divides, IsMonomial, IsTrimmed}
+use Rattle.monomial_order.specs.Monomial.{exponent, product, variable, IsMonomial, IsTrimmed}
 use Rattle.monomial_order.specs.laws.Monomial.{exponent-product, variable_divides, variable_off}
 use Rattle.monomial_order.specs.laws.Cofactors.{cofactor, length-product_right}
 use Rattle.monomial_order.specs.laws.Comparing.{le_or_not}

@@ -1,5 +1,5 @@
 -- Increasing lists of monomials.
-use Rattle.std.specs.Prelude.{◌≡◌, ◌≢◌, ℕ, suc, ◌≤◌, List, [], ◌∷◌, length, take, drop, Contains, ◌⊎◌, ◌↔◌, AllPairs}
+use Rattle.std.specs.Prelude.{◌≡◌, ◌≢◌, ℕ, suc, ◌≤◌, List, ◌++◌, length, take, drop, Contains, ◌⊎◌, ◌↔◌, AllPairs}
 use Rattle.monomial_order.specs.Limits.{exponent_max}
 use Rattle.std.specs.declared.cmp.Ordering.TheVariants.{Less}
 use Rattle.monomial_order.specs.Monomial.{Exponents, IsMonomial}
@@ -32,3 +32,9 @@ pub record IsSorted (O : MonomialOrder) (list sorted : List Exponents) : Type 0 
   pub increasing : IsIncreasing O sorted
   pub members : (m : Exponents) → Contains list m ↔ Contains sorted m
   pub number : AllPairs (λ m n. m ≢ n) list → length sorted ≡ length list
+
+-- the first members, so many, and then the increasing list of the others
+pub record IsSortedFrom (O : MonomialOrder) (count : ℕ) (list new : List Exponents) : Type 0 where
+  pub last : List Exponents
+  pub whole : new ≡ take count list ++ last
+  pub sorted : IsSorted O (drop count list) last

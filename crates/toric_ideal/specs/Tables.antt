@@ -1,5 +1,5 @@
 -- Tables of rules, and how they change.
-use Rattle.std.specs.Prelude.{◌≡◌, ℕ, suc, ◌≤◌, List, false, length, map, take, drop, Contains}
+use Rattle.std.specs.Prelude.{◌≡◌, ℕ, suc, ◌≤◌, List, false, length, take, drop}
 use Rattle.monomial_order.specs.Limits.{degree_max}
 use Rattle.monomial_order.specs.Monomial.{Exponents}
 use Rattle.word_laws.specs.Words.{image_of}

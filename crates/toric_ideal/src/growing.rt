@@ -1,5 +1,5 @@
 //! Tables of a greater degree.
-ghost use Rattle.std.specs.Prelude.{◌≡◌, ◌≤◌, ◌<◌, suc, IfOk, OnOk};
+ghost use Rattle.std.specs.Prelude.{◌≡◌, ◌≤◌, ◌<◌, ◌++◌, ◌∷◌, [], suc, IfOk, OnOk};
 ghost use Rattle.monomial_order.specs.Limits.{degree_max};
 ghost use Rattle.word_laws.specs.Words.{word_order_of};
 ghost use Rattle.toric_ideal.specs.Alphabet.{letters_of, IsAlphabet};
@@ -20,6 +20,19 @@ pub(crate) fn copy_monomials(alloc: Global, list: &[Monomial]) -> Result<Vec<Mon
     for m in list {
         copies.push(m.copy(alloc)?)?;
     }
+    Ok(copies)
+}
+
+/// Copies of the monomials, and of one more.
+pub(crate) fn copy_and_push(
+    alloc: Global,
+    list: &[Monomial],
+    m: &Monomial,
+) -> Result<Vec<Monomial>, Memory>
+    ensures { IfOk result (λ v. v.items ≡ list.now ++ m.now ∷ []) }
+{
+    let mut copies = copy_monomials(alloc, list)?;
+    copies.push(m.copy(alloc)?)?;
     Ok(copies)
 }
 

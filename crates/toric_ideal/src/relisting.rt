@@ -8,8 +8,8 @@ ghost use Rattle.toric_ideal.specs.Listing.{AgreeTo, AreZeros, IsListing, IsNewL
 ghost use Rattle.toric_ideal.specs.Tables.{listing_of, IsExtended, IsParted, IsRelisted, IsSettledTable};
 
 use crate::alphabet::Alphabet;
-use crate::growing::{copy_monomials, copy_rules};
-use crate::increasing::sorted;
+use crate::growing::{copy_and_push, copy_monomials, copy_rules};
+use crate::increasing::sorted_from;
 use crate::table::Table;
 use monomial_order::{Memory, Monomial, Order};
 use std::alloc::Global;
@@ -56,8 +56,7 @@ impl Table {
         ensures relisted { IfOk result (λ t. IsRelisted self.now t (self.now.alphabet.leads.items ++ m.now ∷ [])) }
         ensures parted { IfOk result (λ t. (count : ℕ) → IsParted self.now count → IsParted t count) }
     {
-        let mut leads = copy_monomials(alloc, self.alphabet.leads.as_slice())?;
-        leads.push(m.copy(alloc)?)?;
+        let leads = copy_and_push(alloc, self.alphabet.leads.as_slice(), m)?;
         self.relisted(alloc, leads)
     }
 
@@ -72,10 +71,7 @@ impl Table {
         requires order { OrdersByDegrees (O.order o.now) (letters_of self.now.alphabet).degrees }
         ensures { IfOk result (λ t. IsSettledTable (O.order o.now) settled_count self.now t) }
     {
-        let (front, back) = self.alphabet.leads.as_slice().split_at(settled_count);
-        let mut leads = copy_monomials(alloc, front)?;
-        let mut last = sorted(alloc, o, back)?;
-        leads.append(&mut last)?;
+        let leads = sorted_from(alloc, o, self.alphabet.leads.as_slice(), settled_count)?;
         self.relisted(alloc, leads)
     }
 }

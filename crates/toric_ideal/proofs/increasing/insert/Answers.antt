@@ -1,4 +1,4 @@
-use Rattle.std.proofs.Common.{◌≡◌, ◌≢◌, ◌≤◌, ◌<◌, ℕ, zero, suc, List, [], ◌∷◌, false, ◌∙◌, sym, subst, length, get_or, drop, arith}
+use Rattle.std.proofs.Common.{◌≡◌, ◌≢◌, ℕ, List, [], false, ◌∙◌, sym, subst, arith}
 use lib.Pointwise.{pointwise}
 use lib.Dec.{eqb}
 use Rattle.std.specs.Cmp.Lexicographic.{nat_list_eq_equiv}

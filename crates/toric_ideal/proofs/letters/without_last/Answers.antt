@@ -1,4 +1,4 @@
-use Rattle.std.proofs.Common.{◌≡◌, ◌-◌, ◌<◌, ◌∙◌, suc, refl, sym, ap, subst, length, arith}
+use Rattle.std.proofs.Common.{◌-◌, ◌<◌, ◌∙◌, refl, sym, ap, subst, length, arith}
 use Rattle.std.specs.Prelude.{IsNone}
 use Rattle.monomial_order.specs.Monomial.{variable}
 use Rattle.toric_ideal.proofs.ImageLoop.{last_divides}

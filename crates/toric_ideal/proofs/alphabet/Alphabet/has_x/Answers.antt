@@ -1,4 +1,4 @@
-use Rattle.std.proofs.Common.{◌≤◌, length, arith}
+use Rattle.std.proofs.Common.{length, arith}
 use Rattle.toric_ideal.proofs.Skipping.{sum_skipped}
 use Rattle.toric_ideal.proofs.alphabet.Alphabet.has_x.Goals as goal
 

@@ -1,5 +1,5 @@
-use Rattle.std.proofs.Common.{◌≡◌, ◌-◌, ◌<◌, ◌≤◌, ◌∙◌, ℕ, [], sym, ap, subst, length, arith}
-use Rattle.monomial_order.specs.Monomial.{product, variable}
+use Rattle.std.proofs.Common.{◌-◌, ◌<◌, ◌∙◌, [], sym, ap, subst, length, arith}
+use Rattle.monomial_order.specs.Monomial.{variable}
 use Rattle.word_laws.specs.Words.{image_of}
 use Rattle.toric_ideal.specs.Alphabet.{letters_of}
 use Rattle.toric_ideal.proofs.LetterLemmas.{alphabet_letters}

@@ -1,4 +1,4 @@
-use Rattle.std.proofs.Common.{◌≡◌, ◌≤◌, length, sym, subst, arith}
+use Rattle.std.proofs.Common.{◌≤◌, length, sym, subst, arith}
 use Rattle.monomial_order.specs.Monomial.{IsMonomial, IsMultiple}
 use Rattle.word_laws.specs.Words.{image_of, word_order_of}
 use Rattle.word_laws.specs.laws.Words.{degree_image, image_x}

@@ -1,10 +1,10 @@
-use Rattle.std.proofs.Common.{◌≡◌, ◌+◌, ◌<◌, ◌≤◌, ◌∙◌, suc, zero, ℕ, List, [], ◌∷◌, ◌++◌, length, length-append, sym, ap, subst, get_or, take, arith}
-use Rattle.std.specs.Prelude.{map, Contains}
+use Rattle.std.proofs.Common.{◌≡◌, ◌+◌, ◌<◌, ◌≤◌, ◌∙◌, suc, ℕ, List, [], ◌∷◌, ◌++◌, length, length-append, sym, ap, subst, get_or, take, arith}
+use Rattle.std.specs.Prelude.{map}
 use Rattle.monomial_order.specs.Monomial.{weighted_degree}
 use Rattle.word_laws.specs.laws.Images.{weighted_front}
 use Rattle.std.proofs.Math.Seq.{take-suc}
 use Rattle.std.proofs.lemmas.List.{map-append}
-use Rattle.toric_ideal.specs.Leads.{AreLetterLeads, IsLetterLead}
+use Rattle.toric_ideal.specs.Leads.{IsLetterLead}
 use Rattle.toric_ideal.proofs.Members.{item_contained}
 use Rattle.toric_ideal.proofs.alphabet.Alphabet.new.Goals as goal
 

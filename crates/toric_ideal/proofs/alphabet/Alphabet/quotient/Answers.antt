@@ -1,4 +1,4 @@
-use Rattle.std.proofs.Common.{◌≡◌, ◌<◌, ◌≤◌, List, ℕ, length, arith}
+use Rattle.std.proofs.Common.{◌≡◌}
 use Rattle.std.specs.Prelude.{IfSome, IsNone}
 use Rattle.monomial_order.specs.Monomial.{product, Divides, IsTrimmed}
 use Rattle.toric_ideal.specs.Alphabet.{letters_of}

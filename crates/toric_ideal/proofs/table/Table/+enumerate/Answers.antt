@@ -1,4 +1,4 @@
-use Rattle.std.proofs.Common.{◌≡◌, ◌≤◌, subst, arith}
+use Rattle.std.proofs.Common.{subst, arith}
 use Rattle.std.proofs.lemmas.Result.{on_ok_weaker}
 use Rattle.toric_ideal.specs.Enumeration.{IsLonger}
 use Rattle.toric_ideal.proofs.EnumerationLemmas.{enumerates_end, enumerates_later, enumerates_with, enumerates_without}

@@ -1,7 +1,6 @@
-use Rattle.std.proofs.Common.{◌≡◌, sym, subst}
+use Rattle.std.proofs.Common.{sym, subst}
 use Rattle.std.proofs.lemmas.Result.{on_ok_weaker}
 use Rattle.monomial_order.specs.Orders.{word_order}
-use Rattle.toric_ideal.specs.Alphabet.{letters_of}
 use Rattle.toric_ideal.specs.Increasing.{IsInserted}
 use Rattle.monomial_order.specs.MonomialOrder.{IsIncreasing}
 use Rattle.toric_ideal.proofs.Results.{no_from}

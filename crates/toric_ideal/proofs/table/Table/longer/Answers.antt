@@ -1,7 +1,5 @@
-use Rattle.std.proofs.Common.{◌≡◌, ◌+◌, ◌<◌, ◌≤◌, ◌∙◌, suc, ap, subst, arith}
+use Rattle.std.proofs.Common.{◌∙◌, ap, subst, arith}
 use Rattle.monomial_order.specs.Monomial.{product}
-use Rattle.word_laws.specs.Words.{image_of, word_order_of}
-use Rattle.toric_ideal.specs.Alphabet.{letters_of}
 use Rattle.toric_ideal.specs.Listing.{HasRuleDivisor}
 use Rattle.toric_ideal.proofs.EnumerationLemmas.{longer_above, longer_comparable, longer_divided, longer_fits, longer_image_fits, longer_is}
 use Rattle.toric_ideal.proofs.table.Table.longer.Goals as goal

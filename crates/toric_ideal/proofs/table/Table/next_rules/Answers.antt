@@ -1,5 +1,4 @@
-use Rattle.std.proofs.Common.{◌≡◌, ◌<◌, ◌+◌, suc, List, ℕ, sym, subst, length, get_or, arith}
-use Rattle.std.specs.Prelude.{Contains}
+use Rattle.std.proofs.Common.{◌≡◌, ◌+◌, suc, sym, subst, arith}
 use Rattle.toric_ideal.proofs.Members.{item_contained}
 use Rattle.toric_ideal.proofs.TableSteps.{rules_next, AreRulesSoFar}
 use Rattle.toric_ideal.proofs.table.Table.next_rules.Goals as goal
