@@ -4,6 +4,7 @@ use Rattle.std.specs.Prelude.{Contains, map, Option, Some, None}
 use Rattle.std.proofs.lemmas.List.{map-append}
 use Rattle.std.specs.declared.cmp.Ordering.TheVariants.{Less}
 use Rattle.monomial_order.specs.Monomial.{weighted_degree, Divides, IsMonomial, IsTrimmed, IsMultiple}
+use Rattle.monomial_order.specs.laws.Monomial.{weighted_nil}
 use Rattle.monomial_order.specs.laws.Comparing.{divisor_degree, le_or_not, none_below_one, some_exponent, equal_or_not}
 use Rattle.monomial_order.specs.laws.Lists.{contains_left, contains_map, contains_none, contains_right}
 use Rattle.word_laws.specs.Words.{image_of, word_order_of, AreLetters, IsMinimalReducible, IsReducible, Letters}
@@ -36,13 +37,9 @@ module _ (L : Letters) (H : AreLetters L) (zeros : List (List ℕ)) where
         m.reducible);
   }
     where
-      degree_of_one : (ds : List ℕ) → weighted_degree ds [] ≡ 0
-      degree_of_one [] = refl
-      degree_of_one (d ∷ ds) = refl
-
       no_divisor : (ds z : List ℕ) → IsTrimmed z → 1 ≤ weighted_degree ds z → Divides z [] → ⊥
       no_divisor ds z t p d =
-          ⊎_elim (λ e. let q : weighted_degree ds z ≡ weighted_degree ds [] = ap (weighted_degree ds) e in let o = degree_of_one ds in omega arith)
+          ⊎_elim (λ e. let q : weighted_degree ds z ≡ weighted_degree ds [] = ap (weighted_degree ds) e in let o = weighted_nil ds in omega arith)
           (λ n. let x = some_exponent z t n in let a = x.2 in let b = d x.0 in omega arith) (equal_or_not z [])
 
   -- the rules of the next degree follow

@@ -3,7 +3,7 @@ use Rattle.std.proofs.Common.{◌≡◌, ℕ, zero, suc, ◌+◌, ◌<◌, ◌�
 use Rattle.std.specs.Prelude.{Contains}
 use Rattle.std.proofs.lemmas.List.{length-map}
 use Rattle.monomial_order.specs.Monomial.{product, variable, weighted_degree}
-use Rattle.monomial_order.specs.laws.Monomial.{product-one}
+use Rattle.monomial_order.specs.laws.Monomial.{product-one, weighted_nil}
 use Rattle.monomial_order.specs.Ranges.{all_between}
 use Rattle.monomial_order.specs.laws.Orders.{between_first, between_rest, word_small}
 use Rattle.monomial_order.specs.Orders.{word_order}
@@ -24,12 +24,8 @@ pub leads_letters : (xs : List ℕ) (leads : List (List ℕ)) → all_between 1 
 leads_letters xs leads h k = record {
   positive = positive_from xs h;
   leads = λ m c. (k m c).monomial;
-  not_one = λ m c e. let p = (k m c).positive in let z : weighted_degree xs m ≡ weighted_degree xs [] = ap (weighted_degree xs) e in absurd (one xs (subst (λ y. 1 ≤ y) z p));
+  not_one = λ m c e. let p = (k m c).positive in let z : weighted_degree xs m ≡ weighted_degree xs [] = ap (weighted_degree xs) e in let n = weighted_nil xs in absurd (omega arith);
 }
-  where
-    one : (xs : List ℕ) → 1 ≤ weighted_degree xs [] → ⊥
-    one [] l = omega arith
-    one (x ∷ xs) l = omega arith
 
 pub alphabet_letters : (a : Alphabet) → IsAlphabet a → AreLetters (letters_of a)
 alphabet_letters a h = leads_letters a.order.x_degrees.items a.leads.items a.order.x_in_range h.are_leads

@@ -26,6 +26,7 @@ use Rattle.toric_ideal.proofs.Pairs.{pairs_append, pairs_drop, pairs_from, pairs
 use Rattle.toric_ideal.proofs.Skipping.{sum_skipped}
 use Rattle.toric_ideal.proofs.LetterLemmas.{alphabet_letters, image_lead, leads_letters, letter_word, places_count}
 use Rattle.toric_ideal.proofs.EnumerationLemmas.{degree_none}
+use Rattle.toric_ideal.proofs.TableSteps.{rules_along}
 use Rattle.toric_ideal.proofs.Degrees.{rules_agree, rules_none}
 
 -- what holds of every listing, its rules apart
@@ -62,13 +63,10 @@ zeros_positive L zeros d h z c = let e = h.each z c in (e.monomial.trimmed, e.po
 
 -- a table of degree 0 has no rule
 pub listed_new : (t : Table) (d : ℕ) → IsAlphabet t.alphabet → AreZeros t.alphabet.order.x_degrees.items d t.zeros.items → t.degree ≡ 0 → t.rules.items ≡ [] → IsListed t
-listed_new t d h z e r = record {
-  alphabet = h;
-  rules =
-      subst (λ x. AreRules (letters_of t.alphabet) t.zeros.items x t.rules.items) (sym e)
-      (subst (AreRules (letters_of t.alphabet) t.zeros.items 0) (sym r)
-      (rules_none (letters_of t.alphabet) (alphabet_letters t.alphabet h) t.zeros.items (zeros_positive (letters_of t.alphabet) t.zeros.items d z)));
-}
+listed_new t d h z e r =
+    let L = letters_of t.alphabet in
+    let zs = t.zeros.items in
+    record { alphabet = h; rules = rules_along L L zs zs t.degree 0 t.rules.items [] refl refl e r (rules_none L (alphabet_letters t.alphabet h) zs (zeros_positive L zs d z)) }
 
 pub letters_same : (xs ys : List ℕ) (ks ms : List (List ℕ)) → xs ≡ ys → ks ≡ ms → letters xs ks ≡ letters ys ms
 letters_same xs ys ks ms e f = ap (λ x. letters x ks) e ∙ ap (letters ys) f
@@ -76,15 +74,13 @@ letters_same xs ys ks ms e f = ap (λ x. letters x ks) e ∙ ap (letters ys) f
 -- the rules of a table are those of a copy with other zeros, up to its degree
 pub listed_again : (t u : Table) (zs : List (List ℕ)) (c : ℕ) → IsAlphabet t.alphabet → IsListing (listing_of t) → IsAlphabet u.alphabet → letters_of u.alphabet ≡ letters_of t.alphabet →
     u.zeros.items ≡ zs → u.degree ≡ t.degree → u.rules.items ≡ t.rules.items → AreZeros t.alphabet.order.x_degrees.items c zs → AgreeTo t.alphabet.order.x_degrees.items t.degree t.zeros.items zs → IsListed u
-listed_again t u zs c h k hu eL ez ed er hz agree = record {
-  alphabet = hu;
-  rules =
-      subst (λ x. AreRules x u.zeros.items u.degree u.rules.items) (sym eL)
-      (subst (λ x. AreRules (letters_of t.alphabet) x u.degree u.rules.items) (sym ez)
-      (subst (λ x. AreRules (letters_of t.alphabet) zs x u.rules.items) (sym ed)
-      (subst (AreRules (letters_of t.alphabet) zs t.degree) (sym er)
-      (rules_agree (letters_of t.alphabet) (alphabet_letters t.alphabet h) t.degree t.zeros.items zs (λ z i. (k.zeros.each z i).monomial) (λ z i. (hz.each z i).monomial) agree t.rules.items k.rules))));
-}
+listed_again t u zs c h k hu eL ez ed er hz agree =
+    let L = letters_of t.alphabet in
+    record {
+      alphabet = hu;
+      rules = rules_along (letters_of u.alphabet) L u.zeros.items zs u.degree t.degree u.rules.items t.rules.items eL ez ed er
+          (rules_agree L (alphabet_letters t.alphabet h) t.degree t.zeros.items zs (λ z i. (k.zeros.each z i).monomial) (λ z i. (hz.each z i).monomial) agree t.rules.items k.rules);
+    }
 
 pub extended_is : (t u v : Table) (zs : List (List ℕ)) (c : ℕ) → IsAlphabet t.alphabet → IsListing (listing_of t) → ((m : List ℕ) → Contains t.alphabet.leads.items m → weighted_degree t.alphabet.order.x_degrees.items m ≤ t.degree) →
     t.degree < c → c ≤ 30000 → AreZeros t.alphabet.order.x_degrees.items c zs → letters_of u.alphabet ≡ letters_of t.alphabet → u.zeros.items ≡ zs → HasSameLetters u v → v.degree ≡ c → IsListed v → IsExtended t v c zs

@@ -4,13 +4,13 @@ use Rattle.std.specs.Prelude.{Contains, map}
 use Rattle.std.proofs.Math.Seq.{take-suc}
 use Rattle.std.proofs.lemmas.List.{map-append, take_all}
 use Rattle.monomial_order.specs.laws.Lists.{contains_cases, contains_none}
-use Rattle.word_laws.specs.Words.{image_of}
+use Rattle.word_laws.specs.Words.{image_of, Letters}
 use Rattle.toric_ideal.specs.declared.rule.Rule.{Rule}
 use Rattle.toric_ideal.specs.declared.table.Table.{Table}
 use Rattle.toric_ideal.specs.Alphabet.{letters_of, IsAlphabet}
 use Rattle.toric_ideal.specs.Listing.{AreRules, IsLeastOrZero}
 use Rattle.toric_ideal.specs.Enumeration.{AreNextRules, AreNextWords, HasAllNextWords}
-use Rattle.toric_ideal.specs.Tables.{CanGrow, HasSameLetters, IsGrown, IsListed, IsRuleOf}
+use Rattle.toric_ideal.specs.Tables.{AreRulesOf, CanGrow, HasSameLetters, IsGrown, IsListed, IsRuleOf}
 use Rattle.toric_ideal.proofs.LetterLemmas.{alphabet_letters}
 use Rattle.std.proofs.lemmas.List.Elements.{Contains-append_cases}
 use Rattle.toric_ideal.proofs.Degrees.{rules_more}
@@ -34,7 +34,7 @@ growing_next from t u d G l g = record {
 -- the rules of the first i words
 pub record AreRulesSoFar (t : Table) (words : List (List ℕ)) (i : ℕ) (rules : List Rule) : Type 0 where
   pub words_are : map (λ r. r.word) rules ≡ take i words
-  pub least : (r : Rule) → Contains rules r → IsRuleOf t r.word r
+  pub least : AreRulesOf t rules
 
 pub rules_start : (t : Table) (words : List (List ℕ)) → AreRulesSoFar t words 0 []
 rules_start t words = record { words_are = refl; least = λ r c. absurd (contains_none r c) }
@@ -53,6 +53,11 @@ rules_end t words i rules l F next all =
     let e : words ≡ map (λ r. r.word) rules = sym (F.words_are ∙ take_all i words l) in
     record { next = subst (AreNextWords t) e next; all = subst (HasAllNextWords t) e all; least = F.least }
 
+-- rules of equal letters, zeros and degrees
+pub rules_along : (L M : Letters) (ys zs : List (List ℕ)) (c d : ℕ) (qs rs : List Rule) → L ≡ M → ys ≡ zs → c ≡ d → qs ≡ rs → AreRules M zs d rs → AreRules L ys c qs
+rules_along L M ys zs c d qs rs eL ez ed er h =
+    subst (λ x. AreRules x ys c qs) (sym eL) (subst (λ x. AreRules M x c qs) (sym ez) (subst (λ x. AreRules M zs x qs) (sym ed) (subst (AreRules M zs d) (sym er) h)))
+
 -- the table of the next degree, from what it has
 pub grown : (t u : Table) (next : List Rule) → CanGrow t → AreNextRules t next → u.alphabet ≡ t.alphabet → u.zeros.items ≡ t.zeros.items → u.degree ≡ suc t.degree → u.rules.items ≡ t.rules.items ++ next → IsGrown t u
 grown t u next G N a z d r =
@@ -63,9 +68,6 @@ grown t u next G N a z d r =
       degree = d;
       listed = record {
         alphabet = subst IsAlphabet (sym a) G.listed.alphabet;
-        rules =
-            subst (λ x. AreRules (letters_of x) u.zeros.items u.degree u.rules.items) (sym a)
-            (subst (λ x. AreRules (letters_of t.alphabet) x u.degree u.rules.items) (sym z)
-            (subst (λ x. AreRules (letters_of t.alphabet) t.zeros.items x u.rules.items) (sym d) (subst (AreRules (letters_of t.alphabet) t.zeros.items (suc t.degree)) (sym r) rules)));
+        rules = rules_along (letters_of u.alphabet) (letters_of t.alphabet) u.zeros.items t.zeros.items u.degree (suc t.degree) u.rules.items (t.rules.items ++ next) (ap letters_of a) z d r rules;
       };
     }

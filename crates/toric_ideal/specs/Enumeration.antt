@@ -8,7 +8,7 @@ use Rattle.toric_ideal.specs.declared.word_with_image.WordWithImage.{WordWithIma
 use Rattle.toric_ideal.specs.Alphabet.{letters_of}
 use Rattle.monomial_order.specs.MonomialOrder.{IsIncreasing}
 use Rattle.toric_ideal.specs.LeastWords.{Skips}
-use Rattle.toric_ideal.specs.Tables.{IsRuleOf}
+use Rattle.toric_ideal.specs.Tables.{AreRulesOf}
 
 -- a word with its image
 pub record IsWordWithImage (L : Letters) (w : WordWithImage) : Type 0 where
@@ -56,4 +56,4 @@ IsLonger t i w (Some next) = IsLongerWord t i w next
 pub record AreNextRules (t : Table) (rules : List Rule) : Type 0 where
   pub next : AreNextWords t (map (λ r. r.word) rules)
   pub all : HasAllNextWords t (map (λ r. r.word) rules)
-  pub least : (r : Rule) → Contains rules r → IsRuleOf t r.word r
+  pub least : AreRulesOf t rules

@@ -1,5 +1,5 @@
 -- Tables of rules, and how they change.
-use Rattle.std.specs.Prelude.{◌≡◌, ℕ, suc, ◌≤◌, List, false, length, take, drop}
+use Rattle.std.specs.Prelude.{◌≡◌, ℕ, suc, ◌≤◌, List, false, length, take, drop, Contains}
 use Rattle.monomial_order.specs.Limits.{degree_max}
 use Rattle.monomial_order.specs.Monomial.{Exponents}
 use Rattle.word_laws.specs.Words.{image_of}
@@ -39,6 +39,10 @@ pub record HasSameLetters (old new : Table) : Type 0 where
 pub record IsRuleOf (t : Table) (w : Exponents) (r : Rule) : Type 0 where
   pub word : r.word ≡ w
   pub least : IsLeastOrZero t.zeros.items (letters_of t.alphabet) (image_of (letters_of t.alphabet) w) r.least
+
+-- each is the rule of its word
+abbrev pub AreRulesOf : Table → List Rule → Type 0
+AreRulesOf t rules = (r : Rule) → Contains rules r → IsRuleOf t r.word r
 
 -- the table of the next degree
 pub record IsGrown (old new : Table) : Type 0 where
