@@ -31,9 +31,9 @@ pub(crate) fn copy_and_push(
 ) -> Result<Vec<Monomial>, Memory>
     ensures { IfOk result (λ v. v.items ≡ list.now ++ m.now ∷ []) }
 {
-    let mut copies = copy_monomials(alloc, list)?;
-    copies.push(m.copy(alloc)?)?;
-    Ok(copies)
+    let mut longer = copy_monomials(alloc, list)?;
+    longer.push(m.copy(alloc)?)?;
+    Ok(longer)
 }
 
 /// Copies of the rules.
