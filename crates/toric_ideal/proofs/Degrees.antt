@@ -1,5 +1,5 @@
 -- The rules of a greater degree, of other zeros and of other leads.
-use Rattle.std.proofs.Common.{◌≡◌, ℕ, suc, ◌≤◌, refl, sym, ap, subst, List, [], ◌∷◌, ◌++◌, length, arith, inl, inr, ⊎_elim}
+use Rattle.std.proofs.Common.{◌≡◌, ℕ, suc, ◌≤◌, sym, ap, subst, List, [], ◌++◌, length, arith, inl, inr, ⊎_elim}
 use Rattle.std.specs.Prelude.{Contains, map, Option, Some, None}
 use Rattle.std.proofs.lemmas.List.{map-append}
 use Rattle.std.specs.declared.cmp.Ordering.TheVariants.{Less}

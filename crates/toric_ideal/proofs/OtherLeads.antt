@@ -17,7 +17,7 @@ use Rattle.toric_ideal.specs.declared.table.Table.{Table}
 use Rattle.toric_ideal.specs.Leads.{letters, AreLetterLeads, IsLetterLead}
 use Rattle.toric_ideal.specs.Alphabet.{letters_of, IsAlphabet}
 use Rattle.toric_ideal.specs.Increasing.{AreComparable, IsSorted}
-use Rattle.toric_ideal.specs.Listing.{AgreeTo, AreParted, AreRules, AreZeros, OrdersByDegrees, IsListing, IsNewLead, IsSettled}
+use Rattle.toric_ideal.specs.Listing.{AgreeTo, AreParted, AreZeros, OrdersByDegrees, IsListing, IsNewLead, IsSettled}
 use Rattle.toric_ideal.specs.Tables.{listing_of, IsExtended, IsListed, IsParted, IsRelisted, HasSameLetters}
 use Rattle.std.proofs.lemmas.List.Elements.{Contains-append_cases}
 use Rattle.toric_ideal.proofs.Members.{contains_drop, contains_parts, contains_take, drop_none}
