@@ -1,36 +1,36 @@
--- A list whose leads divide each lead_monomial of the ideal of degree at most c reduces each member of the ideal of degree at most c to zero.
+-- If the leads of a list divide each lead of the ideal of degree at most c, each member of the ideal of degree at most c has a
+-- standard representation by it.
 use Rattle.std.proofs.Common.{◌≡◌, ◌≢◌, ℕ, ◌≤◌, sym, ◌∙◌, ap, subst, List, [], ◌∷◌, ◌++◌, ⊎_elim, inl, inr, arith, append-nil}
+use Rattle.polynomials.specs.laws.Coefficients.{minus_back, sum_nonzero, found_monomial}
 use Rattle.std.specs.Prelude.{Contains}
 use Rattle.std.specs.declared.cmp.Ordering.TheVariants.{Less}
 use Rattle.word_field.specs.Field.{FieldOps, IsField, IsValue}
 use Rattle.word_field.specs.laws.Field.{negate-zero}
-use Rattle.monomial_order.specs.declared.terms.Term.{Term}
-use Rattle.monomial_order.specs.Monomial.{product, least_common_multiple, IsMonomial}
+use Rattle.monomial_order.specs.Monomial.{product, least_common_multiple, IsMonomial, Exponents}
 use Rattle.monomial_order.specs.MonomialOrder.{MonomialOrder, IsMonomialOrder}
 use Rattle.monomial_order.specs.laws.Monomial.{product_comm, IsMonomial-least_common_multiple}
 use Rattle.monomial_order.specs.laws.Cofactors.{cofactor}
 use Rattle.monomial_order.specs.laws.Comparing.{degree_falls}
 use Rattle.monomial_order.specs.laws.Lists.{contains_none, contains_cases}
 use Rattle.monomial_order.specs.laws.Rank.{IsWithin, below_induction}
-use Rattle.polynomials.specs.Polynomial.{Polynomial, coefficient, Same, term_of, times, scaled, negated, minus, constant, IsTerm, IsPoly, IsLead, IsHomogeneous, lead_monomial}
+use Rattle.polynomials.specs.Polynomial.{Polynomial, coefficient, term_of, times, scaled, negated, minus, constant, IsTerm, IsPoly, IsLead, IsHomogeneous, lead_monomial}
 use Rattle.polynomials.specs.Ideal.{InIdeal}
 use Rattle.polynomials.specs.Subalgebra.{Presented, IsPresentation, IsGenerator, AreGenerators, LeadsIdeal}
-use Rattle.polynomials.specs.laws.Ring.{coefficient_value, coefficient-append}
+use Rattle.polynomials.specs.laws.Ring.{coefficient_value}
 use Rattle.polynomials.specs.laws.Value.{one_times}
 use Rattle.polynomials.specs.laws.Membership.{IsPoly-one}
 use Rattle.polynomials.specs.laws.Decreasing.{IsDecreasing_IsPoly}
 use Rattle.polynomials.specs.laws.Canonical.{zero_or_lead}
 use Rattle.polynomials.specs.laws.Congruence.{coefficient-minus, minus_zero, InIdeal_negated}
 use Rattle.polynomials.specs.laws.Ideal.{IsPoly-append, IsPoly-scaled, IsPoly-negated, InIdeal_plus}
-use Rattle.quotient_gb.specs.Combinations.{AtMost, HasDivisor, Combines, ReducesToZero}
-use Rattle.quotient_gb.specs.Criterion.{critical_pair, JoinsPairs}
+use Rattle.quotient_gb.specs.Combinations.{AtMost, HasLeadDivisor, Combines, HasStandardRepresentation}
+use Rattle.quotient_gb.specs.Criterion.{s_polynomial, RepresentsPairs}
 use Rattle.quotient_gb.specs.IdealBasis.{IsMonicMember}
-use Rattle.quotient_gb.proofs.Basics.{sum_nonzero, found_monomial}
 use Rattle.quotient_gb.proofs.Multiples.{divides_left}
 use Rattle.quotient_gb.proofs.Combinations.{combines_same, combines_plus, combines_one, combines_weaken}
-use Rattle.quotient_gb.proofs.Criterion.{coefficient-front, scaled_leads}
-use Rattle.quotient_gb.proofs.Pairs.{scaled_monic, pair_under, pair_poly, joined_reduction}
-use Rattle.quotient_gb.proofs.Bases.{reducer, lead_is, scaled_inside, pair_inside}
+use Rattle.quotient_gb.proofs.Criterion.{coefficient-front, scaled_leads, reducer}
+use Rattle.quotient_gb.proofs.Pairs.{scaled_monic, pair_below, s_polynomial_poly, below_standard}
+use Rattle.quotient_gb.proofs.Bases.{lead_is, scaled_inside, s_polynomial_inside}
 
 -- a generator lies in the ideal
 pub generator_inside : {E : Type 0} (K : FieldOps E) (F : IsField K) (n : ℕ) (rs : List (Polynomial E)) (r : Polynomial E) → Contains rs r → InIdeal K n rs r
@@ -44,20 +44,10 @@ pub generator_of : {E : Type 0} (K : FieldOps E) (O : MonomialOrder) (rs : List 
 generator_of K O [] h r k = absurd (contains_none r k)
 generator_of K O (x ∷ rs) h r k = ⊎_elim (λ e. subst (IsGenerator K O) e h.0) (λ i. generator_of K O rs h.1 r i) (contains_cases x rs r k)
 
-module _ {E : Type 0} (K : FieldOps E) (F : IsField K) where
-  -- a = (a - s) + s
-  pub put_back : (a s : Polynomial E) → Same K (minus K a s ++ s) a
-  put_back a s m =
-      coefficient-append K F (minus K a s) s m ∙
-      (ap (λ x. K.plus x (coefficient K s m)) (coefficient-minus K F a s m) ∙
-      (F.plus_assoc (coefficient K a m) (K.negate (coefficient K s m)) (coefficient K s m) ∙
-      (ap (K.plus (coefficient K a m)) (F.plus_comm (K.negate (coefficient K s m)) (coefficient K s m) ∙ F.plus_negate (coefficient K s m)) ∙
-      (F.plus_zero (coefficient K a m) ∙ coefficient_value K F a m))))
-
 module _ {E : Type 0} (K : FieldOps E) (F : IsField K) (O : MonomialOrder) (L : IsMonomialOrder O) where
-  -- two polynomials with one lead_monomial and one coefficient there differ by something below
-  pub difference_below : (a s : Polynomial E) (M : List ℕ) → IsLead K O a M → IsLead K O s M → coefficient K a M ≡ coefficient K s M →
-      (n : List ℕ) → coefficient K (minus K a s) n ≢ K.zero → O.compare n M ≡ Less
+  -- two polynomials with one lead and one coefficient there differ by something below
+  pub difference_below : (a s : Polynomial E) (M : Exponents) → IsLead K O a M → IsLead K O s M → coefficient K a M ≡ coefficient K s M →
+      (n : Exponents) → coefficient K (minus K a s) n ≢ K.zero → O.compare n M ≡ Less
   difference_below a s M la ls e n k =
       ⊎_elim (λ na. la.greatest n na other) (λ ns. ls.greatest n (λ z. ns (ap K.negate z ∙ negate-zero K F)) other)
       (sum_nonzero K F (coefficient K a n) (K.negate (coefficient K s n)) (λ z. k (coefficient-minus K F a s n ∙ z)))
@@ -66,19 +56,19 @@ module _ {E : Type 0} (K : FieldOps E) (F : IsField K) (O : MonomialOrder) (L : 
       other q = k (ap (coefficient K (minus K a s)) q ∙ (coefficient-minus K F a s M ∙ (ap (λ x. K.plus x (K.negate (coefficient K s M))) e ∙ F.plus_negate (coefficient K s M))))
 
 module _ {E : Type 0} (P : Presented E) (H : IsPresentation P) (G : List (Polynomial E)) (members : (g : Polynomial E) → Contains G g → IsMonicMember P g)
-    (c : ℕ) (divides : (m : List ℕ) → LeadsIdeal P m → P.order.degree m ≤ c → HasDivisor G m) where
-  abbrev Reduces : List ℕ → Type 0
+    (c : ℕ) (divides : (m : Exponents) → LeadsIdeal P m → P.order.degree m ≤ c → HasLeadDivisor G m) where
+  abbrev Reduces : Exponents → Type 0
   Reduces M = (a : Polynomial E) → IsPoly P.field P.order.places a → InIdeal P.field P.order.places P.ideal a → IsLead P.field P.order a M → Combines P.field P.order G (AtMost P.order M) a
 
-  -- a multiple of a member with the lead_monomial M and any coefficient there
-  record IsCancelling (M : List ℕ) (d : E) (s : Polynomial E) : Type 0 where
+  -- a multiple of a member with the lead M and any coefficient there
+  record IsCancelling (M : Exponents) (d : E) (s : Polynomial E) : Type 0 where
     combines : Combines P.field P.order G (AtMost P.order M) s
     poly : IsPoly P.field P.order.places s
     inside : InIdeal P.field P.order.places P.ideal s
     leads : IsLead P.field P.order s M
     front : coefficient P.field s M ≡ d
 
-  cancelling : (M : List ℕ) → IsMonomial P.order.places M → (d : E) → IsValue P.field d → d ≢ P.field.zero → HasDivisor G M → (s : Polynomial E) × IsCancelling M d s
+  cancelling : (M : Exponents) → IsMonomial P.order.places M → (d : E) → IsValue P.field d → d ≢ P.field.zero → HasLeadDivisor G M → (s : Polynomial E) × IsCancelling M d s
   cancelling M hM d v nz (g, hg, dv) =
       let lg = lead_is P H G members g hg in
       let r = reducer P H G members g hg in
@@ -99,7 +89,7 @@ module _ {E : Type 0} (P : Presented E) (H : IsPresentation P) (G : List (Polyno
         },
       )
 
-  step : (M : List ℕ) → IsWithin P.order H.order c M → ((k : List ℕ) → IsWithin P.order H.order c k → P.order.compare k M ≡ Less → Reduces k) → Reduces M
+  step : (M : Exponents) → IsWithin P.order H.order c M → ((k : Exponents) → IsWithin P.order H.order c k → P.order.compare k M ≡ Less → Reduces k) → Reduces M
   step M w ih a hp ha la =
       let d = coefficient P.field a M in
       let s = cancelling M w.monomial d (coefficient_value P.field H.field a M) la.nonzero (divides M (record { member = a; poly = hp; inside = ha; leads = la }) w.degree) in
@@ -109,14 +99,14 @@ module _ {E : Type 0} (P : Presented E) (H : IsPresentation P) (G : List (Polyno
       finish s h =
           ⊎_elim
           (λ z. combines_same P.field H.field P.order H.order G (AtMost P.order M) s a (λ m. sym (minus_zero P.field H.field a s z m)) h.combines)
-          (λ N. combines_same P.field H.field P.order H.order G (AtMost P.order M) (minus P.field a s ++ s) a (put_back P.field H.field a s)
+          (λ N. combines_same P.field H.field P.order H.order G (AtMost P.order M) (minus P.field a s ++ s) a (minus_back P.field H.field a s)
           (combines_plus P.field H.field P.order H.order G (AtMost P.order M) (minus P.field a s) s (smaller N.0 N.1) h.combines))
           (zero_or_lead P.field H.field P.order H.order (minus P.field a s) poly)
         where
           poly : IsPoly P.field P.order.places (minus P.field a s)
           poly = IsPoly-append P.field H.field P.order.places a (negated P.field s) hp (IsPoly-negated P.field H.field P.order.places s h.poly)
 
-          smaller : (N : List ℕ) → IsLead P.field P.order (minus P.field a s) N → Combines P.field P.order G (AtMost P.order M) (minus P.field a s)
+          smaller : (N : Exponents) → IsLead P.field P.order (minus P.field a s) N → Combines P.field P.order G (AtMost P.order M) (minus P.field a s)
           smaller N l =
               let lt = difference_below P.field H.field P.order H.order a s M la h.leads (sym h.front) N l.nonzero in
               combines_weaken P.field H.field P.order H.order G (lead_is P H G members) (AtMost P.order N) (AtMost P.order M) (minus P.field a s)
@@ -125,25 +115,25 @@ module _ {E : Type 0} (P : Presented E) (H : IsPresentation P) (G : List (Polyno
               (minus P.field a s) poly
               (InIdeal_plus P.field H.field P.order.places P.ideal a (negated P.field s) ha (InIdeal_negated P.field H.field P.order.places P.ideal s h.inside)) l)
 
-  -- a member of the ideal whose lead_monomial has a degree of at most c reduces to zero
-  pub complete_reduces : (a : Polynomial E) → IsPoly P.field P.order.places a → InIdeal P.field P.order.places P.ideal a → (M : List ℕ) → IsLead P.field P.order a M →
+  -- a member of the ideal whose lead has a degree of at most c has a standard representation
+  pub complete_reduces : (a : Polynomial E) → IsPoly P.field P.order.places a → InIdeal P.field P.order.places P.ideal a → (M : Exponents) → IsLead P.field P.order a M →
       P.order.degree M ≤ c → Combines P.field P.order G (AtMost P.order M) a
   complete_reduces a hp ha M l d =
       below_induction P.order H.order c Reduces step M (record { monomial = found_monomial P.field H.field P.order H.order a hp M l.nonzero; degree = d }) a hp ha l
 
-  pub complete_joins : JoinsPairs P c G
-  complete_joins g h hg hh d =
-      joined_reduction P.field H.field P.order H.order G (reducer P H G members) g h hg hh
+  pub complete_pairs : RepresentsPairs P c G
+  complete_pairs g h hg hh d =
+      below_standard P.field H.field P.order H.order G (reducer P H G members) g h hg hh
       (λ u v w M l.
-      let lt = pair_under P.field H.field P.order H.order G (reducer P H G members) g h hg hh u v w M l.nonzero in
+      let lt = pair_below P.field H.field P.order H.order G (reducer P H G members) g h hg hh u v w M l.nonzero in
       let mM = IsMonomial-least_common_multiple P.order.places (lead_monomial g) (lead_monomial h) (lead_is P H G members g hg) (lead_is P H G members h hh) in
-      complete_reduces (critical_pair P.field u g v h) (pair_poly P.field H.field P.order H.order G (reducer P H G members) g h hg hh u v w)
-      (pair_inside P H G members u v g h
+      complete_reduces (s_polynomial P.field u g v h) (s_polynomial_poly P.field H.field P.order H.order G (reducer P H G members) g h hg hh u v w)
+      (s_polynomial_inside P H G members u v g h
       (divides_left u (lead_monomial g) P.order.places (subst (IsMonomial P.order.places) (sym w.left) mM) w.left_trimmed)
       (divides_left v (lead_monomial h) P.order.places (subst (IsMonomial P.order.places) (sym w.right) mM) w.right_trimmed) hg hh) M l
       (let e = degree_falls P.order H.order M (least_common_multiple (lead_monomial g) (lead_monomial h)) lt in omega arith))
 
-  pub complete_generators : (r : Polynomial E) → Contains P.ideal r → (d : ℕ) → d ≤ c → IsHomogeneous P.field P.order d r → ReducesToZero P.field P.order G r
+  pub complete_generators : (r : Polynomial E) → Contains P.ideal r → (d : ℕ) → d ≤ c → IsHomogeneous P.field P.order d r → HasStandardRepresentation P.field P.order G r
   complete_generators r k d le h M l =
       complete_reduces r (generator_of P.field P.order P.ideal H.ideal r k).poly (generator_inside P.field H.field P.order.places P.ideal r k) M l
       (let e = h.each M l.nonzero in omega arith)

@@ -1,13 +1,14 @@
--- The criterion to a degree: where the generators and the critical pairs of degree at most c reduce to zero,
--- each monomial of degree at most c that leads a member of the ideal is a multiple of the lead_monomial of a member of the list.
+-- The criterion to a degree: if the generators of degree at most c have standard representations, and the S-polynomials have
+-- representations below, each lead of the ideal of degree at most c is a multiple of the lead of a member of the list.
 use Rattle.std.proofs.Common.{◌≡◌, ◌≢◌, ℕ, ◌+◌, ◌≤◌, refl, sym, ◌∙◌, ap, subst, List, [], ◌∷◌, ◌++◌, ◌⊎◌, inl, inr, ⊎_elim, arith, Bool, true, false, cond}
+use Rattle.polynomials.specs.laws.Coefficients.{single_term, lead_sum}
 use Rattle.std.specs.Prelude.{Contains, nat_eq}
 use Rattle.std.proofs.lemmas.Bool.{eqb-true, eq-eqb, true≢false}
 use Rattle.std.specs.declared.cmp.Ordering.TheVariants.{Less}
 use Rattle.word_field.specs.Field.{FieldOps, IsField, IsValue}
 use Rattle.word_field.specs.laws.Field.{plus_swap, plus_four, plus-times, times-negate, times-zero, zero-times, zero-plus}
 use Rattle.monomial_order.specs.declared.terms.Term.{Term}
-use Rattle.monomial_order.specs.Monomial.{product, least_common_multiple as lcm, IsMonomial, IsTrimmed, Divides}
+use Rattle.monomial_order.specs.Monomial.{product, least_common_multiple as lcm, IsMonomial, IsTrimmed, Divides, Exponents}
 use Rattle.monomial_order.specs.laws.Monomial.{IsTrimmed-least_common_multiple}
 use Rattle.monomial_order.specs.laws.Comparing.{degree_falls as less_degree}
 use Rattle.monomial_order.specs.MonomialOrder.{MonomialOrder, IsMonomialOrder}
@@ -20,14 +21,14 @@ use Rattle.polynomials.specs.laws.Decreasing.{IsDecreasing_IsPoly, IsBelow_trans
 use Rattle.polynomials.specs.laws.Canonical.{IsLead_same, zero_or_lead}
 use Rattle.polynomials.specs.laws.Congruence.{coefficient-minus}
 use Rattle.monomial_order.specs.laws.Lists.{contains_cases, contains_none}
-use Rattle.polynomials.specs.laws.Terms.{IsBelow-append, IsDecreasing-scaled}
+use Rattle.polynomials.specs.laws.Terms.{IsBelow-append, IsDecreasing-scaled, scaled_below}
 use Rattle.polynomials.specs.laws.Leads.{below_found}
 use Rattle.polynomials.specs.laws.Ideal.{IsPoly-scaled}
 use Rattle.monomial_order.specs.laws.Rank.{IsWithin, below_induction}
 use Rattle.polynomials.specs.laws.Degrees.{component-append, coefficient-component, component_same, IsGraded, graded_component, graded_no_component, graded_times}
-use Rattle.quotient_gb.specs.Combinations.{AtMost, Under, HasDivisor, Step, sum_of_steps, AreSteps, Combines, ReducesToZero}
-use Rattle.quotient_gb.specs.Criterion.{critical_pair, IsJoined, ReducesGenerators, JoinsPairs}
-use Rattle.quotient_gb.proofs.Basics.{single_term, lead_sum, scaled_below}
+use Rattle.quotient_gb.specs.Combinations.{AtMost, Under, HasLeadDivisor, Step, sum_of_steps, AreSteps, Combines, HasStandardRepresentation}
+use Rattle.quotient_gb.specs.IdealBasis.{IsMonicMember}
+use Rattle.quotient_gb.specs.Criterion.{s_polynomial, HasRepresentationBelow, ReducesGenerators, RepresentsPairs}
 use Rattle.quotient_gb.proofs.Multiples.{common, product_divides}
 use Rattle.quotient_gb.proofs.Combinations.{scaled-append, scaled_scaled, scaled_is, scaled_same, combines_same, combines_zero, combines_plus, combines_one, combines_scaled, combines_constant, top}
 
@@ -42,13 +43,13 @@ module _ {E : Type 0} (K : FieldOps E) (F : IsField K) where
   scaled-minus t p q = scaled-append K F t p (negated K q) ∙ ap (λ x. scaled K t p ++ x) (scaled-negated t q)
 
   -- the product of two monomials
-  pub scaled_product : (a b c : List ℕ) (p : Polynomial E) → product a b ≡ c → scaled K (term_of a K.one) (scaled K (term_of b K.one) p) ≡ scaled K (term_of c K.one) p
+  pub scaled_product : (a b c : Exponents) (p : Polynomial E) → product a b ≡ c → scaled K (term_of a K.one) (scaled K (term_of b K.one) p) ≡ scaled K (term_of c K.one) p
   scaled_product a b c p e =
       scaled_scaled K F (term_of a K.one) (term_of b K.one) p ∙
       (ap (λ x. scaled K (term_of x (K.times K.one K.one)) p) e ∙ ap (λ x. scaled K (term_of c x) p) (F.times_one K.one ∙ F.one_value))
 
   -- a coefficient in front
-  pub coefficient-front : (a : List ℕ) (d : E) (p : Polynomial E) (m : List ℕ) → IsValue K d →
+  pub coefficient-front : (a : Exponents) (d : E) (p : Polynomial E) (m : Exponents) → IsValue K d →
       coefficient K (scaled K (term_of a d) p) m ≡ K.times d (coefficient K (scaled K (term_of a K.one) p) m)
   coefficient-front a d p m v =
       ap (λ x. coefficient K (scaled K (term_of a x) p) m) (sym v ∙ sym (F.times_one d)) ∙
@@ -77,7 +78,7 @@ module _ {E : Type 0} (K : FieldOps E) (F : IsField K) where
 
   module _ (O : MonomialOrder) (L : IsMonomialOrder O) where
     -- a term times a falling list
-    pub below_scaled : (t : Term E) (g : Polynomial E) (M : List ℕ) → IsTerm K O.places t → IsDecreasing K O g → O.compare (product t.at (lead_monomial g)) M ≡ Less → IsBelow K O M (scaled K t g)
+    pub below_scaled : (t : Term E) (g : Polynomial E) (M : Exponents) → IsTerm K O.places t → IsDecreasing K O g → O.compare (product t.at (lead_monomial g)) M ≡ Less → IsBelow K O M (scaled K t g)
     below_scaled t [] M ht h lt = tt
     below_scaled t (u ∷ p) M ht h lt =
         (lt, IsBelow_trans K F O L (product t.at u.at) M (scaled K t p) lt (scaled_below K F O L t u p ht h.0.term (IsDecreasing_IsPoly K O p h.1) h.0.above))
@@ -87,12 +88,12 @@ module _ {E : Type 0} (K : FieldOps E) (F : IsField K) where
     scaled_leads t [] ht nz h e = absurd (F.one_not_zero (sym e))
     scaled_leads t (u ∷ p) ht nz h e = IsLead_first K F O L (term_times K t u) (scaled K t p) (IsDecreasing-scaled K F O L t (u ∷ p) ht nz h)
 
-    pub lead_monomial : (g : Polynomial E) → IsDecreasing K O g → coefficient K g (lead_monomial g) ≡ K.one → IsMonomial O.places (lead_monomial g)
+    pub monic_monomial : (g : Polynomial E) → IsDecreasing K O g → coefficient K g (lead_monomial g) ≡ K.one → IsMonomial O.places (lead_monomial g)
     unfolding coefficient
-    lead_monomial [] h e = absurd (F.one_not_zero (sym e))
-    lead_monomial (u ∷ p) h e = h.0.term.monomial
+    monic_monomial [] h e = absurd (F.one_not_zero (sym e))
+    monic_monomial (u ∷ p) h e = h.0.term.monomial
 
-pub zero_no_lead : {E : Type 0} (K : FieldOps E) (O : MonomialOrder) (a : Polynomial E) (m : List ℕ) → Same K a [] → IsLead K O a m → ⊥
+pub zero_no_lead : {E : Type 0} (K : FieldOps E) (O : MonomialOrder) (a : Polynomial E) (m : Exponents) → Same K a [] → IsLead K O a m → ⊥
 unfolding coefficient
 zero_no_lead K O a m z h = h.nonzero (z m)
 
@@ -104,19 +105,19 @@ pub record IsReducer {E : Type 0} (K : FieldOps E) (O : MonomialOrder) (g : Poly
 module _ {E : Type 0} (K : FieldOps E) (F : IsField K) (O : MonomialOrder) (L : IsMonomialOrder O)
     (G : List (Polynomial E)) (HG : (g : Polynomial E) → Contains G g → IsReducer K O g) where
   pub monomials : (g : Polynomial E) → Contains G g → IsMonomial O.places (lead_monomial g)
-  monomials g h = let r = HG g h in lead_monomial K F O L g r.decreasing r.monic
+  monomials g h = let r = HG g h in monic_monomial K F O L g r.decreasing r.monic
 
   -- the monomials of a combination below M are below M
-  pub under_found : (M : List ℕ) (a : Polynomial E) → Combines K O G (Under O M) a → (n : List ℕ) → coefficient K a n ≢ K.zero → O.compare n M ≡ Less
+  pub under_found : (M : Exponents) (a : Polynomial E) → Combines K O G (Under O M) a → (n : Exponents) → coefficient K a n ≢ K.zero → O.compare n M ≡ Less
   under_found M a h n k = below_found K F O L M (sum_of_steps K h.steps) (all h.steps h.are) n (λ z. k (h.sums n ∙ z))
     where
       all : (ss : List (Step E)) → AreSteps K O G (Under O M) ss → IsBelow K O M (sum_of_steps K ss)
       all [] q = tt
       all (s ∷ ss) q = IsBelow-append K O M (scaled K s.term s.of) (sum_of_steps K ss) (below_scaled K F O L s.term s.of M q.0 (HG s.of q.1).decreasing q.2) (all ss q.3)
 
-  module _ (c : ℕ) (pairs : (g h : Polynomial E) → Contains G g → Contains G h → O.degree (lcm (lead_monomial g) (lead_monomial h)) ≤ c → IsJoined K O G g h) where
-    -- two multiples of members with the same lead_monomial
-    pub same_multiple : (M a b : List ℕ) (g h : Polynomial E) → Contains G g → Contains G h → IsMonomial O.places a → IsMonomial O.places b →
+  module _ (c : ℕ) (pairs : (g h : Polynomial E) → Contains G g → Contains G h → O.degree (lcm (lead_monomial g) (lead_monomial h)) ≤ c → HasRepresentationBelow K O G g h) where
+    -- two multiples of members with the same lead
+    pub same_multiple : (M a b : Exponents) (g h : Polynomial E) → Contains G g → Contains G h → IsMonomial O.places a → IsMonomial O.places b →
         product a (lead_monomial g) ≡ M → product b (lead_monomial h) ≡ M → O.degree M ≤ c → Combines K O G (Under O M) (minus K (scaled K (term_of a K.one) g) (scaled K (term_of b K.one) h))
     same_multiple M a b g h hg hh ma mb ea eb l =
         let C = common O.places a (lead_monomial g) b (lead_monomial h) ma (monomials g hg) mb (monomials h hh) (ea ∙ sym eb) in
@@ -124,12 +125,12 @@ module _ {E : Type 0} (K : FieldOps E) (F : IsField K) (O : MonomialOrder) (L : 
         let small : O.degree (lcm (lead_monomial g) (lead_monomial h)) ≤ c =
         let p = L.degree_product C.by (lcm (lead_monomial g) (lead_monomial h)) in let q : O.degree (product C.by (lcm (lead_monomial g) (lead_monomial h))) ≡ O.degree M = ap O.degree whole in omega arith in
         let j = pairs g h hg hh small C.left C.right (record { left_trimmed = C.left_monomial.trimmed; right_trimmed = C.right_monomial.trimmed; left = C.left_is; right = C.right_is }) in
-        let is : scaled K (term_of C.by K.one) (critical_pair K C.left g C.right h) ≡ minus K (scaled K (term_of a K.one) g) (scaled K (term_of b K.one) h) =
+        let is : scaled K (term_of C.by K.one) (s_polynomial K C.left g C.right h) ≡ minus K (scaled K (term_of a K.one) g) (scaled K (term_of b K.one) h) =
         scaled-minus K F (term_of C.by K.one) (scaled K (term_of C.left K.one) g) (scaled K (term_of C.right K.one) h) ∙
         (ap (λ x. minus K x (scaled K (term_of C.by K.one) (scaled K (term_of C.right K.one) h))) (scaled_product K F C.by C.left a g C.left_by) ∙
         ap (minus K (scaled K (term_of a K.one) g)) (scaled_product K F C.by C.right b h C.right_by)) in
         subst (Combines K O G (Under O M)) is
-        (combines_scaled K F O L G monomials (Under O (lcm (lead_monomial g) (lead_monomial h))) (Under O M) (term_of C.by K.one) (critical_pair K C.left g C.right h)
+        (combines_scaled K F O L G monomials (Under O (lcm (lead_monomial g) (lead_monomial h))) (Under O M) (term_of C.by K.one) (s_polynomial K C.left g C.right h)
         (record { monomial = C.by_monomial; value = F.one_value })
         (λ m hm lt. subst (λ x. O.compare (product C.by m) x ≡ Less) whole (L.kept C.by m (lcm (lead_monomial g) (lead_monomial h)) C.by_monomial.trimmed hm.trimmed (top_trimmed g h hg hh) ∙ lt)) j)
       where
@@ -137,10 +138,10 @@ module _ {E : Type 0} (K : FieldOps E) (F : IsField K) (O : MonomialOrder) (L : 
         top_trimmed g h hg hh = IsTrimmed-least_common_multiple (lead_monomial g) (lead_monomial h) (monomials g hg).trimmed (monomials h hh).trimmed
 
     -- the terms at M taken together, at one member, and what is below M
-    record IsGathered (M : List ℕ) (a : Polynomial E) : Type 0 where
+    record IsGathered (M : Exponents) (a : Polynomial E) : Type 0 where
       member : Polynomial E
       contains : Contains G member
-      by : List ℕ
+      by : Exponents
       monomial : IsMonomial O.places by
       is : product by (lead_monomial member) ≡ M
       front : E
@@ -149,7 +150,7 @@ module _ {E : Type 0} (K : FieldOps E) (F : IsField K) (O : MonomialOrder) (L : 
       under : Combines K O G (Under O M) rest
       sums : Same K a (scaled K (term_of by front) member ++ rest)
 
-    gather : (M : List ℕ) → O.degree M ≤ c → (ss : List (Step E)) → AreSteps K O G (AtMost O M) ss → Combines K O G (Under O M) (sum_of_steps K ss) ⊎ IsGathered M (sum_of_steps K ss)
+    gather : (M : Exponents) → O.degree M ≤ c → (ss : List (Step E)) → AreSteps K O G (AtMost O M) ss → Combines K O G (Under O M) (sum_of_steps K ss) ⊎ IsGathered M (sum_of_steps K ss)
     gather M l [] k = inl (combines_zero K F O L G (Under O M))
     gather M l (s ∷ ss) k = ⊎_elim (λ e. ⊎_elim (λ u. inr (first e u)) (λ r. inr (joined e r)) (gather M l ss k.3)) (λ lt. ⊎_elim (λ u. inl (below lt u)) (λ r. inr (beside lt r)) (gather M l ss k.3)) k.2
       where
@@ -216,26 +217,26 @@ module _ {E : Type 0} (K : FieldOps E) (F : IsField K) (O : MonomialOrder) (L : 
             difference : Polynomial E
             difference = minus K (scaled K (term_of s.term.at K.one) s.of) (scaled K (term_of r.by K.one) r.member)
 
-    -- a combination whose products are at most M reduces to zero: it has its lead_monomial as the greatest product, and that is a multiple of a lead_monomial
-    pub record IsLed (a : Polynomial E) (m : List ℕ) : Type 0 where
+    -- a combination whose products are at most M has a standard representation, and its lead is a multiple of a lead
+    pub record IsLed (a : Polynomial E) (m : Exponents) : Type 0 where
       pub combines : Combines K O G (AtMost O m) a
-      pub divisor : HasDivisor G m
+      pub divisor : HasLeadDivisor G m
 
-    abbrev AllLed : List ℕ → Type 0
-    AllLed M = (a : Polynomial E) → Combines K O G (AtMost O M) a → (m : List ℕ) → IsLead K O a m → IsLed a m
+    abbrev AllLed : Exponents → Type 0
+    AllLed M = (a : Polynomial E) → Combines K O G (AtMost O M) a → (m : Exponents) → IsLead K O a m → IsLed a m
 
-    pub led : (M : List ℕ) → IsWithin O L c M → (a : Polynomial E) → Combines K O G (AtMost O M) a → (m : List ℕ) → IsLead K O a m → IsLed a m
+    pub led : (M : Exponents) → IsWithin O L c M → (a : Polynomial E) → Combines K O G (AtMost O M) a → (m : Exponents) → IsLead K O a m → IsLed a m
     led = below_induction O L c AllLed step
       where
-        lower : (M : List ℕ) → IsWithin O L c M → ((k : List ℕ) → IsWithin O L c k → O.compare k M ≡ Less → AllLed k) →
-            (a : Polynomial E) → Combines K O G (Under O M) a → (m : List ℕ) → IsLead K O a m → IsLed a m
+        lower : (M : Exponents) → IsWithin O L c M → ((k : Exponents) → IsWithin O L c k → O.compare k M ≡ Less → AllLed k) →
+            (a : Polynomial E) → Combines K O G (Under O M) a → (m : Exponents) → IsLead K O a m → IsLed a m
         lower M w ih a u m h = ⊎_elim
             (λ z. absurd (zero_no_lead K O a m z h))
             (λ r. ih r.0 (record { monomial = r.1.monomial; degree = let d = less_degree O L r.0 M r.1.bound in let e = w.degree in omega arith }) r.1.bound a r.1.combines m h)
             (top K F O L G monomials (Under O M) a u)
 
-        step : (M : List ℕ) → IsWithin O L c M → ((k : List ℕ) → IsWithin O L c k → O.compare k M ≡ Less → AllLed k) →
-            (a : Polynomial E) → Combines K O G (AtMost O M) a → (m : List ℕ) → IsLead K O a m → IsLed a m
+        step : (M : Exponents) → IsWithin O L c M → ((k : Exponents) → IsWithin O L c k → O.compare k M ≡ Less → AllLed k) →
+            (a : Polynomial E) → Combines K O G (AtMost O M) a → (m : Exponents) → IsLead K O a m → IsLed a m
         step M w ih a h m lead_m = ⊎_elim
             (λ u. lower M w ih a (combines_same K F O L G (Under O M) (sum_of_steps K h.steps) a (λ n. sym (h.sums n)) u) m lead_m)
             (λ r. ⊎_elim (none r) (some r) (F.equal_or_not r.front K.zero))
@@ -261,15 +262,15 @@ module _ {E : Type 0} (K : FieldOps E) (F : IsField K) (O : MonomialOrder) (L : 
                 }
 
     module _ (rs : List (Polynomial E)) (HR : AreGenerators K O rs)
-        (reduces : (r : Polynomial E) → Contains rs r → (d : ℕ) → d ≤ c → IsHomogeneous K O d r → ReducesToZero K O G r) where
-      abbrev pub Small : List ℕ → Type 0
+        (reduces : (r : Polynomial E) → Contains rs r → (d : ℕ) → d ≤ c → IsHomogeneous K O d r → HasStandardRepresentation K O G r) where
+      abbrev pub Small : Exponents → Type 0
       Small m = O.degree m ≤ c
 
       generator_of : (xs : List (Polynomial E)) → AreGenerators K O xs → (r : Polynomial E) → Contains xs r → IsGenerator K O r
       generator_of [] h r k = absurd (contains_none r k)
       generator_of (x ∷ xs) h r k = ⊎_elim (λ e. subst (IsGenerator K O) e h.0) (λ i. generator_of xs h.1 r i) (contains_cases x xs r k)
 
-      at_most_degree : (M m : List ℕ) → AtMost O M m → O.degree m ≤ O.degree M
+      at_most_degree : (M m : Exponents) → AtMost O M m → O.degree m ≤ O.degree M
       at_most_degree M m h = ⊎_elim (λ e. let q : O.degree m ≡ O.degree M = ap O.degree e in omega arith) (λ lt. less_degree O L m M lt) h
 
       -- the part of degree d of a term times a generator
@@ -280,7 +281,7 @@ module _ {E : Type 0} (K : FieldOps E) (F : IsField K) (O : MonomialOrder) (L : 
           nothing : Same K (component O d (scaled K t r)) [] → Combines K O G Small (component O d (scaled K t r))
           nothing z = combines_same K F O L G Small [] (component O d (scaled K t r)) (λ m. sym (z m)) (combines_zero K F O L G Small)
 
-          none : ((m : List ℕ) → coefficient K r m ≡ K.zero) → Combines K O G Small (component O d (scaled K t r))
+          none : ((m : Exponents) → coefficient K r m ≡ K.zero) → Combines K O G Small (component O d (scaled K t r))
           none z = nothing (component_same K F O L d (scaled K t r) [] (scaled_same K F t r [] z))
 
           some : (e : ℕ) × (1 ≤ e) × IsHomogeneous K O e r → Combines K O G Small (component O d (scaled K t r))
@@ -297,7 +298,7 @@ module _ {E : Type 0} (K : FieldOps E) (F : IsField K) (O : MonomialOrder) (L : 
               graded = subst (IsGraded K F O L (O.degree t.at + h.0)) (scaled_is K F t r)
                   (graded_times K F O L (t ∷ []) r (O.degree t.at) h.0 (ht, tt) hr.poly (λ m n. ap O.degree (sym (single_term K F t.at t.by m n))) h.2.each)
 
-              lead_of : Same K r [] ⊎ ((M : List ℕ) × IsLead K O r M) → (M : List ℕ) × IsLead K O r M
+              lead_of : Same K r [] ⊎ ((M : Exponents) × IsLead K O r M) → (M : Exponents) × IsLead K O r M
               lead_of s = ⊎_elim (λ z. absurd (h.2.some.1 (z h.2.some.0))) (λ x. x) s
 
               here : O.degree t.at + h.0 ≡ d → Combines K O G Small (component O d (scaled K t r))
@@ -328,8 +329,8 @@ module _ {E : Type 0} (K : FieldOps E) (F : IsField K) (O : MonomialOrder) (L : 
               (combines_plus K F O L G Small (component O d (times K w.by w.of)) (component O d (sum_of K ws))
               (times_part d l w.by w.of k.0 (generator_of rs HR w.of k.1) k.1) (all ws k.2))
 
-      -- the lead_monomial of a member of the ideal, of a degree at most c
-      pub lead_divided : (a : Polynomial E) (m : List ℕ) → InIdeal K O.places rs a → IsLead K O a m → O.degree m ≤ c → HasDivisor G m
+      -- the lead of a member of the ideal, of a degree at most c
+      pub lead_divided : (a : Polynomial E) (m : Exponents) → InIdeal K O.places rs a → IsLead K O a m → O.degree m ≤ c → HasLeadDivisor G m
       unfolding coefficient
       lead_divided a m h lm l = ⊎_elim
           (λ z. absurd (part_lead.nonzero (z m)))
@@ -349,23 +350,11 @@ module _ {E : Type 0} (K : FieldOps E) (F : IsField K) (O : MonomialOrder) (L : 
             greatest = λ n k ne. lm.greatest n (λ z. k (coefficient-component K F O L (O.degree m) a n ∙ (ap (λ x. cond (nat_eq (O.degree n) (O.degree m)) x K.zero) z ∙ if_zero (nat_eq (O.degree n) (O.degree m))))) ne;
           }
 
-module _ {E : Type 0} (P : Presented E) (H : IsPresentation P) (c : ℕ) (G : List (Polynomial E)) (HG : ReducesGenerators P c G) (HP : JoinsPairs P c G) where
-  pub reducers : (g : Polynomial E) → Contains G g → IsReducer P.field P.order g
-  reducers g h = let m = HG.members g h in record { decreasing = m.decreasing; monic = m.monic }
+-- a monic member serves to reduce
+pub reducer : {E : Type 0} (P : Presented E) → IsPresentation P → (G : List (Polynomial E)) → ((g : Polynomial E) → Contains G g → IsMonicMember P g) → (g : Polynomial E) → Contains G g → IsReducer P.field P.order g
+reducer P H G members g h = let m = members g h in record { decreasing = m.decreasing; monic = m.monic }
 
-  pub criterion : (m : List ℕ) → LeadsIdeal P m → P.order.degree m ≤ c → HasDivisor G m
+module _ {E : Type 0} (P : Presented E) (H : IsPresentation P) (c : ℕ) (G : List (Polynomial E)) (HG : ReducesGenerators P c G) (HP : RepresentsPairs P c G) where
+  pub criterion : (m : Exponents) → LeadsIdeal P m → P.order.degree m ≤ c → HasLeadDivisor G m
   criterion m h l =
-      lead_divided P.field H.field P.order H.order G reducers c HP P.ideal H.ideal HG.generators h.member m h.inside h.leads l
-
-  -- a homogeneous member of the ideal of degree at most c reduces to zero
-  pub member_reduces : (d : ℕ) → d ≤ c → (a : Polynomial E) → IsPoly P.field P.order.places a → IsHomogeneous P.field P.order d a → InIdeal P.field P.order.places P.ideal a → ReducesToZero P.field P.order G a
-  member_reduces d l a hp hd h M lm =
-      ⊎_elim
-      (λ z. absurd (zero_no_lead P.field P.order a M (λ m. sym (whole m) ∙ z m) lm))
-      (λ r. (led P.field H.field P.order H.order G reducers c HP r.0 (record { monomial = r.1.monomial; degree = r.1.bound }) a
-      (combines_same P.field H.field P.order H.order G (AtMost P.order r.0) (component P.order d a) a whole r.1.combines) M lm).combines)
-      (top P.field H.field P.order H.order G (monomials P.field H.field P.order H.order G reducers) (λ m. P.order.degree m ≤ c) (component P.order d a)
-      (member_part P.field H.field P.order H.order G reducers c HP P.ideal H.ideal HG.generators d l a h))
-    where
-      whole : Same P.field (component P.order d a) a
-      whole = graded_component P.field H.field P.order H.order d a hp hd.each
+      lead_divided P.field H.field P.order H.order G (reducer P H G HG.members) c HP P.ideal H.ideal HG.generators h.member m h.inside h.leads l

@@ -2,7 +2,6 @@
 use Rattle.std.proofs.Common.{◌≡◌, ℕ, suc, ◌*◌, ◌≤◌, sym, ◌∙◌, ap, List, [], ◌∷◌, ◌++◌, length, true, arith, inl, inr, ⊎_elim}
 use Rattle.std.proofs.Math.Nat.{mul-le-mul}
 use Rattle.word_field.specs.Field.{FieldOps, IsField}
-use Rattle.monomial_order.specs.declared.terms.Term.{Term}
 use Rattle.monomial_order.specs.Monomial.{exponent, weighted_degree}
 use Rattle.monomial_order.specs.MonomialOrder.{MonomialOrder, IsMonomialOrder}
 use Rattle.monomial_order.specs.laws.Orders.{between_first, between_rest}
@@ -12,7 +11,7 @@ use Rattle.monomial_order.specs.laws.Comparing.{degree_one}
 use Rattle.poly_core.specs.Presentation.{IsCanonicalGenerator, AreCanonicalGenerators}
 use Rattle.polynomials.specs.Subalgebra.{AreGenerators, IsPresentation}
 use Rattle.polynomials.specs.laws.Decreasing.{IsDecreasing_unique, IsDecreasing_IsPoly, IsLead_first}
-use Rattle.quotient_gb.proofs.Basics.{nothing_at}
+use Rattle.polynomials.specs.laws.Coefficients.{nothing_at}
 
 -- small exponents make a small degree
 pub weighted_small : (ws m : List ℕ) → all_between 1 64 ws ≡ true → ((k : ℕ) → exponent m k ≤ 4) → weighted_degree ws m ≤ 256 * length ws
@@ -26,11 +25,11 @@ weighted_small (w ∷ ws) (x ∷ m) h e =
 
 module _ {E : Type 0} (K : FieldOps E) (F : IsField K) (O : MonomialOrder) (L : IsMonomialOrder O) where
   pub zero_generator : (r : Polynomial E) → IsCanonical K O r → r ≡ [] → IsCanonicalGenerator K O r
-  zero_generator r h e = record { kept = h; homogeneous = inl e }
+  zero_generator r h e = record { canonical = h; homogeneous = inl e }
 
   pub some_generator : (r : Polynomial E) → IsCanonical K O r → (d : ℕ) → 1 ≤ d → d ≤ 30000 → IsDegree K O d r → IsZeroOrHomogeneous K O r → IsCanonicalGenerator K O r
   some_generator r h d lo hi hd z = record {
-    kept = h;
+    canonical = h;
     homogeneous = ⊎_elim (λ s. inl (IsDecreasing_unique K F O L r [] h.decreasing tt s))
         (λ k. let a = k.1.each hd.some.0 hd.some.1 in let b = hd.some.2 in inr (k.0, omega arith, omega arith, k.1)) z;
   }
@@ -39,7 +38,7 @@ module _ {E : Type 0} (K : FieldOps E) (F : IsField K) (O : MonomialOrder) (L : 
   generators_are [] h = tt
   generators_are (f ∷ fs) h = (
     record {
-      poly = IsDecreasing_IsPoly K O f h.0.kept.decreasing;
+      poly = IsDecreasing_IsPoly K O f h.0.canonical.decreasing;
       homogeneous = ⊎_elim (λ e. inl (λ m. ap (λ p. coefficient K p m) e ∙ sym (nothing_at K m))) (λ r. inr (r.0, r.1, r.3)) h.0.homogeneous;
     },
     generators_are fs h.1,

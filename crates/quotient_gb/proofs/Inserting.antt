@@ -1,9 +1,10 @@
--- A list with a member put at a place.
-use Rattle.std.proofs.Common.{◌≡◌, ℕ, zero, suc, ◌<◌, ◌≤◌, refl, sym, ◌∙◌, ap, subst, List, [], ◌∷◌, length, arith, ◌⊎◌, inl, inr, ⊎_elim, get_or, take}
+-- A list with a member inserted at an index, or with a member replaced.
+use Rattle.std.proofs.Common.{◌≡◌, ℕ, zero, suc, ◌<◌, ◌≤◌, refl, ap, subst, List, [], ◌∷◌, ◌++◌, length, arith, ◌⊎◌, inl, inr, ⊎_elim, get_or, slice_set}
+use Rattle.monomial_order.specs.Monomial.{Exponents}
 use Rattle.std.specs.Prelude.{Contains, map}
 use Rattle.std.specs.List.{insert}
 use Rattle.std.specs.declared.cmp.Ordering.TheVariants.{Less}
-use Rattle.monomial_order.specs.laws.Lists.{contains_here, contains_there, contains_none, contains_cases, contains_at}
+use Rattle.monomial_order.specs.laws.Lists.{contains_here, contains_there, contains_none, contains_cases}
 use Rattle.polynomials.specs.Subalgebra.{Presented}
 use Rattle.monomial_order.specs.MonomialOrder.{IsIncreasing}
 
@@ -26,49 +27,41 @@ module _ {A : Type 0} where
       ⊎_elim (λ e. inr (subst (Contains (z ∷ xs)) e (contains_here z xs)))
       (λ i. ⊎_elim (λ e. inl e) (λ j. inr (contains_there z xs y j)) (insert_cases xs k x y i)) (contains_cases z (insert xs k x) y h)
 
-  pub take_insert : (s : ℕ) (xs : List A) (k : ℕ) (x : A) → s ≤ k → k ≤ length xs → take s (insert xs k x) ≡ take s xs
-  take_insert zero xs k x h l = refl
-  take_insert (suc s) xs zero x h l = absurd (omega arith)
-  take_insert (suc s) [] (suc k) x h l = absurd (omega arith)
-  take_insert (suc s) (y ∷ xs) (suc k) x h l = ap (λ ys. y ∷ ys) (take_insert s xs k x (omega arith) (omega arith))
+  pub set_cases : (xs : List A) (i : ℕ) (x y : A) → Contains (slice_set xs i x) y → (x ≡ y) ⊎ Contains xs y
+  set_cases [] i x y h = inr h
+  set_cases (z ∷ xs) zero x y h = ⊎_elim (λ e. inl e) (λ k. inr (contains_there z xs y k)) (contains_cases x xs y h)
+  set_cases (z ∷ xs) (suc i) x y h = ⊎_elim (λ e. inr (subst (Contains (z ∷ xs)) e (contains_here z xs)))
+      (λ k. ⊎_elim (λ e. inl e) (λ j. inr (contains_there z xs y j)) (set_cases xs i x y k)) (contains_cases z (slice_set xs i x) y h)
 
-  pub length_insert : (xs : List A) (k : ℕ) (x : A) → length (insert xs k x) ≡ suc (length xs)
-  length_insert xs zero x = omega arith
-  length_insert [] (suc k) x = omega arith
-  length_insert (y ∷ xs) (suc k) x = let e = length_insert xs k x in omega arith
+  pub set_length : (xs : List A) (i : ℕ) (x : A) → length (slice_set xs i x) ≡ length xs
+  set_length [] i x = refl
+  set_length (y ∷ xs) zero x = refl
+  set_length (y ∷ xs) (suc i) x = let e = set_length xs i x in omega arith
 
-  -- a place in the front
-  pub take_at : (s : ℕ) (xs : List A) (i : ℕ) (d : A) → i < s → get_or (take s xs) i d ≡ get_or xs i d
-  take_at zero xs i d h = absurd (omega arith)
-  take_at (suc s) [] i d h = refl
-  take_at (suc s) (x ∷ xs) zero d h = refl
-  take_at (suc s) (x ∷ xs) (suc i) d h = take_at s xs i d (omega arith)
+  pub set_here : (xs : List A) (i : ℕ) (x d : A) → i < length xs → get_or (slice_set xs i x) i d ≡ x
+  set_here [] i x d l = absurd (omega arith)
+  set_here (y ∷ xs) zero x d l = refl
+  set_here (y ∷ xs) (suc i) x d l = set_here xs i x d (omega arith)
 
-  pub front_at : (s : ℕ) (xs ys : List A) (i : ℕ) (d : A) → take s ys ≡ take s xs → i < s → get_or ys i d ≡ get_or xs i d
-  front_at s xs ys i d e h = sym (take_at s ys i d h) ∙ (ap (λ zs. get_or zs i d) e ∙ take_at s xs i d h)
-
-  pub length_take : (s : ℕ) (xs : List A) → s ≤ length xs → length (take s xs) ≡ s
-  length_take zero xs h = omega arith
-  length_take (suc s) [] h = absurd (omega arith)
-  length_take (suc s) (x ∷ xs) h = let e = length_take s xs (omega arith) in omega arith
-
-  pub take_has : (s : ℕ) (xs : List A) (i : ℕ) (d : A) → i < s → s ≤ length xs → Contains (take s xs) (get_or xs i d)
-  take_has s xs i d h l = subst (Contains (take s xs)) (take_at s xs i d h) (contains_at (take s xs) i d (let e = length_take s xs l in omega arith))
-
-  pub take_part : (s : ℕ) (xs : List A) (x : A) → Contains (take s xs) x → Contains xs x
-  take_part zero xs x h = absurd (contains_none x h)
-  take_part (suc s) [] x h = h
-  take_part (suc s) (y ∷ xs) x h =
-      ⊎_elim (λ e. subst (Contains (y ∷ xs)) e (contains_here y xs)) (λ k. contains_there y xs x (take_part s xs x k)) (contains_cases y (take s xs) x h)
+  pub set_before : (xs : List A) (i k : ℕ) (x d : A) → k < i → get_or (slice_set xs i x) k d ≡ get_or xs k d
+  set_before [] i k x d l = refl
+  set_before (y ∷ xs) zero k x d l = absurd (omega arith)
+  set_before (y ∷ xs) (suc i) zero x d l = refl
+  set_before (y ∷ xs) (suc i) (suc k) x d l = set_before xs i k x d (omega arith)
 
 pub map_insert : {A B : Type 0} (f : A → B) (xs : List A) (k : ℕ) (x : A) → map f (insert xs k x) ≡ insert (map f xs) k (f x)
 map_insert f xs zero x = refl
 map_insert f [] (suc k) x = refl
 map_insert f (y ∷ xs) (suc k) x = ap (λ ys. f y ∷ ys) (map_insert f xs k x)
 
+pub map_set : {A B : Type 0} (f : A → B) (xs : List A) (i : ℕ) (x d : A) → i < length xs → f x ≡ f (get_or xs i d) → map f (slice_set xs i x) ≡ map f xs
+map_set f [] i x d l e = refl
+map_set f (y ∷ xs) zero x d l e = ap (λ z. z ∷ map f xs) e
+map_set f (y ∷ xs) (suc i) x d l e = ap (λ ys. f y ∷ ys) (map_set f xs i x d (omega arith) e)
+
 module _ {E : Type 0} (P : Presented E) where
   -- a rising list with a member put between the smaller and the greater ones
-  pub rise_insert : (ms : List (List ℕ)) (k : ℕ) (m : List ℕ) → IsIncreasing P.order ms → k ≤ length ms →
+  pub rise_insert : (ms : List Exponents) (k : ℕ) (m : Exponents) → IsIncreasing P.order ms → k ≤ length ms →
       ((i : ℕ) → i < k → P.order.compare (get_or ms i []) m ≡ Less) → (k < length ms → P.order.compare m (get_or ms k []) ≡ Less) → IsIncreasing P.order (insert ms k m)
   rise_insert [] zero m h l before after = tt
   rise_insert (n ∷ ms) zero m h l before after = (after (omega arith), h)
@@ -78,3 +71,10 @@ module _ {E : Type 0} (P : Presented E) where
   rise_insert (n ∷ (n' ∷ ms)) (suc zero) m h l before after = (before 0 (omega arith), (after (omega arith), h.1))
   rise_insert (n ∷ (n' ∷ ms)) (suc (suc k)) m h l before after =
       (h.0, rise_insert (n' ∷ ms) (suc k) m h.1 (omega arith) (λ i q. before (suc i) (omega arith)) (λ q. after (omega arith)))
+
+  -- increasing lists of which the one is below the other
+  pub rise_append : (ms ns : List Exponents) → IsIncreasing P.order ms → IsIncreasing P.order ns → ((m n : Exponents) → Contains ms m → Contains ns n → P.order.compare m n ≡ Less) → IsIncreasing P.order (ms ++ ns)
+  rise_append [] ns h k b = k
+  rise_append (m ∷ []) [] h k b = tt
+  rise_append (m ∷ []) (n ∷ ns) h k b = (b m n (contains_here m []) (contains_here n ns), k)
+  rise_append (m ∷ (m' ∷ ms)) ns h k b = (h.0, rise_append (m' ∷ ms) ns h.1 k (λ x y i j. b x y (contains_there m (m' ∷ ms) x i) j))

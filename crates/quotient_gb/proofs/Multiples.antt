@@ -1,27 +1,26 @@
 -- Least common multiples and cofactors.
-use Rattle.std.proofs.Common.{◌≡◌, ℕ, ◌+◌, ◌≤◌, sym, ◌∙◌, ap, subst, List, arith, ⊎_elim}
-use Rattle.monomial_order.specs.Monomial.{exponent, product, least_common_multiple as lcm, IsTrimmed, IsMonomial, Divides}
+use Rattle.std.proofs.Common.{◌≡◌, ℕ, ◌+◌, ◌≤◌, sym, ◌∙◌, ap, subst, arith, ⊎_elim}
+use Rattle.monomial_order.specs.Monomial.{exponent, product, least_common_multiple as lcm, IsTrimmed, IsMonomial, Divides, AreCoprime, Exponents}
 use Rattle.monomial_order.specs.MonomialOrder.{MonomialOrder, IsMonomialOrder}
 use Rattle.monomial_order.specs.laws.Monomial.{exponent-product, IsTrimmed-product, IsMonomial-product, product_assoc, product_comm, length-product, exponent-least_common_multiple as exponent-lcm, IsTrimmed-least_common_multiple as IsTrimmed-lcm, IsMonomial-least_common_multiple as IsMonomial-lcm}
 use Rattle.monomial_order.specs.laws.Cofactors.{cofactor, same_exponents}
-use Rattle.quotient_gb.specs.Waiting.{AreCoprime}
 
-pub product_divides : (k m : List ℕ) → Divides m (product k m)
+pub product_divides : (k m : Exponents) → Divides m (product k m)
 product_divides k m i = let e = exponent-product k m i in omega arith
 
 -- a product may be cancelled
-pub product_cancel : (a b m : List ℕ) → IsTrimmed a → IsTrimmed b → product a m ≡ product b m → a ≡ b
+pub product_cancel : (a b m : Exponents) → IsTrimmed a → IsTrimmed b → product a m ≡ product b m → a ≡ b
 product_cancel a b m ha hb e = same_exponents a b ha hb
     (λ i. let p = exponent-product a m i in let q = exponent-product b m i in let r : exponent (product a m) i ≡ exponent (product b m) i = ap (λ x. exponent x i) e in omega arith)
 
-pub divides_left : (k m : List ℕ) (N : ℕ) → IsMonomial N (product k m) → IsTrimmed k → IsMonomial N k
+pub divides_left : (k m : Exponents) (N : ℕ) → IsMonomial N (product k m) → IsTrimmed k → IsMonomial N k
 divides_left k m N h t = record { trimmed = t; within = let w = h.within in let l = length-product k m in omega arith }
 
 -- what two monomials have as a common multiple
-pub record IsCommon (N : ℕ) (a m b n : List ℕ) : Type 0 where
-  pub by : List ℕ
-  pub left : List ℕ
-  pub right : List ℕ
+pub record IsCommon (N : ℕ) (a m b n : Exponents) : Type 0 where
+  pub by : Exponents
+  pub left : Exponents
+  pub right : Exponents
   pub by_monomial : IsMonomial N by
   pub left_monomial : IsMonomial N left
   pub right_monomial : IsMonomial N right
@@ -31,7 +30,7 @@ pub record IsCommon (N : ℕ) (a m b n : List ℕ) : Type 0 where
   pub right_by : product by right ≡ b
   pub common : product by (lcm m n) ≡ product a m
 
-pub common : (N : ℕ) (a m b n : List ℕ) → IsMonomial N a → IsMonomial N m → IsMonomial N b → IsMonomial N n → product a m ≡ product b n → IsCommon N a m b n
+pub common : (N : ℕ) (a m b n : Exponents) → IsMonomial N a → IsMonomial N m → IsMonomial N b → IsMonomial N n → product a m ≡ product b n → IsCommon N a m b n
 common N a m b n ha hm hb hn e =
     let top : IsTrimmed (lcm m n) = IsTrimmed-lcm m n hm.trimmed hn.trimmed in
     let whole : IsTrimmed (product a m) = IsTrimmed-product a m ha.trimmed hm.trimmed in
@@ -60,7 +59,7 @@ common N a m b n ha hm hb hn e =
     }
 
 -- the least common multiple has at most the degrees together
-pub degree-lcm : (O : MonomialOrder) (L : IsMonomialOrder O) (N : ℕ) (m n : List ℕ) → IsMonomial N m → IsMonomial N n → O.degree (lcm m n) ≤ O.degree m + O.degree n
+pub degree-lcm : (O : MonomialOrder) (L : IsMonomialOrder O) (N : ℕ) (m n : Exponents) → IsMonomial N m → IsMonomial N n → O.degree (lcm m n) ≤ O.degree m + O.degree n
 degree-lcm O L N m n hm hn =
     let c = common N n m m n hn hm hm hn (product_comm n m) in
     let p = L.degree_product c.by (lcm m n) in
@@ -69,6 +68,6 @@ degree-lcm O L N m n hm hn =
     omega arith
 
 -- coprime monomials have their product as least common multiple
-pub lcm_coprime : (m n : List ℕ) → IsTrimmed m → IsTrimmed n → AreCoprime m n → lcm m n ≡ product m n
+pub lcm_coprime : (m n : Exponents) → IsTrimmed m → IsTrimmed n → AreCoprime m n → lcm m n ≡ product m n
 lcm_coprime m n hm hn h = same_exponents (lcm m n) (product m n) (IsTrimmed-lcm m n hm hn) (IsTrimmed-product m n hm hn)
     (λ i. let l = exponent-lcm m n i in let p = exponent-product m n i in ⊎_elim (λ z. omega arith) (λ z. omega arith) (h i))

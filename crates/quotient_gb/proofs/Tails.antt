@@ -1,15 +1,15 @@
 -- A member whose tail is reduced.
-use Rattle.std.proofs.Common.{◌≡◌, ◌≢◌, ℕ, ◌≤◌, sym, ◌∙◌, ap, subst, List, [], ◌∷◌, ◌++◌, ⊎_elim, arith}
+use Rattle.std.proofs.Common.{◌≡◌, refl, ◌≢◌, ℕ, ◌≤◌, sym, ◌∙◌, ap, subst, List, [], ◌∷◌, ◌++◌, ⊎_elim, arith}
+use Rattle.polynomials.specs.laws.Coefficients.{sum_nonzero, single_term, found_monomial, decreasing_leads, monic_some}
 use Rattle.std.specs.Prelude.{Contains, map}
 use Rattle.std.specs.declared.cmp.Ordering.TheVariants.{Less}
 use Rattle.word_field.specs.Field.{FieldOps, IsField}
 use Rattle.word_field.specs.laws.Field.{negate-plus}
 use Rattle.monomial_order.specs.declared.terms.Term.{Term}
-use Rattle.monomial_order.specs.Monomial.{IsMonomial, IsMultiple}
-use Rattle.monomial_order.specs.MonomialOrder.{MonomialOrder}
+use Rattle.monomial_order.specs.Monomial.{IsMultiple, Exponents}
 use Rattle.monomial_order.specs.laws.Comparing.{degree_falls, degree_one, one_below}
-use Rattle.monomial_order.specs.laws.Lists.{contains_none, contains_map}
-use Rattle.polynomials.specs.Polynomial.{Polynomial, coefficient, Same, minus, IsBelow, IsDecreasing, IsLead, IsHomogeneous, IsCanonical, AllAt, lead_monomial}
+use Rattle.monomial_order.specs.laws.Lists.{contains_none}
+use Rattle.polynomials.specs.Polynomial.{Polynomial, coefficient, Same, minus, IsDecreasing, IsLead, IsHomogeneous, lead_monomial}
 use Rattle.polynomials.specs.Subalgebra.{Presented, IsPresentation, IsGenerator, LeadsIdeal}
 use Rattle.polynomials.specs.laws.Ring.{coefficient-append}
 use Rattle.polynomials.specs.laws.Decreasing.{IsDecreasing_unique, IsLead_first, coefficient_first, IsDecreasing_IsPoly}
@@ -17,15 +17,20 @@ use Rattle.polynomials.specs.laws.Degrees.{decreasing_all}
 use Rattle.polynomials.specs.laws.Congruence.{coefficient-minus, congruent_sym, congruent_trans, congruent_member, member_congruent}
 use Rattle.polynomials.specs.laws.Ideal.{InIdeal_same}
 use Rattle.quotient_gb.specs.Combinations.{AtMost}
-use Rattle.quotient_gb.specs.Remainder.{IsRemainder}
+use Rattle.quotient_gb.specs.Remainder.{IsRemainderBy, IsCanonicalIn, IsRemainderIn}
 use Rattle.quotient_gb.specs.IdealBasis.{IsMonicMember, HasStandardTail, AreIdealLeads}
-use Rattle.quotient_gb.specs.declared.basis.Basis.{Basis}
-use Rattle.quotient_gb.specs.Growing.{HasReducedTail, Stands}
-use Rattle.quotient_gb.proofs.Basics.{sum_nonzero, single_term, found_monomial, falls_leads, monic_some, small_lead}
+use Rattle.quotient_gb.specs.DegreeStep.{HasReducedTail}
 use Rattle.quotient_gb.proofs.Combinations.{combines_inside}
 use Rattle.quotient_gb.proofs.Complete.{difference_below, generator_of}
 use Rattle.quotient_gb.proofs.Criterion.{criterion}
-use Rattle.quotient_gb.proofs.Growing.{has_divisor, member_leads}
+use Rattle.quotient_gb.proofs.Reducing.{below_all}
+use Rattle.quotient_gb.proofs.Places.{has_divisor}
+
+-- y has the lead of x and a reduced tail
+pub record HasReplacement {E : Type 0} (P : Presented E) (G : List (Polynomial E)) (x y : Polynomial E) : Type 0 where
+  pub member : IsMonicMember P y
+  pub lead : lead_monomial y ≡ lead_monomial x
+  pub tail : HasReducedTail P (map lead_monomial G) y
 
 module _ {E : Type 0} (K : FieldOps E) (F : IsField K) where
   -- (x - f) - r = x - (f + r)
@@ -37,13 +42,12 @@ module _ {E : Type 0} (K : FieldOps E) (F : IsField K) where
       (ap (K.plus (coefficient K x m)) (sym (ap K.negate (hm m ∙ coefficient-append K F f r m) ∙ negate-plus K F (coefficient K f m) (coefficient K r m))) ∙
       sym (coefficient-minus K F x member m))))
 
-  all_below : (O : MonomialOrder) (M : List ℕ) (r : Polynomial E) → AllAt (λ n. O.compare n M ≡ Less) r → IsBelow K O M r
-  all_below O M [] h = tt
-  all_below O M (t ∷ r) h = (h.0, all_below O M r h.1)
-
 module _ {E : Type 0} (P : Presented E) (H : IsPresentation P) where
-  -- no lead_monomial of the ideal has the degree 0
-  pub positive_leads : (m : List ℕ) → LeadsIdeal P m → P.order.degree m ≤ 0 → ⊥
+  pub member_leads : (r : Polynomial E) → IsMonicMember P r → LeadsIdeal P (lead_monomial r)
+  member_leads r h = record { member = r; poly = IsDecreasing_IsPoly P.field P.order r h.decreasing; inside = h.inside; leads = decreasing_leads P.field H.field P.order H.order r h.decreasing (monic_some P.field H.field P.order H.order r h.monic) }
+
+  -- no lead of the ideal has the degree 0
+  pub positive_leads : (m : Exponents) → LeadsIdeal P m → P.order.degree m ≤ 0 → ⊥
   positive_leads m h l =
       let d = criterion P H 0 [] (record {
         members = λ g k. absurd (contains_none g k);
@@ -57,7 +61,7 @@ module _ {E : Type 0} (P : Presented E) (H : IsPresentation P) where
   module _ (G : List (Polynomial E)) (members : (g : Polynomial E) → Contains G g → IsMonicMember P g)
       (x : Polynomial E) (hx : IsMonicMember P x) (t : Term E) (w : Polynomial E) (is : x ≡ t ∷ w)
       (tail rest member : Polynomial E) (f_tail : IsDecreasing P.field P.order tail) (f_rest : IsDecreasing P.field P.order rest) (f_member : IsDecreasing P.field P.order member)
-      (tail_is : Same P.field tail (minus P.field x (t ∷ []))) (rem : IsRemainder P.field P.order G (AtMost P.order (lead_monomial tail)) tail rest)
+      (tail_is : Same P.field tail (minus P.field x (t ∷ []))) (rem : IsRemainderBy P.field P.order G (AtMost P.order (lead_monomial tail)) tail rest)
       (member_is : Same P.field member ((t ∷ []) ++ rest)) where
     parts : IsDecreasing P.field P.order (t ∷ w)
     parts = subst (IsDecreasing P.field P.order) is hx.decreasing
@@ -65,20 +69,20 @@ module _ {E : Type 0} (P : Presented E) (H : IsPresentation P) where
     alone : IsDecreasing P.field P.order (t ∷ [])
     alone = (record { term = parts.0.term; nonzero = parts.0.nonzero; above = tt }, tt)
 
-    tail_below : (n : List ℕ) → coefficient P.field tail n ≢ P.field.zero → P.order.compare n t.at ≡ Less
+    tail_below : (n : Exponents) → coefficient P.field tail n ≢ P.field.zero → P.order.compare n t.at ≡ Less
     tail_below n k = difference_below P.field H.field P.order H.order x (t ∷ []) t.at (subst (λ y. IsLead P.field P.order y t.at) (sym is) (IsLead_first P.field H.field P.order H.order t w parts))
         (IsLead_first P.field H.field P.order H.order t [] alone)
         (ap (λ y. coefficient P.field y t.at) is ∙ (coefficient_first P.field H.field P.order H.order t w parts.0 ∙ sym (coefficient_first P.field H.field P.order H.order t [] alone.0))) n (λ z. k (tail_is n ∙ z))
 
-    -- the lead_monomial is not 1
+    -- the lead is not 1
     lead_some : t.at ≢ []
-    lead_some e = positive_leads (lead_monomial x) (member_leads P H x hx) (let z = degree_one P.order H.order in let q : P.order.degree (lead_monomial x) ≡ P.order.degree [] = ap P.order.degree (ap lead_monomial is ∙ e) in omega arith)
+    lead_some e = positive_leads (lead_monomial x) (member_leads x hx) (let z = degree_one P.order H.order in let q : P.order.degree (lead_monomial x) ≡ P.order.degree [] = ap P.order.degree (ap lead_monomial is ∙ e) in omega arith)
 
-    top_below : (q : Polynomial E) → IsDecreasing P.field P.order q → ((n : List ℕ) → coefficient P.field q n ≢ P.field.zero → P.order.compare n t.at ≡ Less) → P.order.compare (lead_monomial q) t.at ≡ Less
+    top_below : (q : Polynomial E) → IsDecreasing P.field P.order q → ((n : Exponents) → coefficient P.field q n ≢ P.field.zero → P.order.compare n t.at ≡ Less) → P.order.compare (lead_monomial q) t.at ≡ Less
     top_below [] f h = one_below P.order H.order t.at parts.0.term.monomial lead_some
     top_below (u ∷ q) f h = h u.at (IsLead_first P.field H.field P.order H.order u q f).nonzero
 
-    rest_below : (n : List ℕ) → coefficient P.field rest n ≢ P.field.zero → P.order.compare n t.at ≡ Less
+    rest_below : (n : Exponents) → coefficient P.field rest n ≢ P.field.zero → P.order.compare n t.at ≡ Less
     rest_below n k =
         let lt = top_below tail f_tail tail_below in
         ⊎_elim (λ e. subst (λ y. P.order.compare y t.at ≡ Less) (sym e) lt) (λ l. H.order.total.trans n (lead_monomial tail) t.at l lt) (rem.has n k)
@@ -88,7 +92,7 @@ module _ {E : Type 0} (P : Presented E) (H : IsPresentation P) where
       record {
         term = parts.0.term;
         nonzero = parts.0.nonzero;
-        above = all_below P.field H.field P.order t.at rest (decreasing_all P.field H.field P.order H.order (λ n. P.order.compare n t.at ≡ Less) rest f_rest rest_below);
+        above = below_all P.field H.field P.order H.order t.at rest (decreasing_all P.field H.field P.order H.order (λ n. P.order.compare n t.at ≡ Less) rest f_rest rest_below);
       },
       f_rest,
     )
@@ -112,42 +116,36 @@ module _ {E : Type 0} (P : Presented E) (H : IsPresentation P) where
           (congruent_member P.field H.field P.order.places P.ideal x hx.inside));
     }
 
-    pub reduced_tail : (ms : List (List ℕ)) → ms ≡ map lead_monomial G → HasReducedTail P ms member
+    pub reduced_tail : (ms : List Exponents) → ms ≡ map lead_monomial G → HasReducedTail P ms member
     reduced_tail ms e m k ne h =
         ⊎_elim (λ a. ne (sym (single_term P.field H.field t.at t.by m a) ∙ sym (ap lead_monomial member_form)))
         (λ b. rem.reduced m b (has_divisor G m (subst (λ ns. IsMultiple ns m) e h)))
         (sum_nonzero P.field H.field (coefficient P.field (t ∷ []) m) (coefficient P.field rest m) (λ z. k (member_is m ∙ (coefficient-append P.field H.field (t ∷ []) rest m ∙ z))))
 
   -- a reduced tail is standard
-  pub standard_tail : (d : ℕ) (ms : List (List ℕ)) → AreIdealLeads P d ms → (g : Polynomial E) → IsMonicMember P g → P.order.degree (lead_monomial g) ≤ d → HasReducedTail P ms g → HasStandardTail P g
+  pub standard_tail : (d : ℕ) (ms : List Exponents) → AreIdealLeads P d ms → (g : Polynomial E) → IsMonicMember P g → P.order.degree (lead_monomial g) ≤ d → HasReducedTail P ms g → HasStandardTail P g
   standard_tail d ms h g hg le r m k ne = record {
     monomial = found_monomial P.field H.field P.order H.order g (IsDecreasing_IsPoly P.field P.order g hg.decreasing) m k;
-    no_lead = λ l. r m k ne (h.divides m l (let e = degree_falls P.order H.order m (lead_monomial g) ((falls_leads P.field H.field P.order H.order g hg.decreasing some).greatest m k ne) in omega arith));
+    no_lead = λ l. r m k ne (h.divides m l (let e = degree_falls P.order H.order m (lead_monomial g) ((decreasing_leads P.field H.field P.order H.order g hg.decreasing some).greatest m k ne) in omega arith));
   }
     where
       some : g ≢ []
       some = monic_some P.field H.field P.order H.order g hg.monic
 
--- the first term of a kept list is kept
-pub front_kept : {E : Type 0} (K : FieldOps E) (O : MonomialOrder) (x : Polynomial E) (t : Term E) (w : Polynomial E) → x ≡ t ∷ w → IsCanonical K O x → IsCanonical K O (t ∷ [])
-front_kept K O x t w e h =
-    let k : IsCanonical K O (t ∷ w) = subst (IsCanonical K O) e h in
-    record { decreasing = (record { term = k.decreasing.0.term; nonzero = k.decreasing.0.nonzero; above = tt }, tt); small = (k.small.0, tt) }
+-- what replaces x: its first term and the remainder of its tail
+module _ {E : Type 0} (P : Presented E) (H : IsPresentation P) (G : List (Polynomial E)) (members : (g : Polynomial E) → Contains G g → IsMonicMember P g)
+    (x : Polynomial E) (hx : IsMonicMember P x) (t : Term E) (w : Polynomial E) (is : x ≡ t ∷ w) (front tail rest y : Polynomial E) (front_is : front ≡ t ∷ [])
+    (k_tail : IsCanonicalIn P tail) (tail_is : Same P.field tail (minus P.field x front)) (rem : IsRemainderIn P G tail rest)
+    (k_y : IsCanonicalIn P y) (y_is : Same P.field y (front ++ rest)) where
+  less : Same P.field tail (minus P.field x (t ∷ []))
+  less = subst (λ z. Same P.field tail (minus P.field x z)) front_is tail_is
 
-pub front_nonzero : {E : Type 0} (K : FieldOps E) (O : MonomialOrder) (x : Polynomial E) (t : Term E) (w : Polynomial E) → x ≡ t ∷ w → IsDecreasing K O x → t.by ≢ K.zero
-front_nonzero K O x t w e h = let k : IsDecreasing K O (t ∷ w) = subst (IsDecreasing K O) e h in k.0.nonzero
+  whole_is : Same P.field y ((t ∷ []) ++ rest)
+  whole_is = subst (λ z. Same P.field y (z ++ rest)) front_is y_is
 
-module _ {F E : Type 0} (P : Presented E) (H : IsPresentation P) (d : ℕ) (b : Basis F E) (s : Stands P d b) where
-  pub stands_degree : (x : Polynomial E) → Contains b.members.items x → P.order.degree (lead_monomial x) ≤ d
-  stands_degree x k = s.ideal.degrees (lead_monomial x) (subst (λ ms. Contains ms (lead_monomial x)) (sym s.leads) (contains_map lead_monomial b.members.items x k))
-
-  pub stands_kept : (x : Polynomial E) → Contains b.members.items x → IsCanonical P.field P.order x
-  stands_kept x k =
-      let m = s.members x k in
-      record { decreasing = m.decreasing; small = small_lead P.field H.field P.order H.order x m.decreasing (let l = stands_degree x k in let q = s.small in omega arith) }
-
-  pub stands_monomial : (n : List ℕ) → Contains b.leads.items n → IsMonomial P.order.places n
-  stands_monomial n k = let l = s.ideal.leads n k in found_monomial P.field H.field P.order H.order l.member l.poly n l.leads.nonzero
-
-  pub stands_small : (n : List ℕ) → Contains b.leads.items n → P.order.degree n ≤ 30000
-  stands_small n k = let l = s.ideal.degrees n k in let q = s.small in omega arith
+  pub tail_reduced : HasReplacement P G x y
+  tail_reduced = record {
+    member = reduced_member P H G members x hx t w is tail rest y k_tail.decreasing rem.canonical.decreasing k_y.decreasing less rem.remainder whole_is;
+    lead = member_lead P H G members x hx t w is tail rest y k_tail.decreasing rem.canonical.decreasing k_y.decreasing less rem.remainder whole_is;
+    tail = reduced_tail P H G members x hx t w is tail rest y k_tail.decreasing rem.canonical.decreasing k_y.decreasing less rem.remainder whole_is (map lead_monomial G) refl;
+  }

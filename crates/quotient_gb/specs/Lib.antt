@@ -1,7 +1,7 @@
 pub mod Combinations
-pub mod Waiting
+pub mod CriticalPairs
 pub mod IdealBasis
 pub mod Criterion
 pub mod Remainder
-pub mod Growing
 pub mod Quotient
+pub mod DegreeStep

@@ -2,10 +2,13 @@
 #![tactic(auto)]
 
 mod basis;
-mod division;
+mod critical_pair;
+mod degree_step;
 pub mod laws;
-mod meeting;
-pub mod quotient;
+mod quotient;
 mod remainder;
+mod s_polynomial;
 #[cfg(test)]
 mod tests;
+
+pub use quotient::Quotient;

@@ -1,99 +1,119 @@
-//! Reduction of a polynomial by a list of monic polynomials.
-ghost use Rattle.std.specs.Prelude.{◌≡◌, ◌≢◌, ℕ, ◌<◌, ◌⊎◌, List, ◌++◌, map, length, Contains, IfOk};
-ghost use Rattle.monomial_order.specs.declared.terms.Term.{Term};
-ghost use Rattle.monomial_order.specs.Monomial.{IsTrimmed, product};
-ghost use Rattle.polynomials.specs.Polynomial.{Polynomial, coefficient, Same, term_of, scaled, IsTerm, IsBelow, IsCanonical, lead_monomial};
-ghost use Rattle.quotient_gb.specs.Combinations.{AtMost};
-ghost use Rattle.quotient_gb.specs.Remainder.{IsRemainder};
+//! Reduction of a polynomial by monic members of the ideal.
+ghost use Rattle.std.specs.Prelude.{◌≢◌, ◌++◌, [], Contains, IfOk, IfSome, IsNone};
+ghost use Rattle.monomial_order.specs.Monomial.{Divides};
+ghost use Rattle.polynomials.specs.Polynomial.{lead_monomial};
+ghost use Rattle.poly_core.specs.Presentation.{presented};
+ghost use Rattle.polynomials.specs.Subalgebra.{IsPresentation};
+ghost use Rattle.quotient_gb.specs.Combinations.{HasLeadDivisor};
+ghost use Rattle.quotient_gb.specs.DegreeStep.{HasLeads};
+ghost use Rattle.quotient_gb.specs.Remainder.{IsCanonicalIn, IsReducerIn, AreReducersIn, IsLeadReduction, IsLeadSplit, IsRemainderIn};
 
-use crate::division::divisor;
+use crate::basis::Basis;
 use monomial_order::{Memory, Monomial, Order};
-use poly_core::Poly;
+use poly_core::{Poly, Presentation};
 use std::alloc::Global;
 use word_field::Field;
 
-/// What is left of p once the multiple of g by u has cancelled its lead.
-fn cancel<F: Field, O: Order>(
+/// What is left of a once a multiple of g has cancelled its lead.
+fn reduce_lead<F: Field, O: Order>(
     alloc: Global,
-    f: &F,
-    o: &O,
-    p: &Poly<F>,
-    u: &Monomial,
+    p: &Presentation<F, O>,
+    a: &Poly<F>,
     g: &Poly<F>,
 ) -> Result<Poly<F>, Memory>
-    requires p { IsCanonical (F.ops f.now) (O.order o.now) p.now }
-    requires some { 0 < length p.now }
-    requires g { IsCanonical (F.ops f.now) (O.order o.now) g.now }
-    requires monic { coefficient (F.ops f.now) g.now (lead_monomial g.now) ≡ (F.ops f.now).one }
-    requires trimmed { IsTrimmed u.now }
-    requires lead { product (lead_monomial g.now) u.now ≡ lead_monomial p.now }
-    ensures kept { IfOk result (IsCanonical (F.ops f.now) (O.order o.now)) }
-    ensures below { IfOk result (IsBelow (F.ops f.now) (O.order o.now) (lead_monomial p.now)) }
-    ensures sum { IfOk result (λ r. (c : F.Elem) × IsTerm (F.ops f.now) (O.order o.now).places (term_of u.now c) ×
-        Same (F.ops f.now) r (p.now ++ scaled (F.ops f.now) (term_of u.now c) g.now)) }
+    requires presentation { IsPresentation (presented F.ops O.order p.now) }
+    requires a { IsCanonicalIn (presented F.ops O.order p.now) a.now }
+    requires some { a.now ≢ [] }
+    requires g { IsReducerIn (presented F.ops O.order p.now) g.now }
+    requires divides { Divides (lead_monomial g.now) (lead_monomial a.now) }
+    ensures { IfOk result (IsLeadReduction (presented F.ops O.order p.now) a.now g.now) }
 {
-    let c = f.neg(p.terms()[0].by);
-    let part = Poly::times_term(alloc, f, o, g, c, u)?;
-    let sum = Poly::add(alloc, f, o, p, &part)?;
+    let Some(first) = a.lead() else {
+        unreachable!()
+    };
+    let Some(top) = g.lead() else { unreachable!() };
+    let Some(u) = first.at.quotient(alloc, &top.at)? else {
+        unreachable!()
+    };
+    let c = p.field.neg(first.by);
+    let part = Poly::times_term(alloc, &p.field, &p.order, g, c, &u)?;
+    let sum = Poly::add(alloc, &p.field, &p.order, a, &part)?;
     Ok(sum)
 }
 
-/// Moves the first term of p to what is done.
-fn move_first<F: Field, O: Order>(
+/// Moves the first term of a to what is done.
+fn split_off_lead<F: Field, O: Order>(
     alloc: Global,
-    f: &F,
-    o: &O,
-    p: &Poly<F>,
+    p: &Presentation<F, O>,
+    a: &Poly<F>,
     done: &Poly<F>,
 ) -> Result<(Poly<F>, Poly<F>), Memory>
-    requires p { IsCanonical (F.ops f.now) (O.order o.now) p.now }
-    requires some { 0 < length p.now }
-    requires done { IsCanonical (F.ops f.now) (O.order o.now) done.now }
-    ensures kept { IfOk result (λ (rest, more). IsCanonical (F.ops f.now) (O.order o.now) rest) }
-    ensures kept_more { IfOk result (λ (rest, more). IsCanonical (F.ops f.now) (O.order o.now) more) }
-    ensures below { IfOk result (λ (rest, more). IsBelow (F.ops f.now) (O.order o.now) (lead_monomial p.now) rest) }
-    ensures sum { IfOk result (λ (rest, more). Same (F.ops f.now) (rest ++ more) (p.now ++ done.now)) }
-    ensures monomials { IfOk result (λ (rest, more). (m : List ℕ) → coefficient (F.ops f.now) more m ≢ (F.ops f.now).zero →
-        (m ≡ lead_monomial p.now) ⊎ (coefficient (F.ops f.now) done.now m ≢ (F.ops f.now).zero)) }
+    requires presentation { IsPresentation (presented F.ops O.order p.now) }
+    requires a { IsCanonicalIn (presented F.ops O.order p.now) a.now }
+    requires some { a.now ≢ [] }
+    requires done { IsCanonicalIn (presented F.ops O.order p.now) done.now }
+    ensures { IfOk result (λ (rest, more). IsLeadSplit (presented F.ops O.order p.now) a.now done.now rest more) }
 {
-    let t = &p.terms()[0];
-    let minus = Poly::term(alloc, f, t.at.copy(alloc)?, f.neg(t.by))?;
-    let plus = Poly::term(alloc, f, t.at.copy(alloc)?, t.by)?;
-    let rest = Poly::add(alloc, f, o, p, &minus)?;
-    let more = Poly::add(alloc, f, o, done, &plus)?;
+    let Some(first) = a.lead() else {
+        unreachable!()
+    };
+    let minus = Poly::term(
+        alloc,
+        &p.field,
+        first.at.copy(alloc)?,
+        p.field.neg(first.by),
+    )?;
+    let plus = Poly::term(alloc, &p.field, first.at.copy(alloc)?, first.by)?;
+    let rest = Poly::add(alloc, &p.field, &p.order, a, &minus)?;
+    let more = Poly::add(alloc, &p.field, &p.order, done, &plus)?;
     Ok((rest, more))
 }
 
-/// What is left of p where no multiple of a lead remains.
+/// A member of one of the two lists whose lead divides m.
+fn find_reducer<'a, F: Field>(
+    before: &'a Basis<F>,
+    found: &'a Basis<F>,
+    m: &Monomial,
+) -> Option<&'a Poly<F>>
+    requires before { HasLeads before.now }
+    requires found { HasLeads found.now }
+    ensures member { IfSome result (λ g. Contains (before.now.members.items ++ found.now.members.items) g.now) }
+    ensures divides { IfSome result (λ g. Divides (lead_monomial g.now) m.now) }
+    ensures none { IsNone result → ¬ HasLeadDivisor (before.now.members.items ++ found.now.members.items) m.now }
+{
+    match before.reducer(m) {
+        Some(g) => Some(g),
+        None => found.reducer(m),
+    }
+}
+
+/// What is left of a when no multiple of a lead remains.
 pub(crate) fn remainder<F: Field, O: Order>(
     alloc: Global,
-    f: &F,
-    o: &O,
-    leads: &[Monomial],
-    members: &[Poly<F>],
-    p: &Poly<F>,
+    p: &Presentation<F, O>,
+    before: &Basis<F>,
+    found: &Basis<F>,
+    a: &Poly<F>,
 ) -> Result<Poly<F>, Memory>
-    requires p { IsCanonical (F.ops f.now) (O.order o.now) p.now }
-    requires leads { leads.now ≡ map lead_monomial members.now }
-    requires kept { (x : Polynomial F.Elem) → Contains members.now x → IsCanonical (F.ops f.now) (O.order o.now) x }
-    requires monic { (x : Polynomial F.Elem) → Contains members.now x → coefficient (F.ops f.now) x (lead_monomial x) ≡ (F.ops f.now).one }
-    ensures kept { IfOk result (IsCanonical (F.ops f.now) (O.order o.now)) }
-    ensures remainder { IfOk result (IsRemainder (F.ops f.now) (O.order o.now) members.now (AtMost (O.order o.now) (lead_monomial p.now)) p.now) }
+    requires presentation { IsPresentation (presented F.ops O.order p.now) }
+    requires a { IsCanonicalIn (presented F.ops O.order p.now) a.now }
+    requires before { HasLeads before.now }
+    requires found { HasLeads found.now }
+    requires reducers { AreReducersIn (presented F.ops O.order p.now)
+        (before.now.members.items ++ found.now.members.items) }
+    ensures { IfOk result (IsRemainderIn (presented F.ops O.order p.now)
+        (before.now.members.items ++ found.now.members.items) a.now) }
 {
-    let mut work = p.copy(alloc)?;
+    let mut work = a.copy(alloc)?;
     let mut done = Poly::zero(alloc);
-    'reduce: while work.terms().len() > 0 {
-        let first = &work.terms()[0].at;
-        match divisor(leads, first) {
-            Some(i) => {
-                let Some(u) = first.quotient(alloc, &leads[i])? else {
-                    unreachable!()
-                };
-                let next = cancel(alloc, f, o, &work, &u, &members[i])?;
+    'reduce: while let Some(first) = work.lead() {
+        match find_reducer(before, found, &first.at) {
+            Some(g) => {
+                let next = reduce_lead(alloc, p, &work, g)?;
                 work = next;
             }
             None => {
-                let (rest, more) = move_first(alloc, f, o, &work, &done)?;
+                let (rest, more) = split_off_lead(alloc, p, &work, &done)?;
                 work = rest;
                 done = more;
             }

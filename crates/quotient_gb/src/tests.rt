@@ -8,9 +8,7 @@ ghost use Rattle.polynomials.specs.Subalgebra.{IsPresentation};
 
 use crate::quotient::Quotient;
 use monomial_order::{Memory, Monomial, Order, Row, Tie, WeightOrder, WordOrder};
-use poly_core::Names;
-use poly_core::Poly;
-use poly_core::Presentation;
+use poly_core::{Names, Poly, Presentation};
 use std::alloc::Global;
 use std::process::Abort;
 use std::test::Fail;
@@ -86,7 +84,8 @@ fn presentation(
     ideal: &[Terms],
 ) -> Result<Presentation<WordField, WeightOrder>, Fail>
     ensures presentation { IfOk result (λ p. IsPresentation (presented (λ f. residues f.modulus) weight_order_of p)) }
-    ensures ideal { IfOk result (λ p. AreCanonicalGenerators (residues p.field.modulus) (weight_order_of p.order) p.ideal.items) }
+    ensures ideal { IfOk result (λ p.
+        AreCanonicalGenerators (residues p.field.modulus) (weight_order_of p.order) p.ideal.items) }
 {
     let field = WordField::new(size).ok_or("a listed size")?;
     let mut generators = Vec::new(alloc);
@@ -115,7 +114,8 @@ fn has_leads(
     leads: &[Exponents],
 ) -> Result<bool, Fail>
     requires presentation { IsPresentation (presented (λ f. residues f.modulus) weight_order_of p.now) }
-    requires ideal { AreCanonicalGenerators (residues p.now.field.modulus) (weight_order_of p.now.order) p.now.ideal.items }
+    requires ideal { AreCanonicalGenerators (residues p.now.field.modulus) (weight_order_of p.now.order)
+        p.now.ideal.items }
     requires degree { degree ≤ 30000 }
 {
     let mut quotient = Quotient::new(alloc, p)?;
@@ -319,7 +319,7 @@ fn small_polynomial(
     terms: &[(u32, Exponents)],
     d: u32,
 ) -> Result<Poly<WordField>, Fail>
-    ensures kept { IfOk result (IsCanonical (residues f.now.modulus) (weight_order_of o.now)) }
+    ensures canonical { IfOk result (IsCanonical (residues f.now.modulus) (weight_order_of o.now)) }
     ensures degree { IfOk result (λ r. degree_of (weight_order_of o.now) r ≤ d) }
 {
     let r = polynomial(rt, alloc, f, o, terms)?;

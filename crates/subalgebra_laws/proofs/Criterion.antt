@@ -1,144 +1,264 @@
--- The criterion to a degree.
-use Rattle.std.proofs.Common.{◌≡◌, ◌≢◌, ℕ, suc, ◌≤◌, refl, sym, ◌∙◌, ap, subst, List, [], ◌∷◌, ◌⊎◌, inl, inr, ⊎_elim, length, take, arith, Bool, true, false, cond}
-use Rattle.std.specs.Prelude.{map, Contains, sum, nat_eq}
-use Rattle.std.proofs.lemmas.Bool.{eq-eqb}
+-- The criterion to a degree: generators and minimal reducible s-words that are combinations make each member one.
+use Rattle.std.proofs.Common.{◌≡◌, ◌≢◌, ℕ, zero, suc, ◌+◌, ◌*◌, ◌≤◌, refl, sym, ◌∙◌, ap, subst, List, [], ◌∷◌, inl, inr, ⊎_elim, length, arith, Bool, true, false}
+use Rattle.std.specs.Prelude.{map, Contains, nat_eq}
+use Rattle.std.proofs.Math.Nat.{mul-le-mul_left}
+use Rattle.std.proofs.lemmas.Bool.{eqb-true, eq-eqb, true≢false}
+use Rattle.std.specs.declared.cmp.Ordering.TheVariants.{Less}
 use Rattle.monomial_order.specs.declared.terms.Term.{Term}
-use Rattle.monomial_order.specs.Monomial.{product}
+use Rattle.monomial_order.specs.Monomial.{product, weighted_degree, IsTrimmed, Divides}
+use Rattle.monomial_order.specs.laws.Monomial.{product_comm, IsMonomial-product}
 use Rattle.monomial_order.specs.laws.Lists.{contains_here, contains_there}
-use Rattle.monomial_order.specs.laws.Cofactors.{cofactor, length-product_right}
-use Rattle.monomial_order.specs.laws.Comparing.{three_ways}
-use Rattle.monomial_order.specs.laws.Rank.{IsWithin}
-use Rattle.word_laws.specs.Words.{word_order_of, image}
-use Rattle.polynomials.specs.Polynomial.{Polynomial, coefficient, negated, minus, component, IsPoly, IsLead, IsHomogeneous, lead_monomial}
-use Rattle.polynomials.specs.Value.{value, monomial_value}
-use Rattle.polynomials.specs.Subalgebra.{Presented, IsPresentation, AreGenerators, InSubalgebra, LeadsIdeal, LeadsSubalgebra, IsGenerated}
+use Rattle.monomial_order.specs.laws.Cofactors.{cofactor, length-product_right, Divides-product}
+use Rattle.monomial_order.specs.laws.Comparing.{three_ways, degree_falls, degree_one, divisor_degree}
+use Rattle.monomial_order.specs.laws.Rank.{IsWithin, below_induction}
+use Rattle.word_laws.specs.Words.{image_of, IsWord, IsSWord}
+use Rattle.word_laws.specs.laws.Words.{image_times, s_divisor}
+use Rattle.polynomials.specs.Polynomial.{Polynomial, coefficient, term_of, times, scaled, negated, minus, constant, component, AllAt, IsTerm, IsPoly, lead_monomial}
+use Rattle.polynomials.specs.Ideal.{InIdeal, Congruent}
+use Rattle.polynomials.specs.Value.{power, value, monomial_value, term_value}
+use Rattle.polynomials.specs.Subalgebra.{Presented, IsPresentation, AreGenerators, IsGenerated}
+use Rattle.polynomials.specs.laws.Same.{times_same_left}
+use Rattle.polynomials.specs.laws.Value.{value-scaled, value-times, value-constant, one_times, monomial_value-product}
 use Rattle.polynomials.specs.laws.Decreasing.{IsDecreasing_IsPoly}
-use Rattle.polynomials.specs.laws.Congruence.{congruent_same}
-use Rattle.polynomials.specs.laws.Degrees.{coefficient-component, AreGraded, IsGraded}
+use Rattle.polynomials.specs.laws.Ideal.{IsPoly-times, IsPoly-scaled}
+use Rattle.polynomials.specs.laws.Congruence.{congruent_same, congruent_trans, congruent_times_left, congruent_times}
+use Rattle.polynomials.specs.laws.Membership.{IsPoly-power, IsPoly-monomial_value}
+use Rattle.polynomials.specs.laws.Degrees.{component-append, IsGraded, graded_component, graded_no_component, ideal_component, AreGraded, polys_graded, graded_value, decreasing_all}
 use Rattle.polynomials.specs.laws.NormalForm.{IsPoly-component}
-use Rattle.polynomials.specs.laws.Membership.{IsPoly-value}
-use Rattle.subalgebra_laws.specs.Words.{letters, letter_values, IsReducibleWord, IsCombination}
+use Rattle.polynomials.specs.laws.Components.{sub_component}
+use Rattle.subalgebra_laws.specs.Words.{letters, letter_values, word_value, IsReducibleWord, IsTopWord, IsCombination}
 use Rattle.subalgebra_laws.specs.Bases.{AreMonicElements, IsDecidedTo, HasCombinationsTo}
-use Rattle.subalgebra_laws.proofs.Letters.{letter_images, letter_degrees, HasNoX, image_is, no_x_sum, letter_laws}
-use Rattle.subalgebra_laws.proofs.Terms.{nothing_at, minus_poly, lead_sum, lead_sum_right, lead_negated, below_lead}
-use Rattle.subalgebra_laws.proofs.Tops.{IsIrreducible, IsTop, top}
-use Rattle.subalgebra_laws.proofs.Normal.{HasNormal, IsFactored, leads_ideal, normal_zero, normal_congruent, falls_irreducible, polys}
-use Rattle.subalgebra_laws.proofs.Members.{AreNormal, component_normal, members_normal}
-use Rattle.subalgebra_laws.proofs.Combinations.{combination_normal, normal_combination}
+use Rattle.subalgebra_laws.specs.Statements.{CombinationsHaveGeneratedLeads, MembersAreCombinations, LeadsAreGenerated}
+use Rattle.polynomials.specs.laws.Coefficients.{nothing_at, constant_poly, minus_poly, lead_sum}
+use Rattle.subalgebra_laws.proofs.Nonzero.{AllAt-map, AllAt-scaled, AllAt-times, component-minus, multiple_nonzero, lead_negated, below_lead, component_leads}
+use Rattle.subalgebra_laws.proofs.Letters.{order_over, s_one, s_product, word_monic, letter_laws, are_letters, word_degree}
+use Rattle.subalgebra_laws.proofs.Combinations.{have_top_words, top_leads, top_least, sum_poly, value_poly, combination_congruent, combination_same, combination_zero, combination_plus, combination_multiple, combination_word, combination_linear, sum_low, IsBefore, words_before}
 use Rattle.subalgebra_laws.proofs.Decisions.{words_decided, minimal_divisor}
-use Rattle.subalgebra_laws.proofs.Generated.{generated_image_of}
+use Rattle.subalgebra_laws.proofs.Generated.{generated_images}
 
 module _ {E : Type 0} (P : Presented E) (H : IsPresentation P) (S : List (Polynomial E)) (HS : AreMonicElements P S) where
-  -- a standard lead_monomial of a combination is the image of one of its words, so it is generated
-  pub lead_generated : (a : Polynomial E) (m : List ℕ) → IsPoly P.field P.order.places a → HasNormal P H S HS a → IsLead P.field P.order a m → (LeadsIdeal P m → ⊥) → IsGenerated (map lead_monomial S) m
-  lead_generated a m ha f la st =
-      ⊎_elim none (λ r. by_top r.0 r.1) (top P H S HS f.form f.decreasing (falls_irreducible P H S HS f.form f.decreasing f.irreducible))
+  open P use {field as K, order as O}
+  open H use {field as F, order as L}
+
+  -- a standard lead of a combination is the image of one of its words, so it is generated
+  pub lead_generated : CombinationsHaveGeneratedLeads P S
+  lead_generated a m ha f la st = ⊎_elim none (λ r. by_top r.0 r.1) (have_top_words P H S HS f.sum f.irreducible)
     where
-      value_poly : IsPoly P.field P.order.places (value P.field f.form (letter_values P S))
-      value_poly = IsPoly-value P.field H.field P.order.places (word_order_of (letters P S)).places f.form (letter_values P S) (IsDecreasing_IsPoly P.field (word_order_of (letters P S)) f.form f.decreasing) (polys P H S HS)
+      only_lead : ((n : List ℕ) → coefficient K (negated K (value K f.sum (letter_values P S))) n ≢ K.zero → O.compare n m ≡ Less) → ⊥
+      only_lead below = st.no_lead (record {
+        member = minus K a (value K f.sum (letter_values P S));
+        poly = minus_poly K F O.places a (value K f.sum (letter_values P S)) ha (sum_poly P H S HS f.sum f.irreducible);
+        inside = f.equal;
+        leads = lead_sum K F O L a (negated K (value K f.sum (letter_values P S))) m la below;
+      })
 
-      leads_out : (n : List ℕ) → IsLead P.field P.order (minus P.field a (value P.field f.form (letter_values P S))) n → LeadsIdeal P n
-      leads_out n l = leads_ideal P H S HS (minus P.field a (value P.field f.form (letter_values P S))) n (minus_poly P.field H.field P.order.places a (value P.field f.form (letter_values P S)) ha value_poly) f.congruent l
+      none : f.sum ≡ [] → IsGenerated (map lead_monomial S) m
+      none e = absurd (only_lead (λ n k. absurd (k (ap (λ x. coefficient K (negated K (value K x (letter_values P S))) n) e ∙ sym (nothing_at K n)))))
 
-      none : f.form ≡ [] → IsGenerated (map lead_monomial S) m
-      none e = absurd (st (leads_out m (lead_sum P.field H.field P.order H.order a (negated P.field (value P.field f.form (letter_values P S))) m la
-          (λ n k. absurd (k (ap (λ x. coefficient P.field (negated P.field (value P.field x (letter_values P S))) n) e ∙ sym (nothing_at P.field H.field n)))))))
-
-      by_top : (w : List ℕ) → IsTop P H S HS f.form w → IsGenerated (map lead_monomial S) m
-      by_top w T =
-          let lv = lead_negated P.field H.field P.order H.order (value P.field f.form (letter_values P S)) (image w (letter_images P S)) T.leads in
-          ⊎_elim
-          (λ lt. absurd (T.irreducible.irreducible (inl (subst (LeadsIdeal P) (sym (image_is P S w)) (leads_out (image w (letter_images P S))
-          (lead_sum_right P.field H.field P.order H.order a (negated P.field (value P.field f.form (letter_values P S))) (image w (letter_images P S)) lv
-          (below_lead P.field H.field P.order H.order a m (image w (letter_images P S)) la lt)))))))
-          (λ r. ⊎_elim (λ same. subst (IsGenerated (map lead_monomial S)) (sym same) (generated_image_of P H S HS w (f.irreducible w T.stands).1))
-          (λ gt. absurd (st (leads_out m (lead_sum P.field H.field P.order H.order a (negated P.field (value P.field f.form (letter_values P S))) m la
-          (below_lead P.field H.field P.order H.order (negated P.field (value P.field f.form (letter_values P S))) (image w (letter_images P S)) m lv gt)))))
-          r)
-          (three_ways P.order H.order m (image w (letter_images P S)))
+      by_top : (w : List ℕ) → IsTopWord P S f.sum w → IsGenerated (map lead_monomial S) m
+      by_top w t =
+          ⊎_elim (λ lt. absurd (top_least P H S HS f.sum w f.irreducible t a m ha f.equal la lt))
+          (λ r. ⊎_elim (λ same. generated_images P H S HS m w (f.irreducible.words w t.nonzero) (sym same))
+          (λ gt. absurd (only_lead (below_lead K F O L (negated K (value K f.sum (letter_values P S))) (image_of (letters P S) w) m
+          (lead_negated K F O L (value K f.sum (letter_values P S)) (image_of (letters P S) w) (top_leads P H S HS f.sum w f.irreducible t).0) gt))) r)
+          (three_ways O L m (image_of (letters P S) w))
 
   module _ (c : ℕ) (dec : IsDecidedTo P c) (comb : HasCombinationsTo P c S) where
-    -- a word is irreducible, or a minimal reducible word divides it
-    reduce : (w : List ℕ) → IsWithin (word_order_of (letters P S)) (letter_laws P H S HS) c w → HasNoX P S w → IsIrreducible P H S HS w ⊎ IsFactored P H S HS w
-    reduce w hw gw = ⊎_elim factored (λ n. inl (record { word = hw.monomial; irreducible = n })) (words_decided P H S HS c dec w hw.monomial hw.degree)
+    -- a product of the cofactor with a word before the factor comes before the whole word
+    module _ (w u v : List ℕ) (whole : product u v ≡ w) (hw : IsWithin (order_over P S) (letter_laws P H S HS) c w) (hu : IsWord (letters P S) u) (hv : IsWord (letters P S) v) where
+      before_within : (x : List ℕ) → IsWord (letters P S) x → IsBefore P H S HS x u → IsWithin (order_over P S) (letter_laws P H S HS) c (product v x)
+      before_within x hx b = record {
+        monomial = IsMonomial-product (order_over P S).places v x hv hx;
+        degree =
+            let dx : O.degree (image_of (letters P S) x) ≤ O.degree (image_of (letters P S) u) = ⊎_elim (λ lt. degree_falls O L (image_of (letters P S) x) (image_of (letters P S) u) lt) (λ s. let e : O.degree (image_of (letters P S) x) ≡ O.degree (image_of (letters P S) u) = ap O.degree s.0 in omega arith) b in
+            let gx = word_degree P H S HS x in
+            let gu = word_degree P H S HS u in
+            let p1 = (letter_laws P H S HS).degree_product v x in
+            let p2 = (letter_laws P H S HS).degree_product u v in
+            let p3 : (order_over P S).degree (product u v) ≡ (order_over P S).degree w = ap (order_over P S).degree whole in
+            let d = hw.degree in
+            omega arith;
+      }
+
+      before_product : (x : List ℕ) → IsWord (letters P S) x → IsBefore P H S HS x u → IsBefore P H S HS (product v x) w
+      before_product x hx b =
+          let times_v = image_times (letters P S) (are_letters P H S HS) v in
+          let turned : product v u ≡ w = product_comm v u ∙ whole in
+          let trimmed : (y : List ℕ) → IsTrimmed (image_of (letters P S) y) = λ y. (word_monic P H S HS y).monomial.trimmed in
+          ⊎_elim
+          (λ lt. inl (ap (λ y. O.compare y (image_of (letters P S) w)) (times_v x) ∙ (ap (O.compare (product (image_of (letters P S) v) (image_of (letters P S) x))) (ap (image_of (letters P S)) (sym turned) ∙ times_v u) ∙ (L.kept (image_of (letters P S) v) (image_of (letters P S) x) (image_of (letters P S) u) (trimmed v) (trimmed x) (trimmed u) ∙ lt))))
+          (λ s. inr (
+            times_v x ∙ (ap (product (image_of (letters P S) v)) s.0 ∙ (sym (times_v u) ∙ ap (image_of (letters P S)) turned)),
+            ap ((order_over P S).compare (product v x)) (sym turned) ∙ ((letter_laws P H S HS).kept v x u hv.trimmed hx.trimmed hu.trimmed ∙ s.1),
+          ))
+          b
+
+    -- w is a combination, if all words before it are: it is irreducible, or a minimal reducible word divides it
+    word_step : (w : List ℕ) → IsWithin (order_over P S) (letter_laws P H S HS) c w → IsSWord (letters P S) w →
+        ((x : List ℕ) → IsWithin (order_over P S) (letter_laws P H S HS) c x → IsSWord (letters P S) x → IsBefore P H S HS x w → IsCombination P S (word_value P S x)) → IsCombination P S (word_value P S w)
+    word_step w hw sw ih = ⊎_elim by_factor (λ n. combination_word P H S HS w sw n) (words_decided P H S HS c dec w hw.monomial hw.degree)
       where
-        factored : IsReducibleWord P S w → IsIrreducible P H S HS w ⊎ IsFactored P H S HS w
-        factored red =
+        by_factor : IsReducibleWord P S w → IsCombination P S (word_value P S w)
+        by_factor red =
             let m = minimal_divisor P H S HS c dec w hw.monomial hw.degree red in
             let k = cofactor m.0 w m.1.word.trimmed hw.monomial.trimmed m.2 in
-            let s : sum (take (length (letter_degrees P S)) (product m.0 k.0)) ≡ 0 = ap (λ x. sum (take (length (letter_degrees P S)) x)) k.2 ∙ gw in
-            let t = no_x_sum P S m.0 k.0 in
-            let d = (letter_laws P H S HS).degree_product m.0 k.0 in
-            let e : (word_order_of (letters P S)).degree (product m.0 k.0) ≡ (word_order_of (letters P S)).degree w = ap (word_order_of (letters P S)).degree k.2 in
-            let hd = hw.degree in
+            let su = s_divisor (letters P S) (are_letters P H S HS) m.0 w m.1.word sw m.2 in
+            let du = divisor_degree (order_over P S) (letter_laws P H S HS) m.0 w m.1.word.trimmed hw.monomial.trimmed m.2 in
+            let dw = hw.degree in
             let long = length-product_right m.0 k.0 in
-            let whole : length (product m.0 k.0) ≡ length w = ap length k.2 in
+            let same : length (product m.0 k.0) ≡ length w = ap length k.2 in
             let most = hw.monomial.within in
-            inr (record {
-              factor = m.0;
-              cofactor = k.0;
-              whole = k.2;
-              factor_word = m.1.word;
-              cofactor_word = record { trimmed = k.1; within = omega arith };
-              cofactor_good = omega arith;
-              reducible = m.1.reducible;
-              normal = combination_normal P H S HS (monomial_value P.field m.0 (letter_values P S)) (comb.words m.0 (m.1, (m.1.word, omega arith)) (omega arith));
-            })
+            let turned : product k.0 m.0 ≡ w = product_comm k.0 m.0 ∙ k.2 in
+            let sv : IsSWord (letters P S) k.0 =
+            s_divisor (letters P S) (are_letters P H S HS) k.0 w (record { trimmed = k.1; within = omega arith }) sw (subst (Divides k.0) turned (Divides-product k.0 m.0)) in
+            let f = comb.words m.0 (m.1, su) (omega arith) in
+            let moved = scaled K (term_of k.0 K.one) f.sum in
+            combination_congruent P H S HS (value K moved (letter_values P S)) (word_value P S w)
+            (congruent_trans K F O.places P.ideal (word_value P S w) (times K (word_value P S k.0) (word_value P S m.0)) (value K moved (letter_values P S))
+            (congruent_same K F O.places P.ideal (word_value P S w) (times K (word_value P S k.0) (word_value P S m.0))
+            (λ i. ap (λ x. coefficient K (word_value P S x) i) (sym turned) ∙ monomial_value-product K F k.0 m.0 (letter_values P S) i))
+            (congruent_trans K F O.places P.ideal (times K (word_value P S k.0) (word_value P S m.0)) (times K (word_value P S k.0) (value K f.sum (letter_values P S))) (value K moved (letter_values P S))
+            (congruent_times_left K F O.places P.ideal (word_value P S k.0) (word_value P S m.0) (value K f.sum (letter_values P S)) (word_monic P H S HS k.0).poly f.equal)
+            (congruent_same K F O.places P.ideal (times K (word_value P S k.0) (value K f.sum (letter_values P S))) (value K moved (letter_values P S))
+            (λ i. sym (value-scaled K F (term_of k.0 K.one) f.sum (letter_values P S) i ∙
+            times_same_left K F (term_value K (letter_values P S) (term_of k.0 K.one)) (word_value P S k.0) (value K f.sum (letter_values P S)) (one_times K F (word_value P S k.0)) i)))))
+            (combination_linear P H S HS (order_over P S).places (letter_values P S) moved
+            (IsPoly-scaled K F (order_over P S).places (term_of k.0 K.one) f.sum (record { monomial = sv.0; value = F.one_value }) (IsDecreasing_IsPoly K (order_over P S) f.sum f.irreducible.decreasing))
+            (AllAt-scaled K (λ x. IsCombination P S (word_value P S x)) (term_of k.0 K.one) f.sum
+            (decreasing_all K F (order_over P S) (letter_laws P H S HS) (λ x. IsCombination P S (word_value P S (product k.0 x))) f.sum f.irreducible.decreasing
+            (λ x n.
+            let hx = f.irreducible.words x n in
+            let b = words_before P H S HS m.0 m.1.word m.1.reducible f x n in
+            ih (product k.0 x) (before_within w m.0 k.0 k.2 hw m.1.word sv.0 x hx.0 b) (s_product P S k.0 x sv hx) (before_product w m.0 k.0 k.2 hw m.1.word sv.0 x hx.0 b)))))
 
-    -- a degree for each generator, 1 for a zero one
-    generator_degrees : (gs : List (Polynomial E)) → AreGenerators P.field P.order gs → List ℕ
-    generator_degrees [] h = []
-    generator_degrees (g ∷ gs) h = ⊎_elim (λ z. 1) (λ k. k.0) h.0.homogeneous ∷ generator_degrees gs h.1
-
-    degrees_length : (gs : List (Polynomial E)) (h : AreGenerators P.field P.order gs) → length (generator_degrees gs h) ≡ length gs
-    unfolding generator_degrees
-    degrees_length [] h = refl
-    degrees_length (g ∷ gs) h = ap suc (degrees_length gs h.1)
-
-    degrees_graded : (gs : List (Polynomial E)) (h : AreGenerators P.field P.order gs) → AreGraded P.field H.field P.order H.order (generator_degrees gs h) gs
-    unfolding generator_degrees
-    degrees_graded [] h = tt
-    degrees_graded (g ∷ gs) h = (h.0.poly, by_kind h.0.homogeneous, degrees_graded gs h.1)
+    -- the value of each s-word of degree at most c is a combination
+    word_combination : (w : List ℕ) → IsWithin (order_over P S) (letter_laws P H S HS) c w → IsSWord (letters P S) w → IsCombination P S (word_value P S w)
+    word_combination w hw sw =
+        below_induction O L c (λ m. (x : List ℕ) → IsWithin (order_over P S) (letter_laws P H S HS) c x → IsSWord (letters P S) x → (image_of (letters P S)) x ≡ m → IsCombination P S (word_value P S x))
+        (λ m hm outer x hx sx ex.
+        below_induction (order_over P S) (letter_laws P H S HS) c (λ y. IsSWord (letters P S) y → (image_of (letters P S)) y ≡ m → IsCombination P S (word_value P S y))
+        (λ y hy inner sy ey. word_step y hy sy (λ z hz sz b.
+        ⊎_elim (λ lt. outer (image_of (letters P S) z) (image_within z hz) (subst (λ k. O.compare (image_of (letters P S) z) k ≡ Less) ey lt) z hz sz refl) (λ s. inner z hz s.1 sz (s.0 ∙ ey)) b))
+        x hx sx ex)
+        (image_of (letters P S) w) (image_within w hw) w hw sw refl
       where
-        by_kind : (x : ((m : List ℕ) → coefficient P.field g m ≡ P.field.zero) ⊎ ((d : ℕ) × (1 ≤ d) × IsHomogeneous P.field P.order d g)) →
-            IsGraded P.field H.field P.order H.order (⊎_elim (λ z. 1) (λ k. k.0) x) g
-        by_kind (inl z) = λ m n. absurd (n (z m))
-        by_kind (inr k) = k.2.each
+        image_within : (x : List ℕ) → IsWithin (order_over P S) (letter_laws P H S HS) c x → IsWithin O L c (image_of (letters P S) x)
+        image_within x hx = record { monomial = (word_monic P H S HS x).monomial; degree = let g = word_degree P H S HS x in let d = hx.degree in omega arith }
 
-    degrees_normal : (gs : List (Polynomial E)) (h : AreGenerators P.field P.order gs) → ((g : Polynomial E) → Contains gs g → Contains P.generators g) → AreNormal P H S HS c reduce (generator_degrees gs h) gs
-    unfolding generator_degrees
-    degrees_normal [] h all = tt
-    degrees_normal (g ∷ gs) h all = (by_kind h.0.homogeneous, degrees_normal gs h.1 (λ x k. all x (contains_there g gs x k)))
+    -- a equals, modulo the ideal, the value of a sum of s-words of degree at most D
+    abbrev IsLow : ℕ → List ℕ → Type 0
+    IsLow D w = IsSWord (letters P S) w × ((order_over P S).degree w ≤ D)
+
+    record IsReached (D : ℕ) (a : Polynomial E) : Type 0 where
+      form : Polynomial E
+      poly : IsPoly K (order_over P S).places form
+      words : AllAt (IsLow D) form
+      congruent : Congruent K O.places P.ideal a (value K form (letter_values P S))
+
+    reached_one : IsReached 0 (constant K K.one)
+    reached_one = record {
+      form = constant K K.one;
+      poly = constant_poly K F (order_over P S).places K.one F.one_value;
+      words = ((s_one P S, (let d = degree_one (order_over P S) (letter_laws P H S HS) in omega arith)), tt);
+      congruent = congruent_same K F O.places P.ideal (constant K K.one) (value K (constant K K.one) (letter_values P S)) (λ m. sym (value-constant K F K.one (letter_values P S) m));
+    }
+
+    reached_times : (D G : ℕ) (a b : Polynomial E) → IsPoly K O.places a → IsReached D a → IsReached G b → IsReached (D + G) (times K a b)
+    reached_times D G a b ha h k = record {
+      form = times K h.form k.form;
+      poly = IsPoly-times K F (order_over P S).places h.form k.form h.poly k.poly;
+      words = AllAt-times K (IsLow D) (IsLow G) (IsLow (D + G))
+          (λ u v hu hv. (s_product P S u v hu.0 hv.0, (let p = (letter_laws P H S HS).degree_product u v in let x = hu.1 in let y = hv.1 in omega arith))) h.form k.form h.words k.words;
+      congruent = congruent_trans K F O.places P.ideal (times K a b) (times K (value K h.form (letter_values P S)) (value K k.form (letter_values P S))) (value K (times K h.form k.form) (letter_values P S))
+          (congruent_times K F O.places P.ideal a (value K h.form (letter_values P S)) b (value K k.form (letter_values P S)) ha (value_poly P H S HS k.form k.poly) h.congruent k.congruent)
+          (congruent_same K F O.places P.ideal (times K (value K h.form (letter_values P S)) (value K k.form (letter_values P S))) (value K (times K h.form k.form) (letter_values P S)) (λ m. sym (value-times K F h.form k.form (letter_values P S) m)));
+    }
+
+    reached_power : (d : ℕ) (f : Polynomial E) (e : ℕ) → IsPoly K O.places f → (1 ≤ e → IsReached d f) → IsReached (d * e) (power K f e)
+    reached_power d f zero hf h = subst (λ x. IsReached x (constant K K.one)) (let z : 0 ≡ d * 0 = omega arith in z) reached_one
+    reached_power d f (suc e) hf h =
+        subst (λ x. IsReached x (times K f (power K f e))) (let z : d + d * e ≡ d * suc e = omega arith in z)
+        (reached_times d (d * e) f (power K f e) hf (h (omega arith)) (reached_power d f e hf (λ n. h (omega arith))))
+
+    -- what is reached in degree at most c is a combination, and a graded combination is reached
+    reached_combination : (D : ℕ) (a : Polynomial E) → D ≤ c → IsReached D a → IsCombination P S a
+    reached_combination D a le h = combination_congruent P H S HS (value K h.form (letter_values P S)) a h.congruent (combination_linear P H S HS (order_over P S).places (letter_values P S) h.form h.poly
+        (AllAt-map (IsLow D) (λ w. IsCombination P S (word_value P S w)) (λ w x. word_combination w (record { monomial = x.0.0; degree = let d = x.1 in omega arith }) x.0) h.form h.words))
+
+    combination_reached : (d : ℕ) (f : Polynomial E) → IsPoly K O.places f → IsGraded K F O L d f → IsCombination P S f → IsReached d f
+    combination_reached d f hf gf h = record {
+      form = h.sum;
+      poly = IsDecreasing_IsPoly K (order_over P S) h.sum h.irreducible.decreasing;
+      words = decreasing_all K F (order_over P S) (letter_laws P H S HS) (IsLow d) h.sum h.irreducible.decreasing (λ w k. (h.irreducible.words w k, sum_low P H S HS d f hf (λ m n. let e = gf m n in omega arith) h w k));
+      congruent = h.equal;
+    }
+
+    -- generators with their degrees, 1 for a zero one: those of degree at most c are combinations
+    abbrev AreCombinations : List ℕ → List (Polynomial E) → Type 0
+    AreCombinations ds [] = Unit {0}
+    AreCombinations [] (f ∷ gs) = ⊥
+    AreCombinations (d ∷ ds) (f ∷ gs) = (d ≤ c → IsCombination P S f) × AreCombinations ds gs
+
+    abbrev HasDegrees : List (Polynomial E) → Type 0
+    HasDegrees gs = (ds : List ℕ) × (length ds ≡ length gs) × AreGraded K F O L ds gs × AreCombinations ds gs
+
+    degrees : (gs : List (Polynomial E)) → AreGenerators K O gs → ((g : Polynomial E) → Contains gs g → Contains P.generators g) → HasDegrees gs
+    degrees [] h all = ([], refl, tt, tt)
+    degrees (g ∷ gs) h all = more (degrees gs h.1 (λ x k. all x (contains_there g gs x k)))
       where
-        by_kind : (x : ((m : List ℕ) → coefficient P.field g m ≡ P.field.zero) ⊎ ((d : ℕ) × (1 ≤ d) × IsHomogeneous P.field P.order d g)) → ⊎_elim (λ z. 1) (λ k. k.0) x ≤ c → HasNormal P H S HS g
-        by_kind (inl z) = λ le. normal_congruent P H S HS [] g (congruent_same P.field H.field P.order.places P.ideal g [] (λ m. z m ∙ nothing_at P.field H.field m)) (normal_zero P H S HS)
-        by_kind (inr k) = λ le. combination_normal P H S HS g (comb.generators g k.0 (all g (contains_here g gs)) k.2 le)
+        more : HasDegrees gs → HasDegrees (g ∷ gs)
+        more rest = let l = rest.1 in ⊎_elim
+            (λ z. (1 ∷ rest.0, omega arith, (h.0.poly, (λ m k. absurd (k (z m))), rest.2), ((λ le. combination_same P H S HS [] g (λ m. z m ∙ nothing_at K m) (combination_zero P H S HS)), rest.3)))
+            (λ k. (k.0 ∷ rest.0, omega arith, (h.0.poly, k.2.each, rest.2), ((λ le. comb.generators g k.0 (all g (contains_here g gs)) k.2 le), rest.3)))
+            h.0.homogeneous
 
-    -- the criterion
-    pub criterion : (a : Polynomial E) (d : ℕ) → IsPoly P.field P.order.places a → IsHomogeneous P.field P.order d a → d ≤ c → InSubalgebra P a → IsCombination P S a
-    criterion a d hp hh le hs =
-        normal_combination P H S HS a (members_normal P H S HS c reduce (generator_degrees P.generators H.generators) P.generators (degrees_length P.generators H.generators)
-        (degrees_graded P.generators H.generators) (degrees_normal P.generators H.generators (λ x k. k)) (length P.generators) d le a hs.witness hp hh.each hs.poly hs.inside)
+    product_reached : (m ds : List ℕ) (gs : List (Polynomial E)) → length ds ≡ length gs → AreGraded K F O L ds gs → AreCombinations ds gs → weighted_degree ds m ≤ c →
+        IsReached (weighted_degree ds m) (monomial_value K m gs)
+    product_reached [] [] gs l g h le = reached_one
+    product_reached [] (d ∷ ds) gs l g h le = reached_one
+    product_reached (e ∷ m) [] [] l g h le = reached_one
+    product_reached (e ∷ m) [] (f ∷ gs) l g h le = absurd g
+    product_reached (e ∷ m) (d ∷ ds) [] l g h le = absurd (omega arith)
+    product_reached (e ∷ m) (d ∷ ds) (f ∷ gs) l g h le =
+        reached_times (d * e) (weighted_degree ds m) (power K f e) (monomial_value K m gs) (IsPoly-power K F O.places f e g.0)
+        (reached_power d f e g.0 (λ n. combination_reached d f g.0 g.1 (h.0 (let part = mul-le-mul_left d n in omega arith)))) (product_reached m ds gs (omega arith) g.2 h.1 (omega arith))
 
-    -- so each lead_monomial of the subalgebra of degree at most c is a product of leads of S
-    pub leads_generated : (m : List ℕ) → LeadsSubalgebra P m → P.order.degree m ≤ c → IsGenerated (map lead_monomial S) m
+    -- the component of a value is a combination
+    module _ (gs : List (Polynomial E)) (D : HasDegrees gs) (k d : ℕ) (low : d ≤ c) where
+      term_graded : (t : Term E) → IsGraded K F O L (weighted_degree D.0 t.at) (term_value K gs t)
+      term_graded t m n = graded_value K F O L t.at D.0 gs D.1 D.2 m (multiple_nonzero K F t.by (monomial_value K t.at gs) m n)
+
+      term_poly : (t : Term E) → IsTerm K k t → IsPoly K O.places (term_value K gs t)
+      term_poly t h = IsPoly-times K F O.places (constant K t.by) (monomial_value K t.at gs) (constant_poly K F O.places t.by h.value) (IsPoly-monomial_value K F O.places t.at gs (polys_graded K F O L D.0 gs D.2))
+
+      part_combination : (h : Polynomial E) → IsPoly K k h → IsCombination P S (component O d (value K h gs))
+      part_combination [] hp = combination_zero P H S HS
+      part_combination (t ∷ h) hp =
+          subst (IsCombination P S) (sym (component-append O d (term_value K gs t) (value K h gs)))
+          (combination_plus P H S HS (component O d (term_value K gs t)) (component O d (value K h gs)) (by_test (nat_eq (weighted_degree D.0 t.at) d) refl) (part_combination h hp.1))
+        where
+          by_test : (b : Bool) → nat_eq (weighted_degree D.0 t.at) d ≡ b → IsCombination P S (component O d (term_value K gs t))
+          by_test true e =
+              let same : weighted_degree D.0 t.at ≡ d = eqb-true (weighted_degree D.0 t.at) d e in
+              combination_same P H S HS (term_value K gs t) (component O d (term_value K gs t)) (graded_component K F O L d (term_value K gs t) (term_poly t hp.0) (λ m n. term_graded t m n ∙ same))
+              (combination_multiple P H S HS t.by (monomial_value K t.at gs) hp.0.value
+              (reached_combination (weighted_degree D.0 t.at) (monomial_value K t.at gs) (omega arith) (product_reached t.at D.0 gs D.1 D.2 D.3 (omega arith))))
+          by_test false e = combination_same P H S HS [] (component O d (term_value K gs t))
+              (graded_no_component K F O L d (weighted_degree D.0 t.at) (term_value K gs t) (term_poly t hp.0) (term_graded t) (λ s. true≢false (sym (eq-eqb (weighted_degree D.0 t.at) d s) ∙ e)))
+              (combination_zero P H S HS)
+
+    pub criterion : MembersAreCombinations P S c
+    criterion a d ha hh le hs =
+        let v = value K hs.witness P.generators in
+        combination_same P H S HS (component O d a) a (λ m. sym (graded_component K F O L d a ha hh.each m))
+        (combination_congruent P H S HS (component O d v) (component O d a)
+        (subst (InIdeal K O.places P.ideal) (component-minus K O d a v) (ideal_component K F O L P.ideal H.ideal d (minus K a v) hs.inside))
+        (part_combination P.generators (degrees P.generators H.generators (λ x k. k)) (length P.generators) d le hs.witness hs.poly))
+
+    -- so each lead of the subalgebra of degree at most c is a product of leads of S
+    pub leads_generated : LeadsAreGenerated P S c
     leads_generated m h le =
-        lead_generated (component P.order (P.order.degree m) h.member) m (IsPoly-component P.field P.order.places P.order (P.order.degree m) h.member h.poly)
-        (component_normal P H S HS c reduce (generator_degrees P.generators H.generators) P.generators (degrees_length P.generators H.generators) (degrees_graded P.generators H.generators)
-        (degrees_normal P.generators H.generators (λ x k. k)) (length P.generators) (P.order.degree m) le h.member h.inside.witness h.inside.poly h.inside.inside)
-        lead_b h.standard.no_lead
-      where
-        at_degree : (n : List ℕ) → coefficient P.field (component P.order (P.order.degree m) h.member) n ≢ P.field.zero → coefficient P.field h.member n ≢ P.field.zero
-        at_degree n k z = k (coefficient-component P.field H.field P.order H.order (P.order.degree m) h.member n ∙
-            (ap (λ x. cond (nat_eq (P.order.degree n) (P.order.degree m)) x P.field.zero) z ∙ both (nat_eq (P.order.degree n) (P.order.degree m))))
-          where
-            both : (v : Bool) → cond v P.field.zero P.field.zero ≡ P.field.zero
-            both true = refl
-            both false = refl
-
-        lead_b : IsLead P.field P.order (component P.order (P.order.degree m) h.member) m
-        lead_b = record {
-          nonzero = λ z. h.leads.nonzero (sym (coefficient-component P.field H.field P.order H.order (P.order.degree m) h.member m ∙
-              ap (λ v. cond v (coefficient P.field h.member m) P.field.zero) (eq-eqb (P.order.degree m) (P.order.degree m) refl)) ∙ z);
-          greatest = λ n k ne. h.leads.greatest n (at_degree n k) ne;
-        }
+        let a = component O (O.degree m) h.member in
+        let ha = IsPoly-component K O.places O (O.degree m) h.member h.poly in
+        let l = component_leads K F O L h.member m h.leads in
+        lead_generated a m ha (criterion a (O.degree m) ha l.1 le (sub_component P H (O.degree m) h.member h.inside)) l.0 h.standard

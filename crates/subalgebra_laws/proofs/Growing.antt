@@ -1,42 +1,41 @@
--- Elements of a greater degree are added at the end of a list: what words, their values and combinations keep.
-use Rattle.std.proofs.Common.{◌≡◌, ◌≢◌, ℕ, zero, suc, ◌+◌, ◌-◌, ◌<◌, ◌≤◌, refl, sym, ◌∙◌, ap, List, [], ◌∷◌, ◌++◌, ⊎_elim, length, take, length-append, append_assoc, arith}
+-- Elements are added at the end of a list: which words stay reducible, minimal or irreducible, and what stays a combination.
+use Rattle.std.proofs.Common.{◌≡◌, ◌≢◌, ℕ, suc, ◌+◌, ◌-◌, ◌<◌, ◌≤◌, refl, sym, ◌∙◌, ap, subst, List, [], ◌∷◌, ◌++◌, inl, inr, ⊎_elim, length, take, get_or, length-append, append_assoc, arith}
 use Rattle.std.specs.Prelude.{map, drop, sum, Contains}
-use Rattle.std.proofs.lemmas.List.{map-append}
+use Rattle.std.proofs.lemmas.List.{length-map, map-append, get_or-append-add, get_or_default}
+use Rattle.std.proofs.lemmas.List.Elements.{Contains-get_or}
 use Rattle.std.specs.Ordering.{nat_cmp, ordering_then, on, then_cmp}
 use Rattle.std.specs.declared.cmp.Ordering.{Ordering}
-use Rattle.word_field.specs.Field.{FieldOps, IsField}
-use Rattle.monomial_order.specs.declared.terms.Term.{Term}
-use Rattle.monomial_order.specs.Monomial.{product, exponent, variable, IsTrimmed, Divides, weighted_degree}
+use Rattle.std.specs.declared.cmp.Ordering.TheVariants.{Less}
+use Rattle.word_field.specs.Field.{FieldOps}
+use Rattle.monomial_order.specs.Monomial.{product, exponent, variable, IsMonomial, IsTrimmed, weighted_degree}
+use Rattle.monomial_order.specs.MonomialOrder.{MonomialOrder}
 use Rattle.monomial_order.specs.Orders.{lex}
-use Rattle.monomial_order.specs.laws.Lists.{contains_here, contains_there, contains_none, contains_cases}
-use Rattle.monomial_order.specs.laws.Monomial.{product-one}
+use Rattle.monomial_order.specs.laws.Lists.{contains_left}
+use Rattle.monomial_order.specs.laws.Monomial.{product-one, length-product, variable_divides}
 use Rattle.monomial_order.specs.laws.Cofactors.{cofactor, length-product_right}
-use Rattle.monomial_order.specs.laws.Comparing.{le_or_not, equal_or_not, some_exponent}
-use Rattle.word_laws.specs.Words.{word_order_of, image_of, image, variables, lead_degrees, IsWord}
-use Rattle.word_laws.specs.laws.Images.{weighted_front, image_front, variable_trimmed}
-use Rattle.polynomials.specs.Polynomial.{Polynomial, coefficient, Same, term_of, times, constant, lead_monomial}
-use Rattle.polynomials.specs.Value.{power, monomial_value}
-use Rattle.polynomials.specs.Subalgebra.{Presented, IsPresentation}
-use Rattle.polynomials.specs.laws.Value.{one_times}
-use Rattle.subalgebra_laws.specs.Words.{letters, letter_values, word_value}
-use Rattle.subalgebra_laws.specs.Bases.{AreMonicElements}
-use Rattle.subalgebra_laws.proofs.Letters.{length-map, letter_images, letter_degrees, image_is, letter_laws, word_degree}
-use Rattle.subalgebra_laws.proofs.Terms.{one_right}
-use Rattle.subalgebra_laws.proofs.Generated.{image_shift}
+use Rattle.monomial_order.specs.laws.Comparing.{le_or_not, equal_or_not, some_exponent, not_below_self, divisor_degree}
+use Rattle.word_laws.specs.Words.{image_of, image, variables, lead_degrees, IsWord, IsSWord, IsSmaller}
+use Rattle.word_laws.specs.laws.Words.{degree_same, s_smaller, s_divisor}
+use Rattle.word_laws.specs.laws.Images.{weighted_front, image_front, variable_trimmed, variable_length, length-variables}
+use Rattle.polynomials.specs.Polynomial.{Polynomial, coefficient, Same, term_of, times, constant, AllAt, IsPoly, IsBelow, IsDecreasing, IsHomogeneous, lead_monomial}
+use Rattle.polynomials.specs.Ideal.{Congruent}
+use Rattle.polynomials.specs.Value.{power, monomial_value, value, term_value}
+use Rattle.polynomials.specs.Subalgebra.{Presented, IsPresentation, LeadsIdeal, IsGenerated}
+use Rattle.polynomials.specs.laws.Decreasing.{IsDecreasing_IsPoly}
+use Rattle.polynomials.specs.laws.Degrees.{decreasing_all}
+use Rattle.subalgebra_laws.specs.Words.{letters, letter_values, word_value, combination_value, IsReducibleWord, IsMinimalWord, IsCombination}
+use Rattle.subalgebra_laws.specs.Bases.{AreMonicElements, HasDegreesTo, HaveLeadsFrom, AreAfter, AreStandardAfter}
+use Rattle.subalgebra_laws.specs.Statements.{ValuesStay, SumsStay, SumsWithoutNewLettersStay, CombinationsStay, ElementsAreCombinations, MinimalWordsStay, OrderDoesNotMatter, NextAreCombinations}
+use Rattle.subalgebra_laws.proofs.Letters.{order_over, letter_degrees, places_letters, letter, letter_word, letter_image, letter_value, are_letters, letter_laws, word_degree, word_monic}
+use Rattle.subalgebra_laws.proofs.Combinations.{combination_same, combination_congruent, combination_word, combination_linear, sum_low}
+use Rattle.subalgebra_laws.proofs.Generated.{generated_images, generator_poly}
+use Rattle.subalgebra_laws.proofs.ReducedBases.{word_low}
 
 -- the last exponent of a trimmed list
-pub last_exponent : (u : List ℕ) → IsTrimmed u → u ≢ [] → (i : ℕ) × (suc i ≡ length u) × (1 ≤ exponent u i)
+last_exponent : (u : List ℕ) → IsTrimmed u → u ≢ [] → (i : ℕ) × (suc i ≡ length u) × (1 ≤ exponent u i)
 last_exponent [] h n = absurd (n refl)
 last_exponent (a ∷ []) h n = (0, refl, omega (arith, h))
 last_exponent (a ∷ (b ∷ u)) h n = let r = last_exponent (b ∷ u) h (λ e. cc) in (suc r.0, ap suc r.1, r.2)
-
-pub variable_divides : (i : ℕ) (u : List ℕ) → 1 ≤ exponent u i → Divides (variable i) u
-variable_divides zero [] h j = absurd (let z : exponent [] 0 ≡ 0 = refl in omega arith)
-variable_divides zero (e ∷ u) h zero = h
-variable_divides zero (e ∷ u) h (suc j) = omega arith
-variable_divides (suc i) [] h j = absurd (let z : exponent [] (suc i) ≡ 0 = refl in omega arith)
-variable_divides (suc i) (e ∷ u) h zero = omega arith
-variable_divides (suc i) (e ∷ u) h (suc j) = variable_divides i u h j
 
 -- the value of a word over the first members of a list
 monomial_value_front : {E : Type 0} (K : FieldOps E) (w : List ℕ) (fs gs : List (Polynomial E)) → length w ≤ length fs → monomial_value K w (fs ++ gs) ≡ monomial_value K w fs
@@ -44,176 +43,325 @@ monomial_value_front K [] fs gs l = refl
 monomial_value_front K (e ∷ w) [] gs l = absurd (omega arith)
 monomial_value_front K (e ∷ w) (f ∷ fs) gs l = ap (times K (power K f e)) (monomial_value_front K w fs gs (omega arith))
 
+-- a list that is decreasing in one order is so in another that compares its words in the same way
+decreasing_over : {E : Type 0} (K : FieldOps E) (O N : MonomialOrder) (Q : List ℕ → Type 0) → ((w : List ℕ) → Q w → IsMonomial N.places w) → ((v w : List ℕ) → Q v → Q w → N.compare v w ≡ O.compare v w) →
+    (p : Polynomial E) → AllAt Q p → IsDecreasing K O p → IsDecreasing K N p
+decreasing_over K O N Q word same [] h f = tt
+decreasing_over {E} K O N Q word same (t ∷ p) h f =
+    (record { term = record { monomial = word t.at h.0; value = f.0.term.value }; nonzero = f.0.nonzero; above = below p h.1 f.0.above }, decreasing_over K O N Q word same p h.1 f.1)
+  where
+    below : (p : Polynomial E) → AllAt Q p → IsBelow K O t.at p → IsBelow K N t.at p
+    below [] k b = tt
+    below (u ∷ p) k b = (same u.at t.at k.0 h.0 ∙ b.0, below p k.1 b.1)
+
+word_terms : {E : Type 0} (P : Presented E) (S : List (Polynomial E)) (p : Polynomial E) → IsPoly P.field (order_over P S).places p → AllAt (IsWord (letters P S)) p
+word_terms P S [] h = tt
+word_terms P S (t ∷ p) h = (h.0.monomial, word_terms P S p h.1)
+
 module _ {E : Type 0} (P : Presented E) (S T : List (Polynomial E)) where
-  abbrev joined : List (Polynomial E)
-  joined = S ++ T
-
-  pub images_split : letter_images P (S ++ T) ≡ letter_images P S ++ map lead_monomial T
-  images_split = ap (λ ms. variables 0 P.order.places ++ ms) (map-append lead_monomial S T) ∙ sym (append_assoc (variables 0 P.order.places) (map lead_monomial S) (map lead_monomial T))
-
-  pub values_split : letter_values P (S ++ T) ≡ letter_values P S ++ T
-  values_split = sym (append_assoc (map (λ m. term_of m P.field.one ∷ []) (variables 0 P.order.places)) S T)
-
-  abbrev more_degrees : List ℕ
-  more_degrees = map (weighted_degree (letter_degrees P S)) (map lead_monomial T)
+  -- a word over S is one over S and T
+  pub word_grows : (w : List ℕ) → IsWord (letters P S) w → IsWord (letters P (S ++ T)) w
+  word_grows w h = record { trimmed = h.trimmed; within = let l = h.within in let a = places_letters P S in let b = places_letters P (S ++ T) in let c = length-append S T in omega arith }
 
   degrees_split : letter_degrees P (S ++ T) ++ lead_degrees (letters P (S ++ T)) ≡ (letter_degrees P S ++ lead_degrees (letters P S)) ++ map (weighted_degree (letter_degrees P S)) (map lead_monomial T)
   degrees_split =
       ap (λ ds. letter_degrees P S ++ ds) (ap (map (weighted_degree (letter_degrees P S))) (map-append lead_monomial S T) ∙ map-append (weighted_degree (letter_degrees P S)) (map lead_monomial S) (map lead_monomial T)) ∙
       sym (append_assoc (letter_degrees P S) (lead_degrees (letters P S)) (map (weighted_degree (letter_degrees P S)) (map lead_monomial T)))
 
-  -- how many letters there are
-  pub places_images : (word_order_of (letters P S)).places ≡ length (letter_images P S)
-  places_images =
-      let a = length-append (letter_degrees P S) (lead_degrees (letters P S)) in
-      let b = length-append (variables 0 P.order.places) (map lead_monomial S) in
-      let c : length (letter_degrees P S) ≡ length (variables 0 P.order.places) = length-map P.order.degree (variables 0 P.order.places) in
-      let d : length (lead_degrees (letters P S)) ≡ length (map lead_monomial S) = length-map (weighted_degree (letter_degrees P S)) (map lead_monomial S) in
-      omega arith
-
-  pub places_values : length (letter_values P S) ≡ length (letter_images P S)
-  places_values =
-      let a = length-append (map (λ m. term_of m P.field.one ∷ []) (variables 0 P.order.places)) S in
-      let b = length-append (variables 0 P.order.places) (map lead_monomial S) in
-      let c : length (map (λ m. term_of m P.field.one ∷ []) (variables 0 P.order.places)) ≡ length (variables 0 P.order.places) = length-map (λ m. term_of m P.field.one ∷ []) (variables 0 P.order.places) in
-      let d : length (map lead_monomial S) ≡ length S = length-map lead_monomial S in
-      omega arith
-
-  pub places_grow : (word_order_of (letters P (S ++ T))).places ≡ (word_order_of (letters P S)).places + length T
-  places_grow =
-      let e : (word_order_of (letters P (S ++ T))).places ≡ length ((letter_degrees P S ++ lead_degrees (letters P S)) ++ map (weighted_degree (letter_degrees P S)) (map lead_monomial T)) = ap length degrees_split in
-      let a = length-append (letter_degrees P S ++ lead_degrees (letters P S)) (map (weighted_degree (letter_degrees P S)) (map lead_monomial T)) in
-      let b : length (map (weighted_degree (letter_degrees P S)) (map lead_monomial T)) ≡ length (map lead_monomial T) = length-map (weighted_degree (letter_degrees P S)) (map lead_monomial T) in
-      let c : length (map lead_monomial T) ≡ length T = length-map lead_monomial T in
-      omega arith
-
-  -- a word over S is one over S and T
-  pub word_grows : (w : List ℕ) → IsWord (letters P S) w → IsWord (letters P (S ++ T)) w
-  word_grows w h = record { trimmed = h.trimmed; within = let l = h.within in let g = places_grow in omega arith }
-
-  module _ (w : List ℕ) (h : length w ≤ (word_order_of (letters P S)).places) where
-    pub degree_stays : (word_order_of (letters P (S ++ T))).degree w ≡ (word_order_of (letters P S)).degree w
+  module _ (w : List ℕ) (h : length w ≤ (order_over P S).places) where
+    pub degree_stays : (order_over P (S ++ T)).degree w ≡ (order_over P S).degree w
     degree_stays = ap (λ ws. weighted_degree ws w) degrees_split ∙ weighted_front (letter_degrees P S ++ lead_degrees (letters P S)) (map (weighted_degree (letter_degrees P S)) (map lead_monomial T)) w h
 
-    pub image_stays : image w (letter_images P (S ++ T)) ≡ image w (letter_images P S)
-    image_stays = ap (image w) images_split ∙ image_front w (letter_images P S) (map lead_monomial T) (let p = places_images in omega arith)
+    pub image_stays : image_of (letters P (S ++ T)) w ≡ image_of (letters P S) w
+    image_stays =
+        let xs = variables 0 (length (letter_degrees P S)) in
+        ap (image w) (ap (λ ms. xs ++ ms) (map-append lead_monomial S T) ∙ sym (append_assoc xs (map lead_monomial S) (map lead_monomial T))) ∙
+        image_front w (xs ++ map lead_monomial S) (map lead_monomial T)
+        (let a = length-append xs (map lead_monomial S) in let b = length-variables 0 (length (letter_degrees P S)) in let c : length (map lead_monomial S) ≡ length S = length-map S lead_monomial in let p = places_letters P S in omega arith)
 
-    pub image_of_stays : image_of (letters P (S ++ T)) w ≡ image_of (letters P S) w
-    image_of_stays = image_is P (S ++ T) w ∙ (image_stays ∙ sym (image_is P S w))
+    value_front : word_value P (S ++ T) w ≡ word_value P S w
+    value_front =
+        let xs = map (λ m. term_of m P.field.one ∷ []) (variables 0 P.order.places) in
+        ap (monomial_value P.field w) (sym (append_assoc xs S T)) ∙ monomial_value_front P.field w (letter_values P S) T
+        (let a = length-append xs S in let p = places_letters P S in let b : length xs ≡ length (variables 0 P.order.places) = length-map (variables 0 P.order.places) (λ m. term_of m P.field.one ∷ []) in
+        let c : length (letter_degrees P S) ≡ length (variables 0 P.order.places) = length-map (variables 0 P.order.places) P.order.degree in omega arith)
 
-    pub value_stays : word_value P (S ++ T) w ≡ word_value P S w
-    value_stays = ap (monomial_value P.field w) values_split ∙ monomial_value_front P.field w (letter_values P S) T (let p = places_images in let q = places_values in omega arith)
+  pub value_stays : ValuesStay P S T
+  value_stays w h = value_front w h.within
+
+  value_grows : (p : Polynomial E) → AllAt (IsWord (letters P S)) p → combination_value P (S ++ T) p ≡ combination_value P S p
+  value_grows [] h = refl
+  value_grows (t ∷ p) h =
+      ap (λ x. times P.field (constant P.field t.by) x ++ combination_value P (S ++ T) p) (value_stays t.at h.0) ∙ ap (λ x. term_value P.field (letter_values P S) t ++ x) (value_grows p h.1)
 
   -- what decides between words of one degree
   abbrev rest : List ℕ → List ℕ → Ordering
   rest = then_cmp (on (λ x. sum (take (length (letter_degrees P S)) x)) nat_cmp) (then_cmp (on (drop (length (letter_degrees P S))) lex) lex)
 
-  pub compare_stays : (v w : List ℕ) → length v ≤ (word_order_of (letters P S)).places → length w ≤ (word_order_of (letters P S)).places →
-      (word_order_of (letters P (S ++ T))).compare v w ≡ (word_order_of (letters P S)).compare v w
+  compare_stays : (v w : List ℕ) → length v ≤ (order_over P S).places → length w ≤ (order_over P S).places → (order_over P (S ++ T)).compare v w ≡ (order_over P S).compare v w
   compare_stays v w hv hw =
-      ap (λ d. ordering_then (nat_cmp d ((word_order_of (letters P (S ++ T))).degree w)) (rest v w)) (degree_stays v hv) ∙
-      ap (λ d. ordering_then (nat_cmp ((word_order_of (letters P S)).degree v) d) (rest v w)) (degree_stays w hw)
-
--- the letters of the members of a list
-pub letter_at : {E : Type 0} (T : List (Polynomial E)) (j : ℕ) → j < length T → (t : Polynomial E) × Contains T t × (image (variable j) (map lead_monomial T) ≡ lead_monomial t)
-letter_at [] j l = absurd (omega arith)
-letter_at (t ∷ T) zero l = (t, contains_here t T, product-one (product (lead_monomial t) []) ∙ product-one (lead_monomial t))
-letter_at (t ∷ T) (suc j) l = let r = letter_at T j (omega arith) in (r.0, contains_there t T r.0 r.1, r.2)
-
--- the value of a new letter is the new element
-module _ {E : Type 0} (K : FieldOps E) (F : IsField K) where
-  pub value_shift : (fs gs : List (Polynomial E)) (j : ℕ) → Same K (monomial_value K (variable (length fs + j)) (fs ++ gs)) (monomial_value K (variable j) gs)
-  value_shift [] gs j m = ap (λ k. coefficient K (monomial_value K (variable k) gs) m) (let e : 0 + j ≡ j = omega arith in e)
-  value_shift (f ∷ fs) gs j m =
-      ap (λ k. coefficient K (monomial_value K (variable k) (f ∷ (fs ++ gs))) m) (let e : suc (length fs) + j ≡ suc (length fs + j) = omega arith in e) ∙
-      (one_times K F (monomial_value K (variable (length fs + j)) (fs ++ gs)) m ∙ value_shift fs gs j m)
-
-  -- the letter of a member of a list
-  pub member_letter : (T : List (Polynomial E)) (t : Polynomial E) → Contains T t → (j : ℕ) × (j < length T) × Same K (monomial_value K (variable j) T) t × (image (variable j) (map lead_monomial T) ≡ lead_monomial t)
-  member_letter [] t h = absurd (contains_none t h)
-  member_letter (s ∷ T) t h =
-      ⊎_elim
-      (λ e. (
-        0,
-        omega arith,
-        λ m. one_right K F (times K s (constant K K.one)) m ∙ (one_right K F s m ∙ ap (λ p. coefficient K p m) e),
-        product-one (product (lead_monomial s) []) ∙ (product-one (lead_monomial s) ∙ ap lead_monomial e),
-      ))
-      (λ k. let r = member_letter T t k in let b = r.1 in (suc r.0, omega arith, λ m. one_times K F (monomial_value K (variable r.0) T) m ∙ r.2 m, r.3))
-      (contains_cases s T t h)
-
-  member_value : (T : List (Polynomial E)) (j : ℕ) → j < length T → (t : Polynomial E) × Contains T t × Same K (monomial_value K (variable j) T) t
-  member_value [] j l = absurd (omega arith)
-  member_value (t ∷ T) zero l = (t, contains_here t T, λ m. one_right K F (times K t (constant K K.one)) m ∙ one_right K F t m)
-  member_value (t ∷ T) (suc j) l = let r = member_value T j (omega arith) in (r.0, contains_there t T r.0 r.1, λ m. one_times K F (monomial_value K (variable j) T) m ∙ r.2 m)
-
-pub letter_value : {E : Type 0} (P : Presented E) → IsPresentation P → (S T : List (Polynomial E)) (j : ℕ) → j < length T →
-    (t : Polynomial E) × Contains T t × Same P.field (word_value P (S ++ T) (variable (length (letter_images P S) + j))) t
-letter_value P H S T j l =
-    let r = member_value P.field H.field T j l in (
-      r.0,
-      r.1,
-      λ m. ap (λ fs. coefficient P.field (monomial_value P.field (variable (length (letter_images P S) + j)) fs) m) (values_split P S T) ∙
-          (ap (λ n. coefficient P.field (monomial_value P.field (variable (n + j)) (letter_values P S ++ T)) m) (sym (places_values P S T)) ∙
-          (value_shift P.field H.field (letter_values P S) T j m ∙ r.2 m)),
-    )
+      ap (λ d. ordering_then (nat_cmp d ((order_over P (S ++ T)).degree w)) (rest v w)) (degree_stays v hv) ∙ ap (λ d. ordering_then (nat_cmp ((order_over P S).degree v) d) (rest v w)) (degree_stays w hw)
 
 module _ {E : Type 0} (P : Presented E) (H : IsPresentation P) (S T : List (Polynomial E)) (HT : AreMonicElements P (S ++ T)) where
-  abbrev pub letter_of : ℕ → List ℕ
-  letter_of j = variable (length (letter_images P S) + j)
+  open P use {field as K, order as O}
 
-  -- the image of a new letter
-  pub new_image : (j : ℕ) → j < length T → (t : Polynomial E) × Contains T t × (image (variable (length (letter_images P S) + j)) (letter_images P (S ++ T)) ≡ lead_monomial t)
-  new_image j l = let r = letter_at T j l in (r.0, r.1, ap (image (variable (length (letter_images P S) + j))) (images_split P S T) ∙ (image_shift (letter_images P S) (map lead_monomial T) j ∙ r.2))
+  abbrev im : List ℕ → List ℕ
+  im w = image_of (letters P (S ++ T)) w
 
-  -- a word in which a new letter stands
-  pub record IsLong (w : List ℕ) : Type 0 where
-    pub index : ℕ
-    pub inside : index < length T
-    pub rest : List ℕ
-    pub trimmed : IsTrimmed rest
-    pub whole : product (variable (length (letter_images P S) + index)) rest ≡ w
+  -- the letter of the j-th new element
+  abbrev new_letter : ℕ → List ℕ
+  new_letter j = letter P (S ++ T) (length S + j)
 
-  pub long_word : (w : List ℕ) → IsWord (letters P (S ++ T)) w → (length w ≤ (word_order_of (letters P S)).places → ⊥) → IsLong w
-  long_word w hw n =
-      let i = last_exponent w hw.trimmed (λ e. n (let z : length w ≡ 0 = ap length e in omega arith)) in
-      let i1 = i.1 in
-      let j = i.0 - length (letter_images P S) in
-      let p = places_images P S T in
-      let g = places_grow P S T in
-      let l = hw.within in
-      let long : (word_order_of (letters P S)).places < length w = ⊎_elim (λ le. absurd (n le)) (λ no. omega (arith, no)) (le_or_not (length w) (word_order_of (letters P S)).places) in
-      let at : length (letter_images P S) + (i.0 - length (letter_images P S)) ≡ i.0 = omega arith in
-      let k = cofactor (variable i.0) w (variable_trimmed i.0) hw.trimmed (variable_divides i.0 w i.2) in
-      record {
-        index = i.0 - length (letter_images P S);
-        inside = omega arith;
-        rest = k.0;
-        trimmed = k.1;
-        whole = ap (λ x. product (variable x) k.0) at ∙ k.2;
-      }
+  pub front_monic : AreMonicElements P S
+  front_monic s k = HT s (contains_left S T s k)
 
-  -- its degree is that of the new lead_monomial and more
-  pub long_degree : (w : List ℕ) (h : IsLong w) → (word_order_of (letters P (S ++ T))).degree w ≡ P.order.degree (lead_monomial (new_image h.index h.inside).0) + (word_order_of (letters P (S ++ T))).degree h.rest
-  long_degree w h =
-      ap (word_order_of (letters P (S ++ T))).degree (sym h.whole) ∙
-      ((letter_laws P H (S ++ T) HT).degree_product (variable (length (letter_images P S) + h.index)) h.rest ∙
-      ap (λ d. d + (word_order_of (letters P (S ++ T))).degree h.rest) (word_degree P H (S ++ T) HT (variable (length (letter_images P S) + h.index)) ∙ ap P.order.degree (new_image h.index h.inside).2))
+  in_both : (j : ℕ) → j < length T → length S + j < length (S ++ T)
+  in_both j l = let a = length-append S T in omega arith
 
-  -- a long word of at most the degree of the new leads is a new letter
-  pub long_letter : (w : List ℕ) (h : IsLong w) → IsWord (letters P (S ++ T)) w → (word_order_of (letters P (S ++ T))).degree w ≤ P.order.degree (lead_monomial (new_image h.index h.inside).0) →
-      w ≡ variable (length (letter_images P S) + h.index)
-  long_letter w h hw le =
-      ⊎_elim
-      (λ e. sym h.whole ∙ (ap (product (variable (length (letter_images P S) + h.index))) e ∙ product-one (variable (length (letter_images P S) + h.index))))
+  new_image : (j : ℕ) → j < length T → im (new_letter j) ≡ lead_monomial (get_or T j [])
+  new_image j l = letter_image P (S ++ T) (length S + j) (in_both j l) ∙ ap lead_monomial (get_or-append-add S T j [])
+
+  new_value : (j : ℕ) → j < length T → Same K (word_value P (S ++ T) (new_letter j)) (get_or T j [])
+  new_value j l m = letter_value P (S ++ T) (length S + j) (in_both j l) H.field m ∙ ap (λ p. coefficient K p m) (get_or-append-add S T j [])
+
+  new_degree : (j : ℕ) → j < length T → (order_over P (S ++ T)).degree (new_letter j) ≡ O.degree (lead_monomial (get_or T j []))
+  new_degree j l = word_degree P H (S ++ T) HT (new_letter j) ∙ ap O.degree (new_image j l)
+
+  smaller_grows : (w v : List ℕ) → IsWord (letters P S) w → IsSmaller (letters P S) w v → IsSmaller (letters P (S ++ T)) w v
+  smaller_grows w v hw s = record {
+    word = word_grows P S T v s.word;
+    image = image_stays P S T v s.word.within ∙ (s.image ∙ sym (image_stays P S T w hw.within));
+    less = compare_stays P S T v w s.word.within hw.within ∙ s.less;
+  }
+
+  pub reducible_grows : (w : List ℕ) → IsWord (letters P S) w → IsReducibleWord P S w → IsReducibleWord P (S ++ T) w
+  reducible_grows w hw r = ⊎_elim (λ l. inl (subst (LeadsIdeal P) (sym (image_stays P S T w hw.within)) l)) (λ s. inr (s.0, smaller_grows w s.0 hw s.1)) r
+
+  -- a multiple of a new letter of at most the degree of the new leads is the letter
+  only_letter : (d : ℕ) → HaveLeadsFrom P d T → (j : ℕ) → j < length T → (k : List ℕ) → IsTrimmed k → length k ≤ (order_over P (S ++ T)).places → (order_over P (S ++ T)).degree (product (new_letter j) k) ≤ d → k ≡ []
+  only_letter d high j l k hk within le = ⊎_elim (λ e. e)
       (λ ne.
-      let x = some_exponent h.rest h.trimmed ne in
-      let xl = x.1 in
+      let x = some_exponent k hk ne in
+      let x1 = x.1 in
       let x2 = x.2 in
-      let a = length-product_right (variable (length (letter_images P S) + h.index)) h.rest in
-      let b : length (product (variable (length (letter_images P S) + h.index)) h.rest) ≡ length w = ap length h.whole in
-      let l = hw.within in
-      let e = (letter_laws P H (S ++ T) HT).exponent_at_most h.rest x.0 (omega arith) in
-      let d = long_degree w h in
-      absurd (omega arith))
-      (equal_or_not h.rest [])
+      let e = (letter_laws P H (S ++ T) HT).exponent_at_most k x.0 (omega arith) in
+      let dp = (letter_laws P H (S ++ T) HT).degree_product (new_letter j) k in
+      let dn = new_degree j l in
+      let dt = high (get_or T j []) (Contains-get_or T j [] l) in
+      absurd (omega arith)) (equal_or_not k [])
+
+  -- so a word of at most that degree that is not one over S is a new letter
+  long_word : (d : ℕ) → HaveLeadsFrom P d T → (w : List ℕ) → IsWord (letters P (S ++ T)) w → (order_over P (S ++ T)).degree w ≤ d → (length w ≤ (order_over P S).places → ⊥) → (j : ℕ) × (j < length T) × (w ≡ new_letter j)
+  long_word d high w hw le n =
+      let x = last_exponent w hw.trimmed (λ e. n (let z : length w ≡ 0 = ap length e in omega arith)) in
+      let x1 = x.1 in
+      let p = places_letters P S in
+      let q = places_letters P (S ++ T) in
+      let a = length-append S T in
+      let most = hw.within in
+      let late : (order_over P S).places < length w = ⊎_elim (λ l. absurd (n l)) (λ no. omega (arith, no)) (le_or_not (length w) (order_over P S).places) in
+      let j : ℕ = x.0 - (length (letter_degrees P S) + length S) in
+      let l : j < length T = omega arith in
+      let at : length (letter_degrees P S) + (length S + j) ≡ x.0 = omega arith in
+      let k = cofactor (variable x.0) w (variable_trimmed x.0) hw.trimmed (variable_divides x.0 w x.2) in
+      let whole : product (new_letter j) k.0 ≡ w = ap (λ y. product (variable y) k.0) at ∙ k.2 in
+      let long = length-product_right (new_letter j) k.0 in
+      let same : length (product (new_letter j) k.0) ≡ length w = ap length whole in
+      let none = only_letter d high j l k.0 k.1 (omega arith) (subst (λ y. (order_over P (S ++ T)).degree y ≤ d) (sym whole) le) in
+      (j, l, sym whole ∙ (ap (product (new_letter j)) none ∙ product-one (new_letter j)))
+
+  -- the leads of T are no products of leads of S, so no s-word over S has the image of a new letter
+  module _ (d : ℕ) (high : HaveLeadsFrom P d T) (new : (t : Polynomial E) → Contains T t → ¬ IsGenerated (map lead_monomial S) (lead_monomial t)) where
+    not_long : (w v : List ℕ) → IsSWord (letters P S) w → (order_over P (S ++ T)).degree v ≤ d → IsWord (letters P (S ++ T)) v → im v ≡ im w → (length v ≤ (order_over P S).places → ⊥) → ⊥
+    not_long w v hw le hv same n =
+        let j = long_word d high v hv le n in
+        new (get_or T j.0 []) (Contains-get_or T j.0 [] j.1) (generated_images P H S front_monic (lead_monomial (get_or T j.0 [])) w hw
+        (sym (image_stays P S T w hw.0.within) ∙ (sym same ∙ (ap im j.2 ∙ new_image j.0 j.1))))
+
+    -- an s-word of degree at most d that is reducible over S and T is so over S
+    pub reducible_back : (w : List ℕ) → IsSWord (letters P S) w → (order_over P S).degree w ≤ d → IsReducibleWord P (S ++ T) w → IsReducibleWord P S w
+    reducible_back w hw le r = ⊎_elim (λ l. inl (subst (LeadsIdeal P) (image_stays P S T w hw.0.within) l)) (λ s. by_smaller s.0 s.1) r
+      where
+        by_smaller : (v : List ℕ) → IsSmaller (letters P (S ++ T)) w v → IsReducibleWord P S w
+        by_smaller v s =
+            let dv = degree_same (letters P (S ++ T)) (are_letters P H (S ++ T) HT) v w s.image in
+            let dw = degree_stays P S T w hw.0.within in
+            ⊎_elim
+            (λ l. inr (
+              v,
+              record {
+                word = record { trimmed = s.word.trimmed; within = l };
+                image = sym (image_stays P S T v l) ∙ (s.image ∙ image_stays P S T w hw.0.within);
+                less = sym (compare_stays P S T v w l hw.0.within) ∙ s.less;
+              },
+            ))
+            (λ n. absurd (not_long w v hw (omega arith) s.word s.image n)) (le_or_not (length v) (order_over P S).places)
+
+    pub minimal_grows : (u : List ℕ) → (order_over P S).degree u ≤ d → IsMinimalWord P S u → IsMinimalWord P (S ++ T) u
+    minimal_grows u le h = (
+      record {
+        word = word_grows P S T u h.0.word;
+        reducible = reducible_grows u h.0.word h.0.reducible;
+        minimal = λ v hv rv dv.
+            let k = cofactor v u hv.trimmed h.0.word.trimmed dv in
+            let a = length-product v k.0 in
+            let b : length (product v k.0) ≡ length u = ap length k.2 in
+            let c = h.0.word.within in
+            let word : IsWord (letters P S) v = record { trimmed = hv.trimmed; within = omega arith } in
+            let sv = s_divisor (letters P S) (are_letters P H S front_monic) v u word h.1 dv in
+            let dd = divisor_degree (order_over P S) (letter_laws P H S front_monic) v u hv.trimmed h.0.word.trimmed dv in
+            h.0.minimal v word (reducible_back v sv (omega arith) rv) dv;
+      },
+      (word_grows P S T u h.1.0, h.1.1),
+    )
+
+    -- sums and combinations of degree at most d stay
+    pub sums_stay : SumsStay P S T d
+    sums_stay e h low =
+        let hp = IsDecreasing_IsPoly K (order_over P S) e h.decreasing in (
+          record {
+            decreasing = decreasing_over K (order_over P S) (order_over P (S ++ T)) (IsWord (letters P S)) (word_grows P S T) (λ v w hv hw. compare_stays P S T v w hv.within hw.within) e (word_terms P S e hp) h.decreasing;
+            words = λ w k. (word_grows P S T w (h.words w k).0, (h.words w k).1);
+            irreducible = λ w k r. h.irreducible w k (reducible_back w (h.words w k) (low w k) r);
+          },
+          value_grows P S T e (word_terms P S e hp),
+        )
+
+    pub combination_grows : CombinationsStay P S T d
+    combination_grows a ha low h =
+        let s = sums_stay h.sum h.irreducible (sum_low P H S front_monic d a ha low h) in
+        record { sum = h.sum; irreducible = s.0; equal = subst (Congruent K O.places P.ideal a) (sym s.1) h.equal }
+
+  -- a sum without new letters is one over S
+  pub sums_back : SumsWithoutNewLettersStay P S T
+  sums_back e h old =
+      let words = decreasing_all K H.field (order_over P (S ++ T)) (letter_laws P H (S ++ T) HT) (IsWord (letters P S)) e h.decreasing old in (
+        record {
+          decreasing = decreasing_over K (order_over P (S ++ T)) (order_over P S) (IsWord (letters P S)) (λ w hw. hw) (λ v w hv hw. sym (compare_stays P S T v w hv.within hw.within)) e words h.decreasing;
+          words = λ w k. (old w k, (h.words w k).1);
+          irreducible = λ w k r. h.irreducible w k (reducible_grows w (old w k) r);
+        },
+        value_grows P S T e words,
+      )
+
+-- elements that come after S, with standard leads that differ
+module _ {E : Type 0} (P : Presented E) (H : IsPresentation P) (d : ℕ) (S T : List (Polynomial E)) (A : AreStandardAfter P d S T) where
+  open P use {field as K, order as O}
+
+  abbrev HT : AreMonicElements P (S ++ T)
+  HT = A.after.monic
+
+  -- a new letter of degree at most d is irreducible
+  letter_irreducible : (j : ℕ) → j < length T → (order_over P (S ++ T)).degree (new_letter P H S T HT j) ≤ d → IsReducibleWord P (S ++ T) (new_letter P H S T HT j) → ⊥
+  letter_irreducible j l le r = ⊎_elim
+      (λ z. (A.standard (get_or T j []) (Contains-get_or T j [] l)).no_lead (subst (LeadsIdeal P) (new_image P H S T HT j l) z)) (λ s. by_smaller s.0 s.1) r
+    where
+      word : IsSWord (letters P (S ++ T)) (new_letter P H S T HT j)
+      word = letter_word P (S ++ T) (length S + j) (in_both P H S T HT j l)
+
+      past : length (new_letter P H S T HT j) ≤ (order_over P S).places → ⊥
+      past n = let p = places_letters P S in let q = variable_length (length (letter_degrees P (S ++ T)) + (length S + j)) in omega arith
+
+      by_smaller : (v : List ℕ) → IsSmaller (letters P (S ++ T)) (new_letter P H S T HT j) v → ⊥
+      by_smaller v s = ⊎_elim
+          (λ n. not_long P H S T HT d A.after.degree A.after.new v (new_letter P H S T HT j)
+          (record { trimmed = s.word.trimmed; within = n }, (s_smaller (letters P (S ++ T)) (are_letters P H (S ++ T) HT) v (new_letter P H S T HT j) word s).1) le word.0 (sym s.image) past)
+          (λ n.
+          let e = degree_same (letters P (S ++ T)) (are_letters P H (S ++ T) HT) v (new_letter P H S T HT j) s.image in
+          let k = long_word P H S T HT d A.after.degree v s.word (omega arith) n in
+          let same : k.0 ≡ j = A.differ k.0 j k.1 l (sym (new_image P H S T HT k.0 k.1) ∙ (ap (image_of (letters P (S ++ T))) (sym k.2) ∙ (s.image ∙ new_image P H S T HT j l))) in
+          not_below_self (order_over P (S ++ T)) (letter_laws P H (S ++ T) HT) (new_letter P H S T HT j)
+          (subst (λ x. (order_over P (S ++ T)).compare x (new_letter P H S T HT j) ≡ Less) (k.2 ∙ ap (new_letter P H S T HT) same) s.less))
+          (le_or_not (length v) (order_over P S).places)
+
+  -- an element of degree at most d is a combination
+  pub element_combines : ElementsAreCombinations P S T d
+  element_combines t k le =
+      let l = k.1 in
+      let at : get_or T k.0 [] ≡ t = get_or_default T k.0 [] t l ∙ k.2 in
+      let e = new_degree P H S T HT k.0 l in
+      let f : O.degree (lead_monomial (get_or T k.0 [])) ≡ O.degree (lead_monomial t) = ap (λ x. O.degree (lead_monomial x)) at in
+      combination_same P H (S ++ T) HT (word_value P (S ++ T) (new_letter P H S T HT k.0)) t
+      (λ m. sym (new_value P H S T HT k.0 l m ∙ ap (λ p. coefficient K p m) at))
+      (combination_word P H (S ++ T) HT (new_letter P H S T HT k.0) (letter_word P (S ++ T) (length S + k.0) (in_both P H S T HT k.0 l)) (letter_irreducible k.0 l (omega arith)))
+
+  pub minimal_back : (u : List ℕ) → (order_over P (S ++ T)).degree u ≤ d → IsMinimalWord P (S ++ T) u → IsMinimalWord P S u
+  minimal_back u le h = ⊎_elim by_short
+      (λ n.
+      let j = long_word P H S T HT d A.after.degree u h.0.word le n in
+      absurd (letter_irreducible j.0 j.1 (subst (λ x. (order_over P (S ++ T)).degree x ≤ d) j.2 le) (subst (IsReducibleWord P (S ++ T)) j.2 h.0.reducible)))
+      (le_or_not (length u) (order_over P S).places)
+    where
+      by_short : length u ≤ (order_over P S).places → IsMinimalWord P S u
+      by_short l =
+          let w : IsWord (letters P S) u = record { trimmed = h.0.word.trimmed; within = l } in
+          let ds = degree_stays P S T u l in (
+            record {
+              word = w;
+              reducible = reducible_back P H S T HT d A.after.degree A.after.new u (w, h.1.1) (omega arith) h.0.reducible;
+              minimal = λ v hv rv dv. h.0.minimal v (word_grows P S T v hv) (reducible_grows P H S T HT v hv rv) dv;
+            },
+            (w, h.1.1),
+          )
+
+  pub minimal_stays : MinimalWordsStay P S T d
+  minimal_stays u le = (
+    minimal_back u le,
+    λ h. minimal_grows P H S T HT d A.after.degree A.after.new u (subst (λ x. x ≤ d) (degree_stays P S T u h.0.word.within) le) h,
+  )
+
+  -- the combinations to the next degree
+  pub next_combinations : NextAreCombinations P S T d
+  next_combinations c next comb here = record {
+    generators = λ f e k h le. ⊎_elim
+        (λ low. combination_grows P H S T HT d A.after.degree A.after.new f (generator_poly P H f k) (λ n z. let x = h.each n z in omega arith) (comb.generators f e k h low))
+        (λ top. let z : e ≡ d = ⊎_elim (λ r. absurd (top r)) (λ r. omega (arith, r)) (le_or_not e c) in here.generators f k (subst (λ x. IsHomogeneous K O x f) z h)) (le_or_not e c);
+    words = λ u h le.
+        let m = minimal_back u le h in
+        let ds = degree_stays P S T u m.0.word.within in
+        let HS = front_monic P H S T HT in
+        subst (IsCombination P (S ++ T)) (sym (value_stays P S T u m.0.word))
+        (⊎_elim
+        (λ low. combination_grows P H S T HT d A.after.degree A.after.new (word_value P S u) (word_monic P H S HS u).poly (word_low P H S HS d u (omega arith)) (comb.words u m low))
+        (λ top. here.words u m (⊎_elim (λ r. absurd (top r)) (λ r. omega (arith, r)) (le_or_not ((order_over P S).degree u) c))) (le_or_not ((order_over P S).degree u) c));
+  }
+
+-- the elements at the end may be exchanged
+module _ {E : Type 0} (P : Presented E) (H : IsPresentation P) (d : ℕ) (S T U : List (Polynomial E)) (A : AreAfter P d S T) (HU : AreMonicElements P (S ++ U))
+    (above : HaveLeadsFrom P d U) (each : (u : Polynomial E) → Contains U u → IsCombination P (S ++ T) u) where
+  -- an irreducible word over S and U of degree at most d
+  word_exchange : (w : List ℕ) → IsSWord (letters P (S ++ U)) w → (IsReducibleWord P (S ++ U) w → ⊥) → (order_over P (S ++ U)).degree w ≤ d → IsCombination P (S ++ T) (word_value P (S ++ U) w)
+  word_exchange w hw irr le = ⊎_elim by_short
+      (λ n.
+      let j = long_word P H S U HU d above w hw.0 le n in
+      combination_same P H (S ++ T) A.monic (get_or U j.0 []) (word_value P (S ++ U) w)
+      (λ m. ap (λ x. coefficient P.field (word_value P (S ++ U) x) m) j.2 ∙ new_value P H S U HU j.0 j.1 m) (each (get_or U j.0 []) (Contains-get_or U j.0 [] j.1)))
+      (le_or_not (length w) (order_over P S).places)
+    where
+      by_short : length w ≤ (order_over P S).places → IsCombination P (S ++ T) (word_value P (S ++ U) w)
+      by_short l =
+          let v : IsWord (letters P S) w = record { trimmed = hw.0.trimmed; within = l } in
+          let ds = degree_stays P S U w l in
+          subst (IsCombination P (S ++ T)) (value_stays P S T w v ∙ sym (value_stays P S U w v))
+          (combination_word P H (S ++ T) A.monic w (word_grows P S T w v, hw.1)
+          (λ r. irr (reducible_grows P H S U HU w v (reducible_back P H S T A.monic d A.degree A.new w (v, hw.1) (omega arith) r))))
+
+  pub ends_exchange : (a : Polynomial E) → IsPoly P.field P.order.places a → HasDegreesTo P d a → IsCombination P (S ++ U) a → IsCombination P (S ++ T) a
+  ends_exchange a ha low h =
+      combination_congruent P H (S ++ T) A.monic (value P.field h.sum (letter_values P (S ++ U))) a h.equal
+      (combination_linear P H (S ++ T) A.monic (order_over P (S ++ U)).places (letter_values P (S ++ U)) h.sum (IsDecreasing_IsPoly P.field (order_over P (S ++ U)) h.sum h.irreducible.decreasing)
+      (decreasing_all P.field H.field (order_over P (S ++ U)) (letter_laws P H (S ++ U) HU) (λ w. IsCombination P (S ++ T) (word_value P (S ++ U) w)) h.sum h.irreducible.decreasing
+      (λ w k. word_exchange w (h.irreducible.words w k) (h.irreducible.irreducible w k) (sum_low P H (S ++ U) HU d a ha low h w k))))
+
+-- the order of the elements at the end does not matter
+pub order_does_not_matter : {E : Type 0} (P : Presented E) (H : IsPresentation P) (d : ℕ) (S T : List (Polynomial E)) → AreStandardAfter P d S T → OrderDoesNotMatter P S T d
+order_does_not_matter {E} P H d S T A U HU same h = record {
+  generators = λ f k hf. exchange f (generator_poly P H f k) (λ m z. let x = hf.each m z in omega arith) (h.generators f k hf);
+  words = λ u m e. exchange (word_value P S u) (word_monic P H S HS u).poly (word_low P H S HS d u (omega arith)) (h.words u m e);
+}
+  where
+    HS : AreMonicElements P S
+    HS = front_monic P H S T A.after.monic
+
+    exchange : (a : Polynomial E) → IsPoly P.field P.order.places a → HasDegreesTo P d a → IsCombination P (S ++ U) a → IsCombination P (S ++ T) a
+    exchange = ends_exchange P H d S T U A.after HU (λ u k. A.after.degree u (same u k).0) (λ u k. element_combines P H d S T A u (same u k).0 (same u k).1)

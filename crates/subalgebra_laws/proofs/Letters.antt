@@ -1,59 +1,102 @@
 -- The letters over a list of monic elements: what they stand for, their order and their images.
-use Rattle.std.proofs.Common.{◌≡◌, ℕ, zero, suc, ◌+◌, ◌≤◌, refl, sym, ◌∙◌, ap, subst, List, [], ◌∷◌, ◌++◌, length, take, arith, cond, ⊎_elim}
+use Rattle.std.proofs.Common.{◌≡◌, ℕ, zero, suc, ◌+◌, ◌<◌, ◌≤◌, refl, sym, ◌∙◌, ap, subst, List, [], ◌∷◌, ◌++◌, length, length-append, take, get_or, arith, cond, ⊎_elim}
 use Rattle.std.specs.Prelude.{map, Contains, sum}
-use Rattle.monomial_order.specs.declared.terms.Term.{Term}
-use Rattle.monomial_order.specs.Monomial.{product, variable, IsMonomial}
-use Rattle.monomial_order.specs.MonomialOrder.{IsMonomialOrder}
+use Rattle.std.proofs.lemmas.List.{length-map, get_or-append-add, get_or-map}
+use Rattle.std.proofs.lemmas.List.Sums.{sum_by-cons}
+use Rattle.std.proofs.Math.Seq.{take-nil}
+use Rattle.word_field.specs.Field.{FieldOps, IsField}
+use Rattle.monomial_order.specs.Monomial.{product, variable, IsMonomial, weighted_degree}
+use Rattle.monomial_order.specs.MonomialOrder.{MonomialOrder, IsMonomialOrder}
 use Rattle.monomial_order.specs.laws.Lists.{contains_cases, contains_here, contains_none, contains_there}
+use Rattle.monomial_order.specs.laws.Monomial.{product-one, IsMonomial-product}
 use Rattle.monomial_order.specs.laws.Orders.{take-product, sum-product}
-use Rattle.word_laws.specs.Words.{AreLetters, word_order_of, image_of, image, variables}
+use Rattle.word_laws.specs.Words.{AreLetters, word_order_of, image_of, image, variables, lead_degrees, IsSWord}
 use Rattle.word_laws.specs.laws.Images.{length-variables, variable_monomial, degree_weighted}
-use Rattle.word_laws.specs.laws.Words.{word_laws, degree_image, degree_x}
+use Rattle.word_laws.specs.laws.Words.{word_laws, degree_image, degree_x, image_x}
 use Rattle.monomial_order.specs.laws.Comparing.{degree_one}
-use Rattle.polynomials.specs.Polynomial.{Polynomial, coefficient, term_of, lead_monomial}
+use Rattle.polynomials.specs.Polynomial.{Polynomial, coefficient, Same, term_of, times, constant, lead_monomial}
+use Rattle.polynomials.specs.Value.{monomial_value}
 use Rattle.polynomials.specs.Subalgebra.{Presented, IsPresentation}
 use Rattle.polynomials.specs.laws.ReducedBasis.{map_contains}
 use Rattle.polynomials.specs.laws.Same.{same_refl}
+use Rattle.polynomials.specs.laws.Value.{one_times}
 use Rattle.polynomials.specs.laws.Decreasing.{IsDecreasing_IsPoly, IsLead_first}
 use Rattle.subalgebra_laws.specs.Words.{letters, letter_values, word_value}
 use Rattle.subalgebra_laws.specs.Bases.{IsMonicElement, AreMonicElements}
-use Rattle.subalgebra_laws.proofs.Leads.{IsMonic, AreMonic, monic_value}
-use Rattle.subalgebra_laws.proofs.Terms.{single_term}
+use Rattle.polynomials.specs.laws.Coefficients.{single_term, times_one}
+use Rattle.subalgebra_laws.proofs.MonicProducts.{IsMonic, AreMonic, monic_value}
 
-pub length-map : {A B : Type 0} (f : A → B) (xs : List A) → length (map f xs) ≡ length xs
-length-map f [] = refl
-length-map f (x ∷ xs) = ap suc (length-map f xs)
+-- a variable stands for the member of the list at its index
+image_variable : (ms : List (List ℕ)) (j : ℕ) → j < length ms → image (variable j) ms ≡ get_or ms j []
+image_variable [] j l = absurd (omega arith)
+image_variable (m ∷ ms) zero l = product-one (product m []) ∙ product-one m
+image_variable (m ∷ ms) (suc j) l = image_variable ms j (omega arith)
+
+pub value_variable : {E : Type 0} (K : FieldOps E) (F : IsField K) (fs : List (Polynomial E)) (j : ℕ) → j < length fs → Same K (monomial_value K (variable j) fs) (get_or fs j [])
+value_variable K F [] j l = absurd (omega arith)
+value_variable K F (f ∷ fs) zero l = λ m. times_one K F (times K f (constant K K.one)) m ∙ times_one K F f m
+value_variable K F (f ∷ fs) (suc j) l = λ m. one_times K F (monomial_value K (variable j) fs) m ∙ value_variable K F fs j (omega arith) m
+
+no_x_variable : (n j : ℕ) → sum (take n (variable (n + j))) ≡ 0
+no_x_variable zero j = refl
+no_x_variable (suc n) j =
+    ap (λ k. sum (take (suc n) (variable k))) (let e : suc n + j ≡ suc (n + j) = omega arith in e) ∙
+    (sum_by-cons (λ (y : ℕ). y) 0 (take n (variable (n + j))) ∙ (let r = no_x_variable n j in omega arith))
 
 module _ {E : Type 0} (P : Presented E) (S : List (Polynomial E)) where
-  -- the images of the letters
-  abbrev pub letter_images : List (List ℕ)
-  letter_images = variables 0 P.order.places ++ map lead_monomial S
-
   abbrev pub letter_degrees : List ℕ
   letter_degrees = map P.order.degree (variables 0 P.order.places)
 
-  -- no x stands in the word
-  abbrev pub HasNoX : List ℕ → Type 0
-  HasNoX w = sum (take (length letter_degrees) w) ≡ 0
+  abbrev pub letter_images : List (List ℕ)
+  letter_images = variables 0 P.order.places ++ map lead_monomial S
 
-  pub places_are : length letter_degrees ≡ P.order.places
-  places_are = length-map P.order.degree (variables 0 P.order.places) ∙ length-variables 0 P.order.places
+  abbrev pub order_over : MonomialOrder
+  order_over = word_order_of (letters P S)
+
+  -- how many x there are, and how many letters
+  pub places_x : length letter_degrees ≡ P.order.places
+  places_x = length-map (variables 0 P.order.places) P.order.degree ∙ length-variables 0 P.order.places
+
+  pub places_letters : (word_order_of (letters P S)).places ≡ length letter_degrees + length S
+  places_letters =
+      length-append letter_degrees (lead_degrees (letters P S)) ∙
+      ap (λ n. length letter_degrees + n) (length-map (map lead_monomial S) (weighted_degree letter_degrees) ∙ length-map S lead_monomial)
 
   pub image_is : (w : List ℕ) → image_of (letters P S) w ≡ image w letter_images
-  image_is w = ap (λ k. image w (variables 0 k ++ map lead_monomial S)) places_are
+  image_is w = ap (λ k. image w (variables 0 k ++ map lead_monomial S)) places_x
 
-  pub no_x_one : HasNoX []
-  no_x_one = ap sum (take_none (length letter_degrees))
-    where
-      take_none : (k : ℕ) → take {A = ℕ} k [] ≡ []
-      take_none zero = refl
-      take_none (suc k) = refl
+  -- 1 and products of s-words are s-words
+  pub s_one : IsSWord (letters P S) []
+  s_one = (record { trimmed = tt; within = omega arith }, ap sum (take-nil (length letter_degrees)))
 
-  pub no_x_sum : (u v : List ℕ) → sum (take (length letter_degrees) (product u v)) ≡ sum (take (length letter_degrees) u) + sum (take (length letter_degrees) v)
-  no_x_sum u v = ap sum (take-product (length letter_degrees) u v) ∙ sum-product (take (length letter_degrees) u) (take (length letter_degrees) v)
+  pub s_product : (u v : List ℕ) → IsSWord (letters P S) u → IsSWord (letters P S) v → IsSWord (letters P S) (product u v)
+  s_product u v h k = (
+    IsMonomial-product (word_order_of (letters P S)).places u v h.0 k.0,
+    ap sum (take-product (length letter_degrees) u v) ∙ (sum-product (take (length letter_degrees) u) (take (length letter_degrees) v) ∙ (let a = h.1 in let b = k.1 in omega arith)),
+  )
 
-  pub no_x_product : (u v : List ℕ) → HasNoX u → HasNoX v → HasNoX (product u v)
-  no_x_product u v h k = let s = no_x_sum u v in omega arith
+  -- the letter of the j-th element
+  abbrev pub letter : ℕ → List ℕ
+  letter j = variable (length letter_degrees + j)
+
+  module _ (j : ℕ) (l : j < length S) where
+    pub letter_word : IsSWord (letters P S) (letter j)
+    letter_word = (variable_monomial (word_order_of (letters P S)).places (length letter_degrees + j) (let p = places_letters in omega arith), no_x_variable (length letter_degrees) j)
+
+    pub letter_image : image_of (letters P S) (letter j) ≡ lead_monomial (get_or S j [])
+    letter_image =
+        image_is (letter j) ∙ (ap (λ n. image (variable (n + j)) letter_images) (places_x ∙ sym (length-variables 0 P.order.places)) ∙
+        (image_variable letter_images (length (variables 0 P.order.places) + j)
+        (let a = length-append (variables 0 P.order.places) (map lead_monomial S) in let b : length (map lead_monomial S) ≡ length S = length-map S lead_monomial in omega arith) ∙
+        (get_or-append-add (variables 0 P.order.places) (map lead_monomial S) j [] ∙ get_or-map lead_monomial S j [] [] l)))
+
+    pub letter_value : IsField P.field → Same P.field (word_value P S (letter j)) (get_or S j [])
+    letter_value F m =
+        let xs = map (λ k. term_of k P.field.one ∷ []) (variables 0 P.order.places) in
+        let e : length xs ≡ length (variables 0 P.order.places) = length-map (variables 0 P.order.places) (λ k. term_of k P.field.one ∷ []) in
+        ap (λ n. coefficient P.field (word_value P S (variable (n + j))) m) (places_x ∙ sym (e ∙ length-variables 0 P.order.places)) ∙
+        (value_variable P.field F (letter_values P S) (length xs + j) (let a = length-append xs S in omega arith) m ∙
+        ap (λ p. coefficient P.field p m) (get_or-append-add xs S j []))
 
 module _ {E : Type 0} (P : Presented E) (H : IsPresentation P) where
   single_monic : (m : List ℕ) → IsMonomial P.order.places m → IsMonic P.field P.order (term_of m P.field.one ∷ []) m
@@ -94,29 +137,28 @@ module _ {E : Type 0} (P : Presented E) (H : IsPresentation P) where
     pub values_monic : AreMonic P.field H.field P.order H.order (letter_values P S) (letter_images P S)
     values_monic = variables_monic 0 P.order.places (omega arith) S (map lead_monomial S) (elements_monic S HS)
 
-    -- the value of a word is monic, and its lead_monomial is the image
-    pub word_monic : (w : List ℕ) → IsMonic P.field P.order (word_value P S w) (image w (letter_images P S))
-    word_monic w = monic_value P.field H.field P.order H.order w (letter_values P S) (letter_images P S) values_monic
+    -- the value of a word is monic, and its lead is the image
+    pub word_monic : (w : List ℕ) → IsMonic P.field P.order (word_value P S w) (image_of (letters P S) w)
+    word_monic w =
+        subst (IsMonic P.field P.order (word_value P S w)) (sym (image_is P S w)) (monic_value P.field H.field P.order H.order w (letter_values P S) (letter_images P S) values_monic)
 
-    lead_monomial : (m : List ℕ) → Contains (map lead_monomial S) m → IsMonomial P.order.places m × (1 ≤ P.order.degree m)
-    lead_monomial m h =
+    lead_of_element : (m : List ℕ) → Contains (map lead_monomial S) m → IsMonomial P.order.places m × (1 ≤ P.order.degree m)
+    lead_of_element m h =
         let r = map_contains lead_monomial S m h in
         subst (λ k. IsMonomial P.order.places k × (1 ≤ P.order.degree k)) r.2 ((element_monic r.0 (HS r.0 r.1)).monomial, (HS r.0 r.1).positive)
 
     pub are_letters : AreLetters (letters P S)
     are_letters = record {
       positive = variable_degrees 0 P.order.places (omega arith);
-      leads = λ m h. subst (λ n. IsMonomial n m) (sym (places_are P S)) (lead_monomial m h).0;
-      not_one = λ m h e. let d = (lead_monomial m h).1 in let z : P.order.degree m ≡ P.order.degree [] = ap P.order.degree e in let o = degree_one P.order H.order in absurd (omega arith);
+      leads = λ m h. subst (λ n. IsMonomial n m) (sym (places_x P S)) (lead_of_element m h).0;
+      not_one = λ m h e. let d = (lead_of_element m h).1 in let z : P.order.degree m ≡ P.order.degree [] = ap P.order.degree e in let o = degree_one P.order H.order in absurd (omega arith);
     }
 
     pub letter_laws : IsMonomialOrder (word_order_of (letters P S))
     letter_laws = word_laws (letters P S) are_letters
 
     -- a word has the degree of its image
-    pub word_degree : (w : List ℕ) → (word_order_of (letters P S)).degree w ≡ P.order.degree (image w (letter_images P S))
+    pub word_degree : (w : List ℕ) → (word_order_of (letters P S)).degree w ≡ P.order.degree (image_of (letters P S) w)
     word_degree w =
-        sym (degree_image (letters P S) are_letters w) ∙
-        (ap (word_order_of (letters P S)).degree (image_is P S w) ∙
-        (degree_x (letters P S) are_letters (image w (letter_images P S)) (subst (λ n. IsMonomial n (image w (letter_images P S))) (sym (places_are P S)) (word_monic w).monomial) ∙
-        degree_weighted P.order H.order (image w (letter_images P S)) (word_monic w).monomial))
+        sym (degree_image (letters P S) are_letters w) ∙ (degree_x (letters P S) are_letters (image_of (letters P S) w) (image_x (letters P S) are_letters w) ∙
+        degree_weighted P.order H.order (image_of (letters P S) w) (word_monic w).monomial)

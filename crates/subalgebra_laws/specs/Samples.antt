@@ -1,13 +1,18 @@
 -- Sample presentations over the field of 101 elements, with all weights 1 and lex, and their reduced bases.
 use Rattle.std.specs.Prelude.{ℕ, ◌+◌, List, [], ◌∷◌}
 use Rattle.word_field.specs.Residues.{residues}
-use Rattle.monomial_order.specs.declared.terms.Term.{Term}
 use Rattle.monomial_order.specs.Orders.{lex, weight_order}
+use Rattle.monomial_order.specs.Monomial.{Exponents}
 use Rattle.polynomials.specs.Polynomial.{Polynomial, term_of}
 use Rattle.polynomials.specs.Subalgebra.{Presented}
 
 abbrev pub over_101 : List ℕ → List (Polynomial ℕ) → List (Polynomial ℕ) → Presented ℕ
-over_101 weights ideal generators = record { field = residues 101; order = weight_order weights [] lex; ideal = ideal; generators = generators }
+over_101 weights ideal generators = record {
+  field = residues 101;
+  order = weight_order weights [] lex;
+  ideal = ideal;
+  generators = generators;
+}
 
 -- the polynomials in x^2
 abbrev pub square : Polynomial ℕ
@@ -31,11 +36,15 @@ abbrev pub endless_basis : List (Polynomial ℕ)
 endless_basis = sum_xy ∷ (x_times_y 1 ∷ (x_times_y 2 ∷ (x_times_y 3 ∷ [])))
 
 -- s_1*s_3 = s_2^2 + s_4
-abbrev pub endless_word : List ℕ
+abbrev pub endless_word : Exponents
 endless_word = 0 ∷ (0 ∷ (1 ∷ (0 ∷ (1 ∷ []))))
 
-abbrev pub endless_right_side : Polynomial ℕ
-endless_right_side = term_of (0 ∷ (0 ∷ (0 ∷ (2 ∷ [])))) 1 ∷ (term_of (0 ∷ (0 ∷ (0 ∷ (0 ∷ (0 ∷ (1 ∷ [])))))) 1 ∷ [])
+abbrev pub right_side : Polynomial ℕ
+right_side =
+    term_of (0 ∷ (0 ∷ (0 ∷ (2 ∷ [])))) 1 ∷ (term_of (0 ∷ (0 ∷ (0 ∷ (0 ∷ (0 ∷ (1 ∷ [])))))) 1 ∷ [])
+
+abbrev pub xy_squared : Exponents
+xy_squared = 2 ∷ (2 ∷ [])
 
 -- nor has that of x + y modulo x^2 - y^2, whose elements are x + y, xy + y^2, xy^2 + y^3, ..
 abbrev pub difference_of_squares : Polynomial ℕ

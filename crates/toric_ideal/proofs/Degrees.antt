@@ -1,20 +1,22 @@
 -- The rules of a greater degree, of other zeros and of other leads.
-use Rattle.std.proofs.Common.{◌≡◌, ℕ, suc, ◌≤◌, refl, sym, ap, subst, List, [], ◌∷◌, ◌++◌, length, arith, inl, inr, ⊎_elim}
+use Rattle.std.proofs.Common.{◌≡◌, ℕ, suc, ◌≤◌, sym, ap, subst, List, [], ◌++◌, length, arith, inl, inr, ⊎_elim}
 use Rattle.std.specs.Prelude.{Contains, map, Option, Some, None}
 use Rattle.std.proofs.lemmas.List.{map-append}
 use Rattle.std.specs.declared.cmp.Ordering.TheVariants.{Less}
 use Rattle.monomial_order.specs.Monomial.{weighted_degree, Divides, IsMonomial, IsTrimmed, IsMultiple}
+use Rattle.monomial_order.specs.laws.Monomial.{weighted_nil}
 use Rattle.monomial_order.specs.laws.Comparing.{divisor_degree, le_or_not, none_below_one, some_exponent, equal_or_not}
 use Rattle.monomial_order.specs.laws.Lists.{contains_left, contains_map, contains_none, contains_right}
 use Rattle.word_laws.specs.Words.{image_of, word_order_of, AreLetters, IsMinimalReducible, IsReducible, Letters}
 use Rattle.word_laws.specs.laws.Words.{degree_image, degree_x, image_x, word_laws}
 use Rattle.toric_ideal.specs.declared.rule.Rule.{Rule}
-use Rattle.toric_ideal.specs.Rising.{Rises}
+use Rattle.monomial_order.specs.MonomialOrder.{IsIncreasing}
 use Rattle.toric_ideal.specs.Listing.{AgreeTo, AreRules, IsLeastOrZero}
-use Rattle.toric_ideal.specs.Finding.{AreFound}
-use Rattle.toric_ideal.proofs.Members.{append_cases, contains_mapped}
-use Rattle.toric_ideal.proofs.RisingLists.{rises_append}
-use Rattle.toric_ideal.proofs.FindingWords.{degree_none}
+use Rattle.toric_ideal.specs.Enumeration.{AreMinimalWords}
+use Rattle.std.proofs.lemmas.List.Elements.{Contains-append_cases}
+use Rattle.toric_ideal.proofs.Members.{contains_mapped}
+use Rattle.toric_ideal.proofs.IncreasingLists.{increasing_append}
+use Rattle.toric_ideal.proofs.EnumerationLemmas.{degree_none}
 
 module _ (L : Letters) (H : AreLetters L) (zeros : List (List ℕ)) where
   -- at degree 0 there is no rule
@@ -35,31 +37,27 @@ module _ (L : Letters) (H : AreLetters L) (zeros : List (List ℕ)) where
         m.reducible);
   }
     where
-      degree_of_one : (ds : List ℕ) → weighted_degree ds [] ≡ 0
-      degree_of_one [] = refl
-      degree_of_one (d ∷ ds) = refl
-
       no_divisor : (ds z : List ℕ) → IsTrimmed z → 1 ≤ weighted_degree ds z → Divides z [] → ⊥
       no_divisor ds z t p d =
-          ⊎_elim (λ e. let q : weighted_degree ds z ≡ weighted_degree ds [] = ap (weighted_degree ds) e in let o = degree_of_one ds in omega arith)
+          ⊎_elim (λ e. let q : weighted_degree ds z ≡ weighted_degree ds [] = ap (weighted_degree ds) e in let o = weighted_nil ds in omega arith)
           (λ n. let x = some_exponent z t n in let a = x.2 in let b = d x.0 in omega arith) (equal_or_not z [])
 
   -- the rules of the next degree follow
-  pub rules_more : (d : ℕ) (rules next : List Rule) → AreRules L zeros d rules → AreFound L zeros (suc d) (map (λ r. r.word) next) →
+  pub rules_more : (d : ℕ) (rules next : List Rule) → AreRules L zeros d rules → AreMinimalWords L zeros (suc d) (map (λ r. r.word) next) →
       ((w : List ℕ) → IsMinimalReducible (IsMultiple zeros) L w → (word_order_of L).degree w ≡ suc d → Contains (map (λ r. r.word) next) w) →
       ((r : Rule) → Contains next r → IsLeastOrZero zeros L (image_of L r.word) r.least) → AreRules L zeros (suc d) (rules ++ next)
   rules_more d rules next R F complete least = record {
-    increasing = subst (Rises (word_order_of L)) (sym (map-append (λ r. r.word) rules next))
-        (rises_append (word_order_of L) (word_laws L H) (map (λ r. r.word) rules) (map (λ r. r.word) next) R.increasing F.increasing
+    increasing = subst (IsIncreasing (word_order_of L)) (sym (map-append (λ r. r.word) rules next))
+        (increasing_append (word_order_of L) (word_laws L H) (map (λ r. r.word) rules) (map (λ r. r.word) next) R.increasing F.increasing
         (λ k m c e.
         let a = contains_mapped (λ (r : Rule). r.word) rules k c in
         let da = R.degree a.0 a.1 in
         let q : (word_order_of L).degree a.0.word ≡ (word_order_of L).degree k = ap (word_order_of L).degree a.2 in
         let db = F.degree m e in
         (word_laws L H).degree_first k m (omega arith)));
-    minimal = λ r c. ⊎_elim (R.minimal r) (λ e. F.minimal r.word (contains_map (λ (r : Rule). r.word) next r e)) (append_cases rules next r c);
-    degree = λ r c. ⊎_elim (λ e. let a = R.degree r e in omega arith) (λ e. let a = F.degree r.word (contains_map (λ (r : Rule). r.word) next r e) in omega arith) (append_cases rules next r c);
-    least = λ r c. ⊎_elim (R.least r) (least r) (append_cases rules next r c);
+    minimal = λ r c. ⊎_elim (R.minimal r) (λ e. F.minimal r.word (contains_map (λ (r : Rule). r.word) next r e)) (Contains-append_cases rules next r c);
+    degree = λ r c. ⊎_elim (λ e. let a = R.degree r e in omega arith) (λ e. let a = F.degree r.word (contains_map (λ (r : Rule). r.word) next r e) in omega arith) (Contains-append_cases rules next r c);
+    least = λ r c. ⊎_elim (R.least r) (least r) (Contains-append_cases rules next r c);
     all = λ w m k. ⊎_elim
         (λ e. let r = R.all w m e in (r.0, contains_left rules next r.0 r.1, r.2))
         (λ e. let r = contains_mapped (λ (r : Rule). r.word) next w (complete w m (let a = e in omega arith)) in (r.0, contains_right rules next r.0 r.1, r.2))

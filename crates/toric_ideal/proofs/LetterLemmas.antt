@@ -1,8 +1,9 @@
 -- The letters of an alphabet.
 use Rattle.std.proofs.Common.{◌≡◌, ℕ, zero, suc, ◌+◌, ◌<◌, ◌≤◌, refl, sym, ◌∙◌, ap, subst, List, [], ◌∷◌, ◌++◌, length, true, length-append, arith, get_or, ⊎_elim}
-use Rattle.std.specs.Prelude.{map, Contains}
+use Rattle.std.specs.Prelude.{Contains}
+use Rattle.std.proofs.lemmas.List.{length-map}
 use Rattle.monomial_order.specs.Monomial.{product, variable, weighted_degree}
-use Rattle.monomial_order.specs.laws.Monomial.{product-one}
+use Rattle.monomial_order.specs.laws.Monomial.{product-one, weighted_nil}
 use Rattle.monomial_order.specs.Ranges.{all_between}
 use Rattle.monomial_order.specs.laws.Orders.{between_first, between_rest, word_small}
 use Rattle.monomial_order.specs.Orders.{word_order}
@@ -10,7 +11,7 @@ use Rattle.monomial_order.specs.laws.Lists.{contains_cases, contains_none}
 use Rattle.word_laws.specs.Words.{image, image_of, lead_degrees, word_order_of, variables, AreLetters, IsWord, Letters}
 use Rattle.word_laws.specs.laws.Images.{length-variables, variable_monomial}
 use Rattle.word_laws.specs.laws.Words.{image_same}
-use Rattle.toric_ideal.specs.Leads.{letters, AreLeads}
+use Rattle.toric_ideal.specs.Leads.{letters, AreLetterLeads}
 use Rattle.toric_ideal.specs.Alphabet.{letters_of, IsAlphabet}
 use Rattle.toric_ideal.specs.declared.alphabet.Alphabet.{Alphabet}
 
@@ -19,30 +20,22 @@ positive_from [] h d c = absurd (contains_none d c)
 positive_from (x ∷ ds) h d c =
     ⊎_elim (λ e. subst (λ y. 1 ≤ y) e (between_first 1 30000 x ds h).0) (λ k. positive_from ds (between_rest 1 30000 x ds h) d k) (contains_cases x ds d c)
 
-pub leads_letters : (xs : List ℕ) (leads : List (List ℕ)) → all_between 1 30000 xs ≡ true → AreLeads xs leads → AreLetters (letters xs leads)
+pub leads_letters : (xs : List ℕ) (leads : List (List ℕ)) → all_between 1 30000 xs ≡ true → AreLetterLeads xs leads → AreLetters (letters xs leads)
 leads_letters xs leads h k = record {
   positive = positive_from xs h;
   leads = λ m c. (k m c).monomial;
-  not_one = λ m c e. let p = (k m c).positive in let z : weighted_degree xs m ≡ weighted_degree xs [] = ap (weighted_degree xs) e in absurd (one xs (subst (λ y. 1 ≤ y) z p));
+  not_one = λ m c e. let p = (k m c).positive in let z : weighted_degree xs m ≡ weighted_degree xs [] = ap (weighted_degree xs) e in let n = weighted_nil xs in absurd (omega arith);
 }
-  where
-    one : (xs : List ℕ) → 1 ≤ weighted_degree xs [] → ⊥
-    one [] l = omega arith
-    one (x ∷ xs) l = omega arith
 
 pub alphabet_letters : (a : Alphabet) → IsAlphabet a → AreLetters (letters_of a)
 alphabet_letters a h = leads_letters a.order.x_degrees.items a.leads.items a.order.x_in_range h.are_leads
 
--- the order that is kept is that of the words
+-- the order of an alphabet is that of its words
 pub alphabet_order : (a : Alphabet) → IsAlphabet a → word_order a.order.x_degrees.items a.order.s_degrees.items ≡ word_order_of (letters_of a)
 alphabet_order a h = ap (word_order a.order.x_degrees.items) h.lead_degrees
 
-pub length-map : {A B : Type 0} (f : A → B) (xs : List A) → length (map f xs) ≡ length xs
-length-map f [] = refl
-length-map f (x ∷ xs) = ap suc (length-map f xs)
-
 pub places_count : (L : Letters) → (word_order_of L).places ≡ length L.degrees + length L.leads
-places_count L = length-append L.degrees (lead_degrees L) ∙ ap (λ x. length L.degrees + x) (length-map (weighted_degree L.degrees) L.leads)
+places_count L = length-append L.degrees (lead_degrees L) ∙ ap (λ x. length L.degrees + x) (length-map L.leads (weighted_degree L.degrees))
 
 image_variable : (i : ℕ) (ms : List (List ℕ)) → image (variable i) ms ≡ get_or ms i []
 image_variable zero [] = refl

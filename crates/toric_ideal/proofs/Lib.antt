@@ -1,11 +1,11 @@
-pub mod Tests
+pub mod Results
 pub mod Members
 pub mod Skipping
 pub mod LetterLemmas
 pub mod LeastWords
-pub mod RisingLists
-pub mod Images
-pub mod FindingWords
+pub mod IncreasingLists
+pub mod ImageLoop
+pub mod EnumerationLemmas
 pub mod Degrees
 pub mod TableSteps
 pub mod Pairs

@@ -2,11 +2,11 @@
 use Rattle.std.proofs.Common.{◌≡◌, ◌≢◌, ℕ, zero, suc, sym, subst, List, [], ◌∷◌, ◌++◌, take, drop, get_or, arith, ⊎_elim}
 use Rattle.std.specs.Prelude.{Contains, AllPairs}
 use Rattle.std.specs.declared.cmp.Ordering.TheVariants.{Less}
-use Rattle.monomial_order.specs.MonomialOrder.{MonomialOrder, IsMonomialOrder}
-use Rattle.monomial_order.specs.laws.Comparing.{not_below_self}
+use Rattle.monomial_order.specs.MonomialOrder.{IsIncreasing, IsMonomialOrder, MonomialOrder}
+use Rattle.monomial_order.specs.laws.Comparing.{increasing_below, increasing_tail, not_below_self}
 use Rattle.monomial_order.specs.laws.Lists.{contains_at, contains_here, contains_there}
-use Rattle.toric_ideal.specs.Rising.{Rises}
-use Rattle.toric_ideal.proofs.Members.{append_cases, contains_take}
+use Rattle.std.proofs.lemmas.List.Elements.{Contains-append_cases}
+use Rattle.toric_ideal.proofs.Members.{contains_take}
 
 module _ {A : Type 0} (R : A → A → Type 0) where
   abbrev pub Pairs : List A → Type 0
@@ -28,7 +28,7 @@ module _ {A : Type 0} (R : A → A → Type 0) where
   pub pairs_append : (xs ys : List A) → Pairs xs → Pairs ys → ((x y : A) → Contains xs x → Contains ys y → R x y) → Pairs (xs ++ ys)
   pairs_append [] ys h k c = k
   pairs_append (x ∷ xs) ys h k c =
-      (λ y m. ⊎_elim (λ a. h.0 y a) (λ b. c x y (contains_here x xs) b) (append_cases xs ys y m), pairs_append xs ys h.1 k (λ a b i j. c a b (contains_there x xs a i) j))
+      (λ y m. ⊎_elim (λ a. h.0 y a) (λ b. c x y (contains_here x xs) b) (Contains-append_cases xs ys y m), pairs_append xs ys h.1 k (λ a b i j. c a b (contains_there x xs a i) j))
 
   pub pairs_take : (i : ℕ) (xs : List A) → Pairs xs → Pairs (take i xs)
   pairs_take zero xs h = tt
@@ -40,7 +40,7 @@ module _ {A : Type 0} (R : A → A → Type 0) where
   pairs_drop (suc i) [] h = tt
   pairs_drop (suc i) (x ∷ xs) h = pairs_drop i xs h.1
 
--- the members of a rising list are distinct
-pub rises_distinct : (O : MonomialOrder) → IsMonomialOrder O → (ms : List (List ℕ)) → Rises O ms → Pairs (λ m n. m ≢ n) ms
-rises_distinct O W [] r = tt
-rises_distinct O W (m ∷ ms) r = (λ n c e. not_below_self O W m (subst (λ x. O.compare m x ≡ Less) (sym e) (r.0 n c)), rises_distinct O W ms r.1)
+-- the members of an increasing list are distinct
+pub increasing_distinct : (O : MonomialOrder) → IsMonomialOrder O → (ms : List (List ℕ)) → IsIncreasing O ms → Pairs (λ m n. m ≢ n) ms
+increasing_distinct O W [] r = tt
+increasing_distinct O W (m ∷ ms) r = (λ n c e. not_below_self O W m (subst (λ x. O.compare m x ≡ Less) (sym e) (increasing_below O W m ms r n c)), increasing_distinct O W ms (increasing_tail O m ms r))

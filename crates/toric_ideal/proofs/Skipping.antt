@@ -1,29 +1,20 @@
 -- Words without some letters.
-use Rattle.std.proofs.Common.{◌≡◌, ◌≢◌, ℕ, zero, suc, ◌+◌, ◌-◌, ◌<◌, ◌≤◌, refl, sym, ap, subst, List, [], ◌∷◌, length, arith, ◌⊎◌, inl, inr, ⊎_elim}
-use Rattle.monomial_order.specs.Monomial.{exponent, product, variable, Divides, IsMonomial, IsTrimmed}
-use Rattle.monomial_order.specs.laws.Monomial.{exponent-product}
+use Rattle.std.proofs.Common.{◌≡◌, ℕ, zero, suc, ◌+◌, ◌-◌, ◌<◌, ◌≤◌, refl, sym, ap, subst, List, [], ◌∷◌, length, take, arith, ◌⊎◌, inl, inr, ⊎_elim}
+use Rattle.std.specs.Prelude.{sum}
+use Rattle.std.proofs.lemmas.List.Sums.{sum_by-cons}
+use Rattle.monomial_order.specs.Monomial.{exponent, product, variable, IsMonomial, IsTrimmed}
+use Rattle.monomial_order.specs.laws.Monomial.{exponent-product, variable_divides, variable_off}
 use Rattle.monomial_order.specs.laws.Cofactors.{cofactor, length-product_right}
 use Rattle.monomial_order.specs.laws.Comparing.{le_or_not}
 use Rattle.word_laws.specs.laws.Images.{variable_trimmed}
-use Rattle.toric_ideal.specs.Finding.{Skips}
+use Rattle.toric_ideal.specs.LeastWords.{Skips}
 
-pub variable_here : (i : ℕ) → exponent (variable i) i ≡ 1
-variable_here zero = refl
-variable_here (suc i) = variable_here i
-
-pub variable_off : (i j : ℕ) → i ≢ j → exponent (variable i) j ≡ 0
-variable_off zero zero h = absurd (h refl)
-variable_off zero (suc j) h = refl
-variable_off (suc i) zero h = refl
-variable_off (suc i) (suc j) h = variable_off i j (λ e. h (ap suc e))
-
-pub variable_divides : (i : ℕ) (u : List ℕ) → 1 ≤ exponent u i → Divides (variable i) u
-variable_divides zero [] h j = absurd (omega arith)
-variable_divides zero (e ∷ u) h zero = h
-variable_divides zero (e ∷ u) h (suc j) = omega arith
-variable_divides (suc i) [] h j = absurd (omega arith)
-variable_divides (suc i) (e ∷ u) h zero = omega arith
-variable_divides (suc i) (e ∷ u) h (suc j) = variable_divides i u h j
+-- the first exponents of a word without the first letters sum to 0
+pub sum_skipped : (n k : ℕ) (w : List ℕ) → n ≤ k → ((j : ℕ) → j < k → exponent w j ≡ 0) → sum (take n w) ≡ 0
+sum_skipped zero k w l h = refl
+sum_skipped (suc n) k [] l h = refl
+sum_skipped (suc n) zero (e ∷ w) l h = absurd (omega arith)
+sum_skipped (suc n) (suc k) (e ∷ w) l h = let a : e ≡ 0 = h 0 (omega arith) in let b = sum_skipped n k w (omega arith) (λ j i. h (suc j) (omega arith)) in let q = sum_by-cons (λ y. y) e (take n w) in omega arith
 
 pub skips_less : (n i : ℕ) (u : List ℕ) → Skips n (suc i) u → Skips n i u
 skips_less n i u s j l = s j (omega arith)

@@ -1,6 +1,7 @@
 pub mod Leads
 pub mod Alphabet
-pub mod Rising
-pub mod Finding
+pub mod Increasing
+pub mod LeastWords
+pub mod Enumeration
 pub mod Listing
 pub mod Tables

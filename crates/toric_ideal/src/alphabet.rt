@@ -1,8 +1,9 @@
 //! The letters of words.
 ghost use Rattle.std.specs.Prelude.{◌≡◌, true, IfOk};
+ghost use Rattle.monomial_order.specs.Limits.{degree_max};
 ghost use Rattle.monomial_order.specs.Ranges.{all_between};
 ghost use Rattle.toric_ideal.specs.Alphabet.{IsAlphabet};
-ghost use Rattle.toric_ideal.specs.Leads.{AreLeads};
+ghost use Rattle.toric_ideal.specs.Leads.{AreLetterLeads};
 
 use crate::growing::copy_monomials;
 use monomial_order::{Memory, Monomial, Order, WordOrder};
@@ -21,8 +22,8 @@ impl Alphabet {
         x_degrees: &[u32],
         leads: Vec<Monomial>,
     ) -> Result<Alphabet, Memory>
-        requires degrees { all_between 1 30000 x_degrees.now ≡ true }
-        requires leads { AreLeads x_degrees.now leads.items }
+        requires degrees { all_between 1 degree_max x_degrees.now ≡ true }
+        requires leads { AreLetterLeads x_degrees.now leads.items }
         ensures degrees { IfOk result (λ a. a.order.x_degrees.items ≡ x_degrees.now) }
         ensures leads { IfOk result (λ a. a.leads.items ≡ leads.items) }
         ensures alphabet { IfOk result IsAlphabet }

@@ -1,9 +1,11 @@
 //! Tables of a greater degree.
-ghost use Rattle.std.specs.Prelude.{◌≡◌, ◌≤◌, ◌<◌, suc, IfOk, OnOk};
-ghost use Rattle.word_laws.specs.Words.{word_order_of, IsWord};
+ghost use Rattle.std.specs.Prelude.{◌≡◌, ◌≤◌, ◌<◌, ◌++◌, ◌∷◌, [], suc, IfOk, OnOk};
+ghost use Rattle.monomial_order.specs.Limits.{degree_max};
+ghost use Rattle.word_laws.specs.Words.{word_order_of};
 ghost use Rattle.toric_ideal.specs.Alphabet.{letters_of, IsAlphabet};
-ghost use Rattle.toric_ideal.specs.Listing.{AreRules};
-ghost use Rattle.toric_ideal.specs.Tables.{AreNextRules, CanGrow, IsGrown, IsListed, IsRuleOf, IsSameBut};
+ghost use Rattle.toric_ideal.specs.Enumeration.{AreNextRules};
+ghost use Rattle.toric_ideal.specs.Increasing.{IsComparable};
+ghost use Rattle.toric_ideal.specs.Tables.{CanGrow, HasSameLetters, IsGrown, IsListed, IsRuleOf};
 
 use crate::Rule;
 use crate::table::Table;
@@ -21,14 +23,17 @@ pub(crate) fn copy_monomials(alloc: Global, list: &[Monomial]) -> Result<Vec<Mon
     Ok(copies)
 }
 
-/// A copy of the word that a rule may have.
-fn copy_option(alloc: Global, least: &Option<Monomial>) -> Result<Option<Monomial>, Memory>
-    ensures { IfOk result (λ o. o ≡ least.now) }
+/// Copies of the monomials, and of one more.
+pub(crate) fn copy_and_push(
+    alloc: Global,
+    list: &[Monomial],
+    m: &Monomial,
+) -> Result<Vec<Monomial>, Memory>
+    ensures { IfOk result (λ v. v.items ≡ list.now ++ m.now ∷ []) }
 {
-    match least {
-        None => Ok(None),
-        Some(v) => Ok(Some(v.copy(alloc)?)),
-    }
+    let mut longer = copy_monomials(alloc, list)?;
+    longer.push(m.copy(alloc)?)?;
+    Ok(longer)
 }
 
 /// Copies of the rules.
@@ -37,10 +42,7 @@ pub(crate) fn copy_rules(alloc: Global, rules: &[Rule]) -> Result<Vec<Rule>, Mem
 {
     let mut copies = Vec::with_capacity(alloc, rules.len())?;
     for rule in rules {
-        copies.push(Rule {
-            word: rule.word.copy(alloc)?,
-            least: copy_option(alloc, &rule.least)?,
-        })?;
+        copies.push(rule.copy(alloc)?)?;
     }
     Ok(copies)
 }
@@ -49,8 +51,7 @@ impl Table {
     /// The rule of a word.
     fn rule(&self, alloc: Global, word: &Monomial) -> Result<Rule, Memory>
         requires alphabet { IsAlphabet self.now.alphabet }
-        requires word { IsWord (letters_of self.now.alphabet) word.now }
-        requires small { (word_order_of (letters_of self.now.alphabet)).degree word.now ≤ 65535 }
+        requires word { IsComparable (word_order_of (letters_of self.now.alphabet)) word.now }
         ensures { IfOk result (IsRuleOf self.now word.now) }
     {
         let least = self
@@ -91,10 +92,10 @@ impl Table {
     pub(crate) fn grown_to(self, alloc: Global, degree: u32) -> Result<Table, Memory>
         requires listed { IsListed self }
         requires above { self.degree ≤ degree }
-        requires small { degree ≤ 30000 }
+        requires small { degree ≤ degree_max }
         ensures listed { IfOk result IsListed }
         ensures degree { IfOk result (λ t. t.degree ≡ degree) }
-        ensures same { IfOk result (λ t. IsSameBut self t) }
+        ensures same { IfOk result (λ t. HasSameLetters self t) }
     {
         let mut table = self;
         'degrees: while table.degree < degree {

@@ -1,12 +1,13 @@
 //! Single letters, images and comparisons of words.
-ghost use Rattle.std.specs.Prelude.{◌≡◌, ◌≤◌, ◌<◌, ◌+◌, ◌^◌, ◌↔◌, length, IfOk, IsTrue, Contains};
+ghost use Rattle.std.specs.Prelude.{◌≡◌, ◌≤◌, ◌<◌, ◌+◌, ◌-◌, ◌^◌, ◌↔◌, length, IfOk, IsTrue, Contains};
 ghost use Rattle.std.specs.declared.cmp.Ordering.TheVariants.{Less};
-ghost use Rattle.monomial_order.specs.Monomial.{exponent, product, variable, Divides, IsTrimmed, IsMultiple};
+ghost use Rattle.monomial_order.specs.Monomial.{exponent, product, variable, IsTrimmed, IsMultiple};
 ghost use Rattle.word_laws.specs.Words.{word_order_of, image_of, IsWord};
 ghost use Rattle.toric_ideal.specs.Alphabet.{letters_of, IsAlphabet};
+ghost use Rattle.toric_ideal.specs.Increasing.{IsComparable};
 
 use crate::alphabet::Alphabet;
-use crate::imaged::Imaged;
+use crate::word_with_image::WordWithImage;
 use monomial_order::{Memory, Monomial, Order};
 use std::alloc::Global;
 
@@ -20,13 +21,13 @@ pub(crate) fn letter(alloc: Global, place: usize) -> Result<Monomial, Memory>
     Monomial::from_places(alloc, exponents.as_slice())
 }
 
-/// The word without one letter that stands in it.
-fn without(alloc: Global, w: &Monomial, letter: &Monomial) -> Result<Monomial, Memory>
-    requires { Divides letter.now w.now }
-    ensures cofactor { IfOk result (λ k. product letter.now k ≡ w.now) }
+/// The word without the last of its letters.
+fn without_last(alloc: Global, w: &Monomial) -> Result<Monomial, Memory>
+    requires { 0 < length w.now }
+    ensures cofactor { IfOk result (λ k. product (variable (length w.now - 1)) k ≡ w.now) }
     ensures trimmed { IfOk result IsTrimmed }
 {
-    match w.quotient(alloc, letter)? {
+    match w.quotient(alloc, &letter(alloc, w.places() - 1)?)? {
         Some(k) => Ok(k),
         None => Ok(Monomial::one(alloc)),
     }
@@ -36,12 +37,7 @@ fn without(alloc: Global, w: &Monomial, letter: &Monomial) -> Result<Monomial, M
 pub(crate) fn is_multiple(zeros: &[Monomial], m: &Monomial) -> bool
     ensures { IsTrue result ↔ IsMultiple zeros.now m.now }
 {
-    for zero in zeros {
-        if zero.divides(m) {
-            return true;
-        }
-    }
-    false
+    zeros.iter().any(|zero| zero.divides(m))
 }
 
 impl Alphabet {
@@ -55,8 +51,7 @@ impl Alphabet {
 
     pub(crate) fn degree(&self, w: &Monomial) -> u32
         requires alphabet { IsAlphabet self.now }
-        requires word { IsWord (letters_of self.now) w.now }
-        requires small { (word_order_of (letters_of self.now)).degree w.now ≤ 65535 }
+        requires word { IsComparable (word_order_of (letters_of self.now)) w.now }
         ensures { result ≡ (word_order_of (letters_of self.now)).degree w.now }
     {
         self.order.degree(w)
@@ -64,10 +59,8 @@ impl Alphabet {
 
     pub(crate) fn is_less(&self, v: &Monomial, w: &Monomial) -> bool
         requires alphabet { IsAlphabet self.now }
-        requires left { IsWord (letters_of self.now) v.now }
-        requires right { IsWord (letters_of self.now) w.now }
-        requires left_small { (word_order_of (letters_of self.now)).degree v.now ≤ 65535 }
-        requires right_small { (word_order_of (letters_of self.now)).degree w.now ≤ 65535 }
+        requires left { IsComparable (word_order_of (letters_of self.now)) v.now }
+        requires right { IsComparable (word_order_of (letters_of self.now)) w.now }
         ensures { IsTrue result ↔ ((word_order_of (letters_of self.now)).compare v.now w.now ≡ Less) }
     {
         self.order.compare(v, w).is_lt()
@@ -88,13 +81,17 @@ impl Alphabet {
     }
 
     /// The letter at a place, with its image.
-    pub(crate) fn letter_with_image(&self, alloc: Global, place: usize) -> Result<Imaged, Memory>
+    pub(crate) fn letter_with_image(
+        &self,
+        alloc: Global,
+        place: usize,
+    ) -> Result<WordWithImage, Memory>
         requires alphabet { IsAlphabet self.now }
         requires place { place < (word_order_of (letters_of self.now)).places }
         ensures word { IfOk result (λ l. l.word ≡ variable place) }
         ensures image { IfOk result (λ l. l.image ≡ image_of (letters_of self.now) (variable place)) }
     {
-        Ok(Imaged {
+        Ok(WordWithImage {
             word: letter(alloc, place)?,
             image: self.letter_image(alloc, place)?,
         })
@@ -103,15 +100,14 @@ impl Alphabet {
     /// The image of a word.
     pub(crate) fn image(&self, alloc: Global, w: &Monomial) -> Result<Monomial, Memory>
         requires alphabet { IsAlphabet self.now }
-        requires word { IsWord (letters_of self.now) w.now }
-        requires small { (word_order_of (letters_of self.now)).degree w.now ≤ 65535 }
+        requires word { IsComparable (word_order_of (letters_of self.now)) w.now }
         ensures { IfOk result (λ m. m ≡ image_of (letters_of self.now) w.now) }
     {
         let mut rest = w.copy(alloc)?;
         let mut image = Monomial::one(alloc);
         'letters: while rest.places() > 0 {
             let place = rest.places() - 1;
-            let next = without(alloc, &rest, &letter(alloc, place)?)?;
+            let next = without_last(alloc, &rest)?;
             image = image.times(alloc, &self.letter_image(alloc, place)?)?;
             rest = next;
         }

@@ -1,23 +1,23 @@
 //! Words of leading monomials, exact to a degree.
 //!
-//! Nothing is kept of a word but the rules, which are the minimal reducible words. The least word with an image is
-//! looked for lead by lead, by going through the products of leads that divide the image. The rules of a degree are
-//! looked for letter by letter, by going through the words of that degree, where a word that a rule divides is left
-//! with all its multiples. So a call of `least` or `factor` grows with the number of products of leads that divide
-//! the image, and a new degree with the number of its words that are not reducible. The memory grows with the rules
-//! alone, and with one monomial for each letter during a call.
+//! Nothing is stored of a word but the rules, which are the minimal reducible words. The least word with an image is
+//! found lead by lead, through the products of leads that divide the image. The rules of a degree are found letter
+//! by letter, through the words of that degree, and no multiple of a rule is looked at. So a call of `least` or
+//! `factor` grows with the number of products of leads that divide the image, and a new degree with the number of its
+//! words that are not reducible. The memory grows with the rules. During a call it also holds a few monomials for
+//! each letter and each step of degree.
 #![tactic(auto)]
 
 mod alphabet;
-mod finding;
+mod enumeration;
 mod growing;
-mod imaged;
+mod increasing;
 mod least;
 mod letters;
 mod relisting;
-mod rising;
 mod rule;
 mod table;
+mod word_with_image;
 mod words;
 
 pub use rule::Rule;

@@ -1,5 +1,6 @@
 //! Tables of rules to a degree.
 ghost use Rattle.std.specs.Prelude.{◌≡◌, []};
+ghost use Rattle.toric_ideal.specs.Tables.{listing_of};
 
 use crate::Rule;
 use crate::alphabet::Alphabet;
@@ -29,5 +30,12 @@ impl Table {
             degree: 0,
             rules: Vec::new(alloc),
         }
+    }
+
+    /// Whether the rules are known to divide every reducible word. They never are yet.
+    pub(crate) fn known_closed(&self) -> bool
+        ensures { result ≡ (listing_of self.now).closed }
+    {
+        false
     }
 }

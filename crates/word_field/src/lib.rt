@@ -7,8 +7,6 @@ ghost use Rattle.word_field.specs.Residues.{residues, is_listed};
 ghost use Rattle.word_field.specs.laws.Residues.{residues_field, residues_eq};
 
 pub mod laws;
-#[cfg(test)]
-mod tests;
 
 /// A finite field. Its elements are those values of `Elem` that `IsValue` picks, and each call
 /// is given such values and answers with one.

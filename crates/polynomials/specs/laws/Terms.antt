@@ -5,7 +5,7 @@ use Rattle.std.specs.declared.cmp.Ordering.TheVariants.{Less}
 use Rattle.word_field.specs.Field.{FieldOps, IsField, IsValue}
 use Rattle.word_field.specs.laws.Field.{times_not_zero}
 use Rattle.monomial_order.specs.declared.terms.Term.{Term}
-use Rattle.monomial_order.specs.Monomial.{product}
+use Rattle.monomial_order.specs.Monomial.{Exponents, product}
 use Rattle.monomial_order.specs.MonomialOrder.{MonomialOrder, IsMonomialOrder}
 use Rattle.monomial_order.specs.laws.Monomial.{IsMonomial-product, product_comm}
 use Rattle.polynomials.specs.Polynomial.{Polynomial, term_of, scaled, times, IsTerm, IsPoly, IsBelow, IsLeadTerm, IsDecreasing, IsSmall, IsCanonical, IsMeasured, AllAt, component}
@@ -25,7 +25,7 @@ all_back P [] ys h k d l = h k d l
 all_back P (x ∷ xs) ys h k d l = all_back P xs ys (λ j e m. h (suc j) e (omega arith)) k d l
 
 module _ {E : Type 0} where
-  pub AllAt-append : (P : List ℕ → Type 0) (p q : Polynomial E) → AllAt P p → AllAt P q → AllAt P (p ++ q)
+  pub AllAt-append : (P : Exponents → Type 0) (p q : Polynomial E) → AllAt P p → AllAt P q → AllAt P (p ++ q)
   AllAt-append P [] q h k = k
   AllAt-append P (t ∷ p) q h k = (h.0, AllAt-append P p q h.1 k)
 
@@ -57,15 +57,15 @@ module _ {E : Type 0} (K : FieldOps E) where
     canonical_measured (t ∷ p) h zero d l = record { monomial = h.decreasing.0.term.monomial; small = h.small.0 }
     canonical_measured (t ∷ p) h (suc k) d l = canonical_measured p record { decreasing = h.decreasing.1; small = h.small.1 } k d (omega arith)
 
-    pub IsBelow-append : (m : List ℕ) (p q : Polynomial E) → IsBelow K O m p → IsBelow K O m q → IsBelow K O m (p ++ q)
+    pub IsBelow-append : (m : Exponents) (p q : Polynomial E) → IsBelow K O m p → IsBelow K O m q → IsBelow K O m (p ++ q)
     IsBelow-append m [] q h k = k
     IsBelow-append m (t ∷ p) q h k = (h.0, IsBelow-append m p q h.1 k)
 
-    pub IsBelow-left : (m : List ℕ) (p q : Polynomial E) → IsBelow K O m (p ++ q) → IsBelow K O m p
+    pub IsBelow-left : (m : Exponents) (p q : Polynomial E) → IsBelow K O m (p ++ q) → IsBelow K O m p
     IsBelow-left m [] q h = tt
     IsBelow-left m (t ∷ p) q h = (h.0, IsBelow-left m p q h.1)
 
-    pub IsBelow-right : (m : List ℕ) (p q : Polynomial E) → IsBelow K O m (p ++ q) → IsBelow K O m q
+    pub IsBelow-right : (m : Exponents) (p q : Polynomial E) → IsBelow K O m (p ++ q) → IsBelow K O m q
     IsBelow-right m [] q h = h
     IsBelow-right m (t ∷ p) q h = IsBelow-right m p q h.1
 
@@ -159,7 +159,7 @@ module _ {E : Type 0} (K : FieldOps E) (F : IsField K) (O : MonomialOrder) where
     IsDecreasing-multiple c p v n h.1,
   )
     where
-      below : (m : List ℕ) (q : Polynomial E) → IsBelow K O m q → IsBelow K O m (scaled K (term_of [] c) q)
+      below : (m : Exponents) (q : Polynomial E) → IsBelow K O m q → IsBelow K O m (scaled K (term_of [] c) q)
       below m [] k = tt
       below m (u ∷ q) k = (k.0, below m q k.1)
 
@@ -187,11 +187,11 @@ module _ {E : Type 0} (K : FieldOps E) (F : IsField K) (O : MonomialOrder) where
 
 -- the terms of one degree fall
 module _ {E : Type 0} (K : FieldOps E) (O : MonomialOrder) (d : ℕ) where
-  below_test : (b : Bool) (m : List ℕ) (t : Term E) (q : Polynomial E) → (O.compare t.at m ≡ Less) → IsBelow K O m q → IsBelow K O m (cond b (t ∷ q) q)
+  below_test : (b : Bool) (m : Exponents) (t : Term E) (q : Polynomial E) → (O.compare t.at m ≡ Less) → IsBelow K O m q → IsBelow K O m (cond b (t ∷ q) q)
   below_test true m t q h k = (h, k)
   below_test false m t q h k = k
 
-  IsBelow-component : (m : List ℕ) (p : Polynomial E) → IsBelow K O m p → IsBelow K O m (component O d p)
+  IsBelow-component : (m : Exponents) (p : Polynomial E) → IsBelow K O m p → IsBelow K O m (component O d p)
   IsBelow-component m [] h = tt
   IsBelow-component m (t ∷ p) h = below_test (nat_eq (O.degree t.at) d) m t (component O d p) h.0 (IsBelow-component m p h.1)
 

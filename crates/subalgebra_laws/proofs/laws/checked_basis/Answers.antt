@@ -1,4 +1,4 @@
-use Rattle.subalgebra_laws.proofs.Checked.{checked_reduced, reduced_checked}
+use Rattle.subalgebra_laws.proofs.ReducedBases.{checked_reduced, reduced_checked}
 use Rattle.subalgebra_laws.proofs.laws.checked_basis.Goals as goal
 
 pub returns : goal.returns

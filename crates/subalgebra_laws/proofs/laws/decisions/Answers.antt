@@ -1,20 +1,12 @@
 use Rattle.subalgebra_laws.proofs.Decisions.{words_decided, zeros_decide, decided_zeros, zeros_stand, closed_zeros, closed_decided}
 use Rattle.subalgebra_laws.proofs.laws.decisions.Goals as goal
 
-pub returns-clause-words : goal.returns-clause-words
-returns-clause-words g c P S n H HS dec w hw le = words_decided P H S HS n dec w hw le
-
-pub returns-clause-all_words : goal.returns-clause-all_words
-returns-clause-all_words g c P S D n H HS dec closed w hw le = words_decided P H S HS n (closed_decided P H D n closed dec) w hw le
-
-pub returns-clause-zeros : goal.returns-clause-zeros
-returns-clause-zeros g c P H n = (decided_zeros P H n, λ z. zeros_decide P H n z.0 z.1)
-
-pub returns-clause-zero_words : goal.returns-clause-zero_words
-returns-clause-zero_words g c P S n zs H HS z w le = zeros_stand P H n zs z S HS w le
-
-pub returns-clause-all_zeros : goal.returns-clause-all_zeros
-returns-clause-all_zeros g c P H D n zs closed z = closed_zeros P H D n closed zs z
-
-pub returns-clause-all_monomials : goal.returns-clause-all_monomials
-returns-clause-all_monomials g c P H D n closed dec = closed_decided P H D n closed dec
+pub returns : goal.returns
+returns g c = record {
+  words = λ P S n H dec HS. words_decided P H S HS n dec;
+  all_words = λ P S D H dec HS closed n. words_decided P H S HS n (closed_decided P H D n closed dec);
+  zeros = λ P H n. (decided_zeros P H n, λ z. zeros_decide P H n z.0 z.1);
+  zero_words = λ P S H HS n zs z. zeros_stand P H n zs z S HS;
+  all_zeros = λ P H D n zs closed. closed_zeros P H D n closed zs;
+  all_monomials = closed_decided;
+}

@@ -1,31 +1,19 @@
-use Rattle.std.proofs.Common.{◌≤◌, subst}
-use Rattle.monomial_order.specs.laws.Lists.{contains_left, contains_right}
-use Rattle.subalgebra_laws.proofs.Growing.{value_stays, degree_stays}
-use Rattle.subalgebra_laws.proofs.Grown.{minimal_grows, minimal_back, combination_grows, ends_exchange, element_combines}
-use Rattle.subalgebra_laws.proofs.Next.{products_split, next_reduced}
+use Rattle.subalgebra_laws.proofs.Growing.{value_stays, combination_grows, sums_stay, sums_back, ends_exchange, element_combines, minimal_stays, next_combinations, order_does_not_matter}
+use Rattle.subalgebra_laws.proofs.Next.{products_split, next_standard, next_reduced}
 use Rattle.subalgebra_laws.proofs.laws.growing.Goals as goal
 
-pub returns-clause-values : goal.returns-clause-values
-returns-clause-values g c P S T w h = value_stays P S T w h.within
-
-pub returns-clause-products : goal.returns-clause-products
-returns-clause-products g c P S T d H monic high m l h =
-    products_split P H S T d (λ s k. (monic s (contains_left S T s k)).positive) (λ t k. (monic t (contains_right S T t k)).positive) high m l h
-
-pub returns-clause-combinations : goal.returns-clause-combinations
-returns-clause-combinations g c P S T d H n a ha low h = combination_grows P H S T n.monic d n.degree n.new a ha low h
-
-pub returns-clause-ends : goal.returns-clause-ends
-returns-clause-ends g c P S T U d H n HU above each a ha low h = ends_exchange P H S T U n.monic HU d n.degree n.new above each a ha low h
-
-pub returns-clause-elements : goal.returns-clause-elements
-returns-clause-elements g c P S T d H n t k le = element_combines P H S T n.after.monic d n.after.degree n.after.new n.standard n.increasing t k le
-
-pub returns-clause-minimal : goal.returns-clause-minimal
-returns-clause-minimal g c P S T d H n u le = (
-  minimal_back P H S T n.after.monic d n.after.degree n.after.new n.standard n.increasing u le,
-  λ h. minimal_grows P H S T n.after.monic d n.after.degree n.after.new u (subst (λ x. x ≤ d) (degree_stays P S T u h.0.word.within) le) h,
-)
-
-pub returns-clause-next : goal.returns-clause-next
-returns-clause-next g c P S T k d H n next dec red elements gens words = next_reduced P H S T k d next dec red n elements gens words
+pub returns : goal.returns
+returns g c = record {
+  values = value_stays;
+  products = λ P S T d H monic high. products_split P H S T d (λ s k. (monic s k).positive) high;
+  combinations = λ P S T d H n. combination_grows P H S T n.monic d n.degree n.new;
+  sums = λ P S T d H n. sums_stay P H S T n.monic d n.degree n.new;
+  old_sums = λ P S T H monic. sums_back P H S T monic;
+  ends = λ P S T d H n U. ends_exchange P H d S T U n;
+  elements = λ P S T d H. element_combines P H d S T;
+  minimal = λ P S T d H. minimal_stays P H d S T;
+  differ = λ P S T d H. next_standard P H d S T;
+  order = λ P S T d H. order_does_not_matter P H d S T;
+  step = λ P S T d H. next_combinations P H d S T;
+  next = λ P S T d H. next_reduced P H S T d;
+}

@@ -1,13 +1,27 @@
-use Rattle.std.proofs.Common.{◌≡◌, sym, ◌∙◌, ap, subst, max}
+use Rattle.std.proofs.Common.{◌∙◌, refl, sym, ap, subst, length}
+use Rattle.std.proofs.lemmas.List.{length-map}
+use Rattle.polynomials.specs.Polynomial.{lead_monomial}
 use Rattle.poly_core.specs.Presentation.{presented}
-use Rattle.quotient_gb.specs.Quotient.{IsReady}
-use Rattle.quotient_gb.proofs.Filtering.{ready_above}
+use Rattle.quotient_gb.specs.Quotient.{IsQuotientOf}
+use Rattle.quotient_gb.proofs.Extending.{restored}
+use Rattle.quotient_gb.proofs.Finishing.{quotient_above}
 use Rattle.quotient_gb.proofs.quotient.Quotient.extend_to.Goals as goal
 
-pub returns-in-Ok-clause-fits : goal.returns-in-Ok-clause-fits
-returns-in-Ok-clause-fits g c =
+pub returns-in-Ok-clause-quotient : goal.returns-in-Ok-clause-quotient
+returns-in-Ok-clause-quotient g c =
     let P = presented g.F.Field.ops g.O.Order.order c.args.p.now in
-    let is : c.max-self.result ≡ max c.args.self.now.degree c.args.c = c.max-self.ensures ∙ ap (λ n. max n c.args.c) c.in-Ok.ensures.degree in
-    ready_above P c.max-self.result c.grow.new.self.basis c.grow.new.self.waiting.items
-    (subst (λ n. IsReady P n c.grow.new.self.basis c.grow.new.self.waiting.items) (sym is) c.in-Ok.ensures.ready)
-    c.keep_above.new.waiting.items c.keep_above.ensures
+    quotient_above P _ _ (subst (IsQuotientOf P) (sym c.self-2.view_is) c.in-Ok.ensures.quotient) refl refl refl refl c.retain_above.ensures
+
+pub returns-in-Err-clause-quotient : goal.returns-in-Err-clause-quotient
+returns-in-Err-clause-quotient g c =
+    let q = c.args.self.now in
+    subst (IsQuotientOf (presented g.F.Field.ops g.O.Order.order c.args.p.now)) (sym (restored q c.add_degrees.new.self _ _ c.in-Err.ensures.extension c.self-2.view_is _ _
+    (ap length c.as_slice-members.ensures.value ∙ ap (λ z. length z.members) c.self.view_is) (ap length c.requires.quotient.leads ∙ length-map q.members lead_monomial)
+    (ap length c.as_slice-pairs.ensures.value ∙ ap (λ z. length z.pairs) c.self.view_is) (ap (λ z. z.degree) c.self.view_is) c.truncate-in-Err.ensures.items c.truncate.ensures.items c.truncate-in-Err-2.ensures.items refl)) c.requires.quotient
+
+pub returns-in-Err-clause-memory : goal.returns-in-Err-clause-memory
+returns-in-Err-clause-memory g c =
+    let q = c.args.self.now in
+    restored q c.add_degrees.new.self _ _ c.in-Err.ensures.extension c.self-2.view_is _ _
+    (ap length c.as_slice-members.ensures.value ∙ ap (λ z. length z.members) c.self.view_is) (ap length c.requires.quotient.leads ∙ length-map q.members lead_monomial)
+    (ap length c.as_slice-pairs.ensures.value ∙ ap (λ z. length z.pairs) c.self.view_is) (ap (λ z. z.degree) c.self.view_is) c.truncate-in-Err.ensures.items c.truncate.ensures.items c.truncate-in-Err-2.ensures.items refl

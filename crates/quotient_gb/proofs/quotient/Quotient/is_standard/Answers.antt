@@ -1,16 +1,20 @@
-use Rattle.std.proofs.Common.{refl, sym, subst, slice_index_or, []}
-use Rattle.monomial_order.specs.laws.Lists.{contains_at}
+use Rattle.std.proofs.Common.{◌∙◌, sym, ap, subst, length, [], rules}
+use Rattle.monomial_order.specs.Monomial.{Divides}
 use Rattle.quotient_gb.specs.IdealBasis.{AreIdealLeads}
-use Rattle.quotient_gb.proofs.Ready.{standard, not_standard, ready_stands}
+use Rattle.quotient_gb.proofs.Knowing.{standard, not_standard, quotient_leads}
+use Rattle.quotient_gb.proofs.Places.{at_default, below_stop}
 use Rattle.quotient_gb.proofs.quotient.Quotient.is_standard.Goals as goal
 
-pub returns-in-None-clause-yes : goal.returns-in-None-clause-yes
-returns-in-None-clause-yes g c = λ t P H h hm l.
+pub returns-then-divides-clause-no : goal.returns-then-divides-clause-no
+returns-then-divides-clause-no g c = λ t P H h hm.
     let q = c.args.self.now in
-    standard P H q.degree c.as_slice.result.now (subst (AreIdealLeads P q.degree) (sym c.as_slice.ensures.value) (ready_stands P H q.degree q.basis q.waiting.items h).ideal) c.args.m.now (c.in-None.ensures.none refl) hm l
+    let ls = c.deref-lead-items.result.now in
+    not_standard P H q.degree ls (subst (AreIdealLeads P q.degree) (sym (c.deref-lead-items.ensures.value ∙ ap (λ q. q.leads) c.self.view_is)) (quotient_leads P H q h)) c.args.m.now
+    c.lead-item.result (c.search.lead-index, c.search-test.true, sym c.lead-item.is) (c.divides.ensures.0 (search rules)) hm
 
-pub returns-in-Some-clause-no : goal.returns-in-Some-clause-no
-returns-in-Some-clause-no g c = λ t P H h hm.
+pub returns-clause-yes : goal.returns-clause-yes
+returns-clause-yes g c = λ t P H h hm l.
     let q = c.args.self.now in
-    not_standard P H q.degree c.as_slice.result.now (subst (AreIdealLeads P q.degree) (sym c.as_slice.ensures.value) (ready_stands P H q.degree q.basis q.waiting.items h).ideal) c.args.m.now
-    (slice_index_or c.as_slice.result.now c.in-Some.field-0 []) (contains_at c.as_slice.result.now c.in-Some.field-0 [] c.in-Some.ensures.place) c.in-Some.ensures.divides hm
+    let ls = c.deref-lead-items.result.now in
+    standard P H q.degree ls (subst (AreIdealLeads P q.degree) (sym (c.deref-lead-items.ensures.value ∙ ap (λ q. q.leads) c.self.view_is)) (quotient_leads P H q h)) c.args.m.now
+    (λ n k d. c.search.invariant k.0 (below_stop k.0 (length ls) c.search.lead-index k.1 c.search-test.false) (subst (λ z. Divides z c.args.m.now) (sym (at_default ls k.0 n [] k.1 k.2)) d)) hm l

@@ -1,26 +1,32 @@
-use Rattle.std.proofs.Common.{subst}
-use Rattle.std.specs.Prelude.{Contains}
-use Rattle.polynomials.specs.Polynomial.{lead_monomial}
+use Rattle.std.proofs.Common.{◌≤◌, ◌++◌, ◌∙◌, sym, ap, subst, append-nil}
+use Rattle.polynomials.specs.Polynomial.{lead_monomial, degree_of}
 use Rattle.poly_core.specs.Presentation.{presented}
-use Rattle.quotient_gb.specs.Combinations.{AtMost}
-use Rattle.quotient_gb.specs.Remainder.{IsRemainder}
-use Rattle.quotient_gb.proofs.Ready.{remainder_normal, ready_stands}
-use Rattle.quotient_gb.proofs.Tails.{stands_kept}
+use Rattle.quotient_gb.specs.Quotient.{QuotientState, IsQuotientOf}
+use Rattle.quotient_gb.specs.Remainder.{AreReducersIn, IsRemainderIn}
+use Rattle.std.specs.Prelude.{map}
+use Rattle.quotient_gb.proofs.Knowing.{quotient_reducers, remainder_normal}
 use Rattle.quotient_gb.proofs.quotient.Quotient.normal_form.Goals as goal
 
-pub remainder-requires-clause-kept : goal.remainder-requires-clause-kept
-remainder-requires-clause-kept g c = λ x k.
+pub remainder-requires : goal.remainder-requires
+remainder-requires g c =
     let P = presented g.F.Field.ops g.O.Order.order c.args.p.now in
-    let q = c.args.self.now in
-    stands_kept P c.requires.presentation q.degree q.basis (ready_stands P c.requires.presentation q.degree q.basis q.waiting.items c.requires.fits) x (subst (λ xs. Contains xs x) c.as_slice-2.ensures.value k)
-
-pub remainder-requires-clause-monic : goal.remainder-requires-clause-monic
-remainder-requires-clause-monic g c = λ x k. (c.requires.fits.basis.members x (subst (λ xs. Contains xs x) c.as_slice-2.ensures.value k)).monic
+    let H = c.requires.presentation in
+    let b = c.self.inside.basis in
+    let q = subst (IsQuotientOf P) (sym c.self.view_is) c.requires.quotient in
+    record {
+      presentation = H;
+      a = c.requires.canonical;
+      before = q.leads;
+      found = c.new-none.ensures.leads ∙ ap (map lead_monomial) (sym c.new-none.ensures.members);
+      reducers = subst (AreReducersIn P) (sym (append-nil b.members.items) ∙ ap (λ xs. b.members.items ++ xs) (sym c.new-none.ensures.members)) (quotient_reducers P H _ q);
+    }
 
 pub returns-clause-normal : goal.returns-clause-normal
 returns-clause-normal g c =
     let P = presented g.F.Field.ops g.O.Order.order c.args.p.now in
-    let q = c.args.self.now in
-    let a = c.args.a.now in
-    remainder_normal P c.requires.presentation q.degree q.basis.members.items c.requires.fits.basis a c.in_ok-rest.rest c.requires.degree
-    (subst (λ xs. IsRemainder P.field P.order xs (AtMost P.order (lead_monomial a)) a c.in_ok-rest.rest) c.as_slice-2.ensures.value c.in_ok-rest.ensures.remainder)
+    let H = c.requires.presentation in
+    let b = c.self.inside.basis in
+    let q = subst (IsQuotientOf P) (sym c.self.view_is) c.requires.quotient in
+    remainder_normal P H c.self.inside.degree b.members.items q.basis c.args.a.now c.in_ok-rest.rest
+    (subst (λ (q : QuotientState g.row.F-Elem.Denot). degree_of P.order c.args.a.now ≤ q.degree) (sym c.self.view_is) c.requires.degree)
+    (subst (λ G. IsRemainderIn P G c.args.a.now c.in_ok-rest.rest) (ap (λ xs. b.members.items ++ xs) c.new-none.ensures.members ∙ append-nil b.members.items) c.in_ok-rest.ensures).remainder

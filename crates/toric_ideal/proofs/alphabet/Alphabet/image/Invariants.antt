@@ -1,6 +1,6 @@
 use Rattle.word_laws.specs.Words.{word_order_of}
 use Rattle.toric_ideal.specs.Alphabet.{letters_of}
-use Rattle.toric_ideal.proofs.Images.{IsImagedSoFar}
+use Rattle.toric_ideal.proofs.ImageLoop.{IsImagedSoFar}
 use Rattle.toric_ideal.proofs.alphabet.Alphabet.image.Given as goal
 
 abbrev pub invariant-letters : goal.invariant-letters

@@ -1,11 +1,11 @@
-use Rattle.std.proofs.Common.{◌≡◌, ◌≤◌, ◌∙◌, length, sym, ap, subst, arith}
+use Rattle.std.proofs.Common.{◌≤◌, length, sym, subst, arith}
 use Rattle.monomial_order.specs.Monomial.{IsMonomial, IsMultiple}
 use Rattle.word_laws.specs.Words.{image_of, word_order_of}
 use Rattle.word_laws.specs.laws.Words.{degree_image, image_x}
 use Rattle.toric_ideal.specs.Alphabet.{letters_of}
-use Rattle.toric_ideal.specs.Finding.{IsLeastFrom}
-use Rattle.toric_ideal.proofs.Tests.{no_from}
-use Rattle.toric_ideal.proofs.LeastWords.{less_reducible}
+use Rattle.toric_ideal.specs.LeastWords.{IsLeastFrom}
+use Rattle.toric_ideal.proofs.Results.{no_from}
+use Rattle.toric_ideal.proofs.LeastWords.{least_comparable, less_reducible}
 use Rattle.toric_ideal.proofs.LetterLemmas.{alphabet_letters}
 use Rattle.toric_ideal.proofs.alphabet.Alphabet.is_reducible.Goals as goal
 
@@ -17,21 +17,19 @@ least_from-requires-clause-monomial c =
 pub least_from-requires-clause-small : goal.least_from-requires-clause-small
 least_from-requires-clause-small c =
     let L = letters_of c.args.self.now in
-    subst (λ x. (word_order_of L).degree x ≤ 65535) (sym c.requires.image) (let d = degree_image L (alphabet_letters c.args.self.now c.requires.alphabet) c.args.w.now in let s = c.requires.small in omega arith)
+    subst (λ x. (word_order_of L).degree x ≤ 65535) (sym c.requires.image) (let d = degree_image L (alphabet_letters c.args.self.now c.requires.alphabet) c.args.w.now in let s = c.requires.word.small in omega arith)
 
-pub is_less-requires-clause-left_small : goal.is_less-requires-clause-left_small
-is_less-requires-clause-left_small c =
+pub is_less-requires-clause-left : goal.is_less-requires-clause-left
+is_less-requires-clause-left c =
     let L = letters_of c.args.self.now in
     let H = alphabet_letters c.args.self.now c.requires.alphabet in
-    let d = degree_image L H c.in_ok-least.least in
-    let e : (word_order_of L).degree (image_of L c.in_ok-least.least) ≡ (word_order_of L).degree (image_of L c.args.w.now) = ap (word_order_of L).degree (c.in_ok-least.ensures.image ∙ c.requires.image) in
-    let f = degree_image L H c.args.w.now in
-    let s = c.requires.small in omega arith
+    least_comparable L H 0 (image_of L c.args.w.now) c.in_ok-least.least (subst (λ m. IsLeastFrom L 0 m c.in_ok-least.least) c.requires.image c.in_ok-least.ensures)
+    (let d = degree_image L H c.args.w.now in let s = c.requires.word.small in omega arith)
 
 pub returns : goal.returns
 returns c =
     let L = letters_of c.args.self.now in
     let H = alphabet_letters c.args.self.now c.requires.alphabet in
     let n : ¬ IsMultiple c.args.zeros.now (image_of L c.args.w.now) = subst (λ m. ¬ IsMultiple c.args.zeros.now m) c.requires.image (no_from c.is_multiple.result c.is_multiple.ensures.1 c.if-is_multiple.false) in
-    let r = less_reducible L H c.args.zeros.now c.args.w.now c.in_ok-least.least c.requires.word (subst (λ m. IsLeastFrom L 0 m c.in_ok-least.least) c.requires.image c.in_ok-least.ensures) n in
+    let r = less_reducible L H c.args.zeros.now c.args.w.now c.in_ok-least.least c.requires.word.monomial (subst (λ m. IsLeastFrom L 0 m c.in_ok-least.least) c.requires.image c.in_ok-least.ensures) n in
     (λ t. r.0 (c.is_less.ensures.0 t), λ p. c.is_less.ensures.1 (r.1 p))

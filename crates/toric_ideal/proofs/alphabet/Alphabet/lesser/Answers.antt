@@ -2,7 +2,7 @@ use Rattle.word_laws.specs.Words.{word_order_of}
 use Rattle.word_laws.specs.laws.Words.{word_laws}
 use Rattle.toric_ideal.specs.Alphabet.{letters_of}
 use Rattle.toric_ideal.proofs.LetterLemmas.{alphabet_letters}
-use Rattle.toric_ideal.proofs.Tests.{no_from}
+use Rattle.toric_ideal.proofs.Results.{no_from}
 use Rattle.toric_ideal.proofs.LeastWords.{lesser_first, lesser_second}
 use Rattle.toric_ideal.proofs.alphabet.Alphabet.lesser.Goals as goal
 

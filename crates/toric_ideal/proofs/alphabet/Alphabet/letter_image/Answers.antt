@@ -3,7 +3,7 @@ use Rattle.std.proofs.lemmas.Result.{IfOk-weaker}
 use Rattle.monomial_order.specs.Monomial.{variable}
 use Rattle.word_laws.specs.Words.{image_of, word_order_of}
 use Rattle.toric_ideal.specs.Alphabet.{letters_of}
-use Rattle.toric_ideal.proofs.Members.{get_or_any}
+use Rattle.std.proofs.lemmas.List.{get_or_default}
 use Rattle.toric_ideal.proofs.LetterLemmas.{alphabet_letters, image_lead, image_x, places_count}
 use Rattle.toric_ideal.proofs.alphabet.Alphabet.letter_image.Goals as goal
 
@@ -26,4 +26,4 @@ returns-else-place-x_count c =
     let l : j < length leads = omega arith in
     let k : n + j ≡ c.args.place = omega arith in
     IfOk-weaker c.copy.result (λ m. m ≡ c.index.result.now) (λ m. m ≡ image_of L (variable c.args.place))
-    (λ m e. e ∙ (c.index.ensures ∙ (get_or_any leads j c.index.result.now [] l ∙ (sym (image_lead L j) ∙ ap (λ i. image_of L (variable i)) k)))) c.copy.ensures.same
+    (λ m e. e ∙ (c.index.ensures ∙ (get_or_default leads j c.index.result.now [] l ∙ (sym (image_lead L j) ∙ ap (λ i. image_of L (variable i)) k)))) c.copy.ensures.same

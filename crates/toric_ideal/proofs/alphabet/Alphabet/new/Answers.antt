@@ -1,26 +1,22 @@
-use Rattle.std.proofs.Common.{◌≡◌, ◌+◌, ◌<◌, ◌≤◌, ◌∙◌, suc, zero, ℕ, List, [], ◌∷◌, ◌++◌, length, length-append, sym, ap, subst, get_or, take, arith}
-use Rattle.std.specs.Prelude.{map, Contains}
+use Rattle.std.proofs.Common.{◌≡◌, ◌+◌, ◌<◌, ◌≤◌, ◌∙◌, suc, ℕ, List, [], ◌∷◌, ◌++◌, length, length-append, sym, ap, subst, get_or, take, arith}
+use Rattle.std.specs.Prelude.{map}
 use Rattle.monomial_order.specs.Monomial.{weighted_degree}
 use Rattle.word_laws.specs.laws.Images.{weighted_front}
-use Rattle.monomial_order.specs.laws.Lists.{contains_at}
-use Rattle.toric_ideal.specs.Leads.{AreLeads, IsLead}
+use Rattle.std.proofs.Math.Seq.{take-suc}
+use Rattle.std.proofs.lemmas.List.{map-append}
+use Rattle.toric_ideal.specs.Leads.{IsLetterLead}
+use Rattle.toric_ideal.proofs.Members.{item_contained}
 use Rattle.toric_ideal.proofs.alphabet.Alphabet.new.Goals as goal
 
--- the lead at an index, of a list that is also kept elsewhere
-lead_at : (xs : List ℕ) (leads items : List (List ℕ)) (i : ℕ) (m : List ℕ) → items ≡ leads → AreLeads xs leads → i < length items → m ≡ get_or items i m → IsLead xs m
-lead_at xs leads items i m e h l q = h m (subst (λ ms. Contains ms m) e (subst (Contains items) (sym q) (contains_at items i m l)))
-
-in_front : (xs ss ys m : List ℕ) → xs ≡ ys → IsLead ys m → weighted_degree (xs ++ ss) m ≡ weighted_degree ys m
+in_front : (xs ss ys m : List ℕ) → xs ≡ ys → IsLetterLead ys m → weighted_degree (xs ++ ss) m ≡ weighted_degree ys m
 in_front xs ss ys m e h = weighted_front xs ss m (subst (λ zs. length m ≤ length zs) (sym e) h.monomial.within) ∙ ap (λ zs. weighted_degree zs m) e
 
 map_push : (f : List ℕ → ℕ) (ms : List (List ℕ)) (i : ℕ) (m : List ℕ) → i < length ms → m ≡ get_or ms i m → map f (take i ms) ++ f m ∷ [] ≡ map f (take (suc i) ms)
-map_push f [] i m l e = absurd (omega arith)
-map_push f (x ∷ ms) zero m l e = ap (λ y. f y ∷ []) e
-map_push f (x ∷ ms) (suc i) m l e = ap (λ ys. f x ∷ ys) (map_push f ms i m (omega arith) e)
+map_push f ms i m l e = ap (λ x. map f (take i ms) ++ f x ∷ []) e ∙ (sym (map-append f (take i ms) (get_or ms i m ∷ [])) ∙ ap (map f) (sym (take-suc ms i m l)))
 
 pub degree-degree-requires-clause-monomial : goal.degree-degree-requires-clause-monomial
 degree-degree-requires-clause-monomial c =
-    let h = lead_at c.args.x_degrees.now c.args.leads.items c.deref-lead-items.result.now c.leads.lead-index c.lead-item.result c.deref-lead-items.ensures.value c.requires.leads c.leads-test.true c.lead-item.is in
+    let h = c.requires.leads c.lead-item.result (item_contained c.args.leads.items c.deref-lead-items.result.now c.leads.lead-index c.lead-item.result c.deref-lead-items.ensures.value c.leads-test.true c.lead-item.is) in
     record {
       trimmed = h.monomial.trimmed;
       within =
@@ -31,25 +27,25 @@ degree-degree-requires-clause-monomial c =
 
 pub degree-degree-requires-clause-small : goal.degree-degree-requires-clause-small
 degree-degree-requires-clause-small c =
-    let h = lead_at c.args.x_degrees.now c.args.leads.items c.deref-lead-items.result.now c.leads.lead-index c.lead-item.result c.deref-lead-items.ensures.value c.requires.leads c.leads-test.true c.lead-item.is in
+    let h = c.requires.leads c.lead-item.result (item_contained c.args.leads.items c.deref-lead-items.result.now c.leads.lead-index c.lead-item.result c.deref-lead-items.ensures.value c.leads-test.true c.lead-item.is) in
     let e = in_front c.leads.order.x_degrees.items c.leads.order.s_degrees.items c.args.x_degrees.now c.lead-item.result c.leads.invariant.0 h in
     let s = h.small in omega arith
 
 pub push_place-requires-clause-positive : goal.push_place-requires-clause-positive
 push_place-requires-clause-positive c =
-    let h = lead_at c.args.x_degrees.now c.args.leads.items c.deref-lead-items.result.now c.leads.lead-index c.lead-item.result c.deref-lead-items.ensures.value c.requires.leads c.leads-test.true c.lead-item.is in
+    let h = c.requires.leads c.lead-item.result (item_contained c.args.leads.items c.deref-lead-items.result.now c.leads.lead-index c.lead-item.result c.deref-lead-items.ensures.value c.leads-test.true c.lead-item.is) in
     let e = in_front c.leads.order.x_degrees.items c.leads.order.s_degrees.items c.args.x_degrees.now c.lead-item.result c.leads.invariant.0 h in
     let s = h.positive in let d = c.degree-degree.ensures in omega arith
 
 pub push_place-requires-clause-small : goal.push_place-requires-clause-small
 push_place-requires-clause-small c =
-    let h = lead_at c.args.x_degrees.now c.args.leads.items c.deref-lead-items.result.now c.leads.lead-index c.lead-item.result c.deref-lead-items.ensures.value c.requires.leads c.leads-test.true c.lead-item.is in
+    let h = c.requires.leads c.lead-item.result (item_contained c.args.leads.items c.deref-lead-items.result.now c.leads.lead-index c.lead-item.result c.deref-lead-items.ensures.value c.leads-test.true c.lead-item.is) in
     let e = in_front c.leads.order.x_degrees.items c.leads.order.s_degrees.items c.args.x_degrees.now c.lead-item.result c.leads.invariant.0 h in
     let s = h.small in let d = c.degree-degree.ensures in omega arith
 
 pub leads-preserved : goal.leads-preserved
 leads-preserved c =
-    let h = lead_at c.args.x_degrees.now c.args.leads.items c.deref-lead-items.result.now c.leads.lead-index c.lead-item.result c.deref-lead-items.ensures.value c.requires.leads c.leads-test.true c.lead-item.is in
+    let h = c.requires.leads c.lead-item.result (item_contained c.args.leads.items c.deref-lead-items.result.now c.leads.lead-index c.lead-item.result c.deref-lead-items.ensures.value c.leads-test.true c.lead-item.is) in
     let e = in_front c.leads.order.x_degrees.items c.leads.order.s_degrees.items c.args.x_degrees.now c.lead-item.result c.leads.invariant.0 h in (
       c.push_place.ensures.x ∙ c.leads.invariant.0,
       c.in_ok-push_place.ensures.s ∙

@@ -1,16 +1,13 @@
-use Rattle.std.proofs.Common.{◌≡◌, ◌<◌, ◌+◌, suc, List, ℕ, sym, subst, length, get_or, arith}
-use Rattle.std.specs.Prelude.{Contains}
-use Rattle.monomial_order.specs.laws.Lists.{contains_at}
+use Rattle.std.proofs.Common.{◌≡◌, ◌+◌, suc, sym, subst, arith}
+use Rattle.toric_ideal.proofs.Members.{item_contained}
 use Rattle.toric_ideal.proofs.TableSteps.{rules_next, AreRulesSoFar}
 use Rattle.toric_ideal.proofs.table.Table.next_rules.Goals as goal
 
-member : (words items : List (List ℕ)) (i : ℕ) (w : List ℕ) → items ≡ words → i < length items → w ≡ get_or items i w → Contains words w
-member words items i w e l q = subst (λ ws. Contains ws w) e (subst (Contains items) (sym q) (contains_at items i w l))
-
 pub rule-requires-clause-word : goal.rule-requires-clause-word
 rule-requires-clause-word c =
-    (c.in_ok-words.ensures.next.minimal c.word-item.result
-    (member c.in_ok-words.words.items c.deref-word-items.result.now c.words.word-index c.word-item.result c.deref-word-items.ensures.value c.words-test.true c.word-item.is)).word
+    let next = c.in_ok-words.ensures.next in
+    let h = item_contained c.in_ok-words.words.items c.deref-word-items.result.now c.words.word-index c.word-item.result c.deref-word-items.ensures.value c.words-test.true c.word-item.is in
+    record { monomial = (next.minimal c.word-item.result h).word; small = let d = next.degree c.word-item.result h in let s = c.requires.small in omega arith }
 
 pub words-preserved : goal.words-preserved
 words-preserved c =

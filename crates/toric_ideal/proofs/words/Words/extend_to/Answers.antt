@@ -3,8 +3,8 @@ use Rattle.toric_ideal.specs.Listing.{AgreeTo, Listing}
 use Rattle.toric_ideal.proofs.OtherLeads.{leads_low}
 use Rattle.toric_ideal.proofs.words.Words.extend_to.Goals as goal
 
-pub extended-requires-clause-parted : goal.extended-requires-clause-parted
-extended-requires-clause-parted c = leads_low c.self.inside.table c.self.inside.below c.self.invariant
+pub extended-requires-clause-low : goal.extended-requires-clause-low
+extended-requires-clause-low c = leads_low c.self.inside.table c.self.inside.settled_count c.self.invariant
 
 pub extended-requires-clause-agree : goal.extended-requires-clause-agree
 extended-requires-clause-agree c =

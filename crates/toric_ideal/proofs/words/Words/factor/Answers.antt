@@ -12,5 +12,5 @@ factor-requires-clause-small c =
     let h : IsMonomial (length t.alphabet.order.x_degrees.items) c.args.m.now = subst (λ (W : Listing). IsMonomial (length W.letters.degrees) c.args.m.now) (sym c.self.view_is) c.requires.monomial in
     let d : weighted_degree t.alphabet.order.x_degrees.items c.args.m.now ≤ t.degree = subst (λ (W : Listing). weighted_degree W.letters.degrees c.args.m.now ≤ W.degree) (sym c.self.view_is) c.requires.degree in
     let e = degree_x (letters_of t.alphabet) (alphabet_letters t.alphabet c.self.invariant.alphabet) c.args.m.now h in
-    let s = c.self.invariant.kept.small in
+    let s = c.self.invariant.listing.small in
     omega arith

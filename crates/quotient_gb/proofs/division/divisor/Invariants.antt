@@ -1,7 +1,0 @@
-use Rattle.std.proofs.Common.{ℕ, ◌<◌, [], slice_index_or}
-use Rattle.monomial_order.specs.Monomial.{Divides}
-use Rattle.quotient_gb.proofs.division.divisor.Given as goal
-
--- no lead so far divides m
-abbrev pub invariant-search : goal.invariant-search
-invariant-search l = (k : ℕ) → k < l.i → Divides (slice_index_or l.leads k []) l.m → ⊥

@@ -1,6 +1,0 @@
-use Rattle.quotient_gb.proofs.Bases.{reducer}
-use Rattle.quotient_gb.proofs.Pairs.{joined_coprime}
-use Rattle.quotient_gb.proofs.laws.coprime_pair_is_joined.Goals as goal
-
-pub returns : goal.returns
-returns g c = λ P H G members x y hx hy co. joined_coprime P.field H.field P.order H.order G (reducer P H G members) x y hx hy co
