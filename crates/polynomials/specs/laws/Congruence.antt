@@ -2,7 +2,6 @@
 use Rattle.std.proofs.Common.{◌≡◌, ℕ, refl, sym, ◌∙◌, ap, List, [], ◌∷◌, ◌++◌}
 use Rattle.word_field.specs.Field.{FieldOps, IsField, IsValue}
 use Rattle.word_field.specs.laws.Field.{negate-negate, zero-plus-zero, negate-zero, negate-plus, plus_four, negate-plus_cancel, plus_is_zero, negate-times, one-times}
-use Rattle.monomial_order.specs.declared.terms.Term.{Term}
 use Rattle.polynomials.specs.Polynomial.{Polynomial, coefficient, Same, times, negated, minus, constant, IsPoly}
 use Rattle.polynomials.specs.Ideal.{InIdeal, Congruent}
 use Rattle.polynomials.specs.laws.Ring.{coefficient_value, coefficient-append, times_assoc, times_plus, times_comm}
