@@ -18,6 +18,7 @@ use Rattle.polynomial_text.specs.declared.text_kind.TextKind.{TextKind}
 use Rattle.polynomial_text.specs.declared.text_kind.TextKind.TheVariants.{PolySyntax, DegreeTooLarge}
 use Rattle.polynomial_text.specs.Results.{◌>>=◌, along, each}
 use Rattle.polynomial_text.specs.Blanks.{is_blank}
+use Rattle.polynomial_text.specs.Degrees.{IsLow}
 use Rattle.polynomial_text.specs.Digits.{is_digit}
 use Rattle.polynomial_text.specs.PolyLine.{front, behind, number_at, exponent_at, power, place_of, is_named, power_at, factor_at, with_factor, term_at, behind_sign, signed_parts, terms_of, IsPolyOf}
 use Rattle.polynomial_text.specs.Canonical.{AreDifferent, IsCanonical}
@@ -163,7 +164,7 @@ module _ {E : Type 0} (K : FieldOps E) (O : MonomialOrder) (names : Names) where
   all_named [] h = tt
   all_named (t ∷ p) h = (h.0.named, all_named p h.1)
 
-  all_small : (p : List (Term E)) → AllAt IsReadable p → AllAt (λ m. O.degree m ≤ 30000) p
+  all_small : (p : List (Term E)) → AllAt IsReadable p → IsLow O p
   all_small [] h = tt
   all_small (t ∷ p) h = (h.0.small, all_small p h.1)
 
@@ -176,9 +177,12 @@ module _ {E : Type 0} (K : FieldOps E) (F : IsField K) (O : MonomialOrder) (L : 
   pub poly_named : (p : List (Term E)) → IsPolyOf K O names line p → AreNamed names p
   poly_named p h = all_named K O names p (readable p h)
 
+  pub poly_low : (p : List (Term E)) → IsPolyOf K O names line p → IsLow O p
+  poly_low p h = all_small K O names p (readable p h)
+
   -- the polynomial of a line that is its text
   pub canonical_found : (p : List (Term E)) → IsPolyOf K O names line p → line ≡ poly_text K names p → IsCanonical K O names line p
-  canonical_found p h text = record { kept = h.kept; named = poly_named p h; small = all_small K O names p (readable p h); text = text }
+  canonical_found p h text = record { kept = h.kept; named = poly_named p h; small = poly_low p h; text = text }
 
   module _ (few : K.size ≤ 2 ^ 32) (D : AreDifferent O.places names) where
     -- a line that is the text of a polynomial has no fault

@@ -4,6 +4,7 @@ pub mod CanonicalFactors
 pub mod CanonicalParts
 pub mod CanonicalPoly
 pub mod CanonicalTerms
+pub mod Degrees
 pub mod Digits
 pub mod LineReading
 pub mod PolyLine

@@ -1,6 +1,7 @@
 //! Polynomials in lines.
 ghost use Rattle.std.specs.Prelude.{IfOk, IfErr};
 ghost use Rattle.polynomial_text.specs.Canonical.{AreDifferent, IsLineFaultOf};
+ghost use Rattle.polynomial_text.specs.Degrees.{IsLow};
 ghost use Rattle.polynomial_text.specs.PolyLine.{IsPolyOf, terms_of};
 
 use crate::line_fault::LineFault;
@@ -23,6 +24,7 @@ pub fn read_poly<F: Field, O: Order>(
 ) -> Result<Poly<F>, LineFault>
     requires { AreDifferent (O.order o.now).places names.now }
     ensures read { IfOk result (IsPolyOf (F.ops f.now) (O.order o.now) names.now line.now) }
+    ensures low { IfOk result (IsLow (O.order o.now)) }
     ensures fault { IfErr result (IsLineFaultOf (terms_of (F.ops f.now) (O.order o.now) names.now line.now)) }
 {
     let mut stack = Vec::new(alloc);

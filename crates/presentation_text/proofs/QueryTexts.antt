@@ -1,7 +1,9 @@
 -- The polynomials of a query file, one after the other.
 use Rattle.std.proofs.Common.{◌≡◌, ℕ, List, [], ◌∷◌, ◌++◌, Result, Ok, Err, refl, sym, ap, subst, ◌∙◌, append_assoc}
-use Rattle.std.specs.Prelude.{IfOk, IfErr}
+use Rattle.std.specs.Prelude.{All, IfOk, IfErr}
+use Rattle.std.specs.List.{AllByRecursion}
 use Rattle.std.proofs.lemmas.List.{append-nil}
+use Rattle.std.proofs.lemmas.List.Elements.{All-from_recursion}
 use Rattle.word_field.specs.Field.{FieldOps}
 use Rattle.monomial_order.specs.declared.Term.{Term}
 use Rattle.monomial_order.specs.MonomialOrder.{MonomialOrder}
@@ -10,6 +12,7 @@ use Rattle.polynomial_text.specs.declared.line_fault.LineFault.{LineFault}
 use Rattle.presentation_text.specs.declared.text_fault.TextFault.{TextFault}
 use Rattle.presentation_text.specs.declared.text_fault.TextFault.TheVariants as faults
 use Rattle.polynomial_text.specs.Results.{◌>>=◌, Fault, each}
+use Rattle.polynomial_text.specs.Degrees.{IsLow}
 use Rattle.polynomial_text.specs.PolyLine.{terms_of, IsPolyOf}
 use Rattle.presentation_text.specs.Reading.{Line, at_line, queries}
 use Rattle.polynomial_text.specs.Canonical.{IsLineFaultOf}
@@ -17,6 +20,12 @@ use Rattle.presentation_text.specs.Meaning.{AreSums, AreQueries, IsFaultOf}
 use Rattle.presentation_text.specs.Giving.{fault_at, located}
 use Rattle.presentation_text.specs.Pending.{Pending, pending}
 use Rattle.presentation_text.proofs.NextLines.{at_ok, at_err}
+use Rattle.presentation_text.proofs.TextWords.{all_append}
+
+-- what was made of a line
+pub located_ok : {A : Type 0} (P : A → Type 0) (number : ℕ) (r : Result A LineFault) (x : A) → Ok x ≡ located number r → IfOk r P → P x
+located_ok P number (Ok y) x is h = let same : y ≡ x = cc in subst P same h
+located_ok P number (Err e) x is h = absurd cc
 
 module _ {E : Type 0} (K : FieldOps E) (O : MonomialOrder) (names : Names) where
   -- what was read before, and what is still read
@@ -45,17 +54,18 @@ module _ {E : Type 0} (K : FieldOps E) (O : MonomialOrder) (names : Names) where
     pub sums : List (List (Term E))
     pub is : with_sums sums (sums_of ls) ≡ queries K O names text
     pub same : AreSums K O sums ps
+    pub low : AllByRecursion (IsLow O) ps
 
   pub come_first : (text : List ℕ) (l : Pending) → l ≡ pending 1 text → HaveCome l.due text []
-  come_first text l e = record { sums = []; is = none_before (sums_of l.due) ∙ rw e refl; same = tt }
+  come_first text l e = record { sums = []; is = none_before (sums_of l.due) ∙ rw e refl; same = tt; low = tt }
 
   pub come_next : (number : ℕ) (bytes : List ℕ) (ls rest : List Line) (text : List ℕ) (ps : List (List (Term E))) (p : List (Term E))
-      → ls ≡ (number, bytes) ∷ rest → HaveCome ls text ps → IsPolyOf K O names bytes p → HaveCome rest text (ps ++ p ∷ [])
+      → ls ≡ (number, bytes) ∷ rest → HaveCome ls text ps → IsPolyOf K O names bytes p → IsLow O p → HaveCome rest text (ps ++ p ∷ [])
   unfolding each
-  come_next number bytes ls rest text ps p split h s =
+  come_next number bytes ls rest text ps p split h s low =
       let first : at_line (terms_of K O names) (number, bytes) ≡ Ok s.terms = at_ok (terms_of K O names) number bytes s.terms s.read in
       let step : with_sums h.sums (sums_of ls) ≡ with_sums (h.sums ++ s.terms ∷ []) (sums_of rest) = rw (split, first) (regroup h.sums s.terms (sums_of rest)) in
-      record { sums = h.sums ++ s.terms ∷ []; is = sym step ∙ h.is; same = sums_push h.sums ps s.terms p h.same (s.sum, s.kept, tt) }
+      record { sums = h.sums ++ s.terms ∷ []; is = sym step ∙ h.is; same = sums_push h.sums ps s.terms p h.same (s.sum, s.kept, tt); low = all_append (IsLow O) ps (p ∷ []) h.low (low, tt) }
 
   pub come_stop : (number : ℕ) (bytes : List ℕ) (ls rest : List Line) (text : List ℕ) (ps : List (List (Term E))) (e : LineFault)
       → ls ≡ (number, bytes) ∷ rest → HaveCome ls text ps → IsLineFaultOf (terms_of K O names bytes) e → IsFaultOf (queries K O names text) (fault_at number e)
@@ -74,9 +84,8 @@ module _ {E : Type 0} (K : FieldOps E) (O : MonomialOrder) (names : Names) where
       let step : with_sums h.sums (sums_of ls) ≡ Ok h.sums = rw none (ap (λ (l : List (List (Term E))). Ok l) (append-nil h.sums)) in
       record { sums = h.sums; read = sym h.is ∙ step; polys = h.same }
 
-  pub located_ok : (number : ℕ) (bytes : List ℕ) (r : Result (List (Term E)) LineFault) (p : List (Term E)) → Ok p ≡ located number r → IfOk r (IsPolyOf K O names bytes) → IsPolyOf K O names bytes p
-  located_ok number bytes (Ok q) p is h = let same : q ≡ p = cc in subst (IsPolyOf K O names bytes) same h
-  located_ok number bytes (Err e) p is h = absurd cc
+  pub come_low : (ls : List Line) (text : List ℕ) (ps : List (List (Term E))) → HaveCome ls text ps → All (IsLow O) ps
+  come_low ls text ps h = All-from_recursion (IsLow O) ps h.low
 
   pub located_stop : (number : ℕ) (bytes : List ℕ) (ls rest : List Line) (text : List ℕ) (ps : List (List (Term E))) (r : Result (List (Term E)) LineFault) (e : TextFault)
       → ls ≡ (number, bytes) ∷ rest → HaveCome ls text ps → Err e ≡ located number r → IfErr r (IsLineFaultOf (terms_of K O names bytes)) → IsFaultOf (queries K O names text) e

@@ -1,6 +1,7 @@
 //! Reading query files.
-ghost use Rattle.std.specs.Prelude.{◌≤◌, IfOk, IfErr, length};
+ghost use Rattle.std.specs.Prelude.{◌≤◌, All, IfOk, IfErr, length};
 ghost use Rattle.poly_core.specs.Presentation.{IsValid, order_of};
+ghost use Rattle.polynomial_text.specs.Degrees.{IsLow};
 ghost use Rattle.presentation_text.specs.Meaning.{text_max, AreQueries, IsFaultOf};
 ghost use Rattle.presentation_text.specs.Reading.{queries};
 
@@ -23,6 +24,7 @@ pub fn read_polys<F: Field>(
     requires valid { IsValid F.ops order_of p.now }
     requires short { length bytes.now ≤ text_max }
     ensures accepted { IfOk result (λ polys. AreQueries (F.ops p.now.field) (order_of p.now.order) p.now.names bytes.now polys.items) }
+    ensures low { IfOk result (λ polys. All (IsLow (order_of p.now.order)) polys.items) }
     ensures refused { IfErr result (IsFaultOf (queries (F.ops p.now.field) (order_of p.now.order) p.now.names bytes.now)) }
 {
     let mut lines = Lines::new(bytes);

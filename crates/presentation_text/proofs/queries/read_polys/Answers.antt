@@ -1,6 +1,8 @@
 use Rattle.std.proofs.lemmas.Result.{err_from_is_err_and}
 use Rattle.poly_core.specs.Presentation.{order_of}
-use Rattle.presentation_text.proofs.QueryTexts.{come_first, come_next, come_all, located_ok, located_stop}
+use Rattle.polynomial_text.specs.Degrees.{IsLow}
+use Rattle.polynomial_text.specs.PolyLine.{IsPolyOf}
+use Rattle.presentation_text.proofs.QueryTexts.{come_first, come_next, come_all, come_low, located_ok, located_stop}
 use Rattle.presentation_text.proofs.TableNames.{are_different_names}
 use Rattle.presentation_text.proofs.queries.read_polys.Goals as goal
 
@@ -20,8 +22,13 @@ pub loop-line-preserved : goal.loop-line-preserved
 loop-line-preserved g c =
     rw (rw c.in_ok-push.was at c.push.ensures.items)
     (come_next (g.F.Field.ops c.args.p.now.field) (order_of c.args.p.now.order) c.args.p.now.names c.in-Ok.line.number c.in-Ok.line.bytes.now c.loop-line.lines.due c.next_due.new.self.due c.args.bytes.now c.loop-line.polys.items c.in_ok-poly.poly c.in-Ok.ensures.due c.loop-line.invariant
-    (located_ok (g.F.Field.ops c.args.p.now.field) (order_of c.args.p.now.order) c.args.p.now.names c.in-Ok.line.number c.in-Ok.line.bytes.now c.read_poly-read.result c.in_ok-poly.poly c.in_ok-poly.ensures c.read_poly-read.ensures.read))
+    (located_ok (IsPolyOf (g.F.Field.ops c.args.p.now.field) (order_of c.args.p.now.order) c.args.p.now.names c.in-Ok.line.bytes.now) c.in-Ok.line.number c.read_poly-read.result c.in_ok-poly.poly c.in_ok-poly.ensures c.read_poly-read.ensures.read)
+    (located_ok (IsLow (order_of c.args.p.now.order)) c.in-Ok.line.number c.read_poly-read.result c.in_ok-poly.poly c.in_ok-poly.ensures c.read_poly-read.ensures.low))
 
 pub returns-clause-accepted : goal.returns-clause-accepted
 returns-clause-accepted g c =
     come_all (g.F.Field.ops c.args.p.now.field) (order_of c.args.p.now.order) c.args.p.now.names c.loop-line.lines.due c.args.bytes.now c.loop-line.polys.items c.in_default.ensures.none.0 c.loop-line.invariant
+
+pub returns-clause-low : goal.returns-clause-low
+returns-clause-low g c =
+    come_low (g.F.Field.ops c.args.p.now.field) (order_of c.args.p.now.order) c.args.p.now.names c.loop-line.lines.due c.args.bytes.now c.loop-line.polys.items c.loop-line.invariant
