@@ -9,11 +9,11 @@ use Rattle.poly_core.specs.Text.{poly_text, AreNamed}
 use Rattle.poly_core.specs.declared.names.Names.{Names}
 use Rattle.polynomial_text.specs.declared.line_fault.LineFault.{LineFault}
 use Rattle.polynomial_text.specs.declared.line_fault.LineFault.TheVariants as line_faults
-use Rattle.polynomial_text.specs.declared.text_kind.TextKind.{TextKind}
+use Rattle.polynomial_text.specs.declared.line_fault.LineKind.{LineKind}
 use Rattle.polynomial_text.specs.Degrees.{IsLow}
 
 -- the fault that a line has, unless memory runs out
-abbrev pub IsLineFaultOf : {A : Type 0} → Result A TextKind → LineFault → Type 0
+abbrev pub IsLineFaultOf : {A : Type 0} → Result A LineKind → LineFault → Type 0
 IsLineFaultOf read line_faults.Memory = Unit {0}
 IsLineFaultOf read (line_faults.Kind kind) = read ≡ Err kind
 
@@ -23,13 +23,13 @@ pub record AreDifferent (n : ℕ) (names : Names) : Type 0 where
   pub differ : (i j : ℕ) → i < n → j < n → IsSome (name_at names i) → name_at names i ≡ name_at names j → i ≡ j
 
 -- the line is the canonical text of the polynomial, which falls in the order, has a name for each place, and is low
-pub record IsCanonical {E : Type 0} (K : FieldOps E) (O : MonomialOrder) (names : Names) (line : List ℕ) (p : List (Term E)) : Type 0 where
-  pub kept : IsKept K O p
+pub record IsCanonicalText {E : Type 0} (K : FieldOps E) (O : MonomialOrder) (names : Names) (line : List ℕ) (p : List (Term E)) : Type 0 where
+  pub canonical : IsKept K O p
   pub named : AreNamed names p
   pub small : IsLow O p
   pub text : line ≡ poly_text K names p
 
--- the polynomial whose canonical text the line is, or None where it is the text of none
+-- the polynomial whose canonical text the line is, or None if it is the text of none
 abbrev pub IsCanonicalReading : {E : Type 0} → FieldOps E → MonomialOrder → Names → List ℕ → Option (List (Term E)) → Type 0
-IsCanonicalReading K O names line (Some p) = IsCanonical K O names line p
-IsCanonicalReading {E} K O names line None = (p : List (Term E)) → IsCanonical K O names line p → ⊥
+IsCanonicalReading K O names line (Some p) = IsCanonicalText K O names line p
+IsCanonicalReading {E} K O names line None = (p : List (Term E)) → IsCanonicalText K O names line p → ⊥

@@ -1,11 +1,7 @@
-pub mod Blanks
+pub mod Bytes
 pub mod Canonical
-pub mod CanonicalFactors
-pub mod CanonicalParts
-pub mod CanonicalPoly
-pub mod CanonicalTerms
 pub mod Degrees
-pub mod Digits
 pub mod LineReading
 pub mod PolyLine
 pub mod Results
+pub mod laws

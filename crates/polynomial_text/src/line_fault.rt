@@ -1,16 +1,30 @@
-//! Why a line was not read.
+//! Why the line of a polynomial was not read.
 ghost use Rattle.std.specs.Prelude.{◌≡◌};
 ghost use Rattle.polynomial_text.specs.declared.line_fault.LineFault.TheVariants.{Memory};
 
-use crate::text_kind::TextKind;
 use monomial_order::Memory;
 use std::alloc::{AllocError, AllocFailed};
 
-/// Why a line was not read.
+/// What is wrong with the line of a polynomial.
+#[derive(Clone, Copy, Debug, PartialEq, Eq)]
+pub enum LineKind {
+    /// The line has not the form of a polynomial.
+    PolySyntax,
+    /// A name is none of the variables.
+    UnknownName,
+    /// A number has more digits than `DIGITS_MAX`.
+    NumberTooLong,
+    /// A factor brings the degree of its term above `DEGREE_MAX`.
+    DegreeTooLarge,
+}
+
+/// Why the line of a polynomial was not read.
 #[derive(Clone, Copy)]
 pub enum LineFault {
+    /// Out of memory.
     Memory,
-    Kind(TextKind),
+    /// The first fault of the line.
+    Kind(LineKind),
 }
 
 impl From<Memory> for LineFault {

@@ -1,7 +1,7 @@
 //! Sums of many terms.
 ghost use Rattle.std.specs.Prelude.{◌≡◌, ◌++◌, ◌∷◌, ◌≤◌, [], length, IfOk, OnOk, IsNone, IfSome};
 ghost use Rattle.poly_core.specs.Poly.{IsKept, Same};
-ghost use Rattle.polynomial_text.specs.LineReading.{AreKept, IsSmallTerm, terms_together};
+ghost use Rattle.polynomial_text.specs.LineReading.{AreCanonical, IsSmallTerm, terms_together};
 
 use monomial_order::{Memory, Order, Term};
 use poly_core::poly::Poly;
@@ -28,9 +28,9 @@ fn push_poly<F: Field, O: Order>(
     stack: &mut Vec<Poly<F>>,
     p: Poly<F>,
 ) -> Result<(), Memory>
-    requires stack { AreKept (F.ops f.now) (O.order o.now) stack.old.items }
+    requires stack { AreCanonical (F.ops f.now) (O.order o.now) stack.old.items }
     requires p { IsKept (F.ops f.now) (O.order o.now) p }
-    ensures kept { OnOk result (AreKept (F.ops f.now) (O.order o.now) stack.new.items) }
+    ensures canonical { OnOk result (AreCanonical (F.ops f.now) (O.order o.now) stack.new.items) }
     ensures sum { OnOk result (Same (F.ops f.now) (terms_together stack.new.items) (terms_together stack.old.items ++ p)) }
 {
     let mut sum = p;
@@ -49,9 +49,9 @@ pub(crate) fn push_term<F: Field, O: Order>(
     stack: &mut Vec<Poly<F>>,
     t: Term<F::Elem>,
 ) -> Result<(), Memory>
-    requires stack { AreKept (F.ops f.now) (O.order o.now) stack.old.items }
+    requires stack { AreCanonical (F.ops f.now) (O.order o.now) stack.old.items }
     requires term { IsSmallTerm (F.ops f.now) (O.order o.now) t }
-    ensures kept { OnOk result (AreKept (F.ops f.now) (O.order o.now) stack.new.items) }
+    ensures canonical { OnOk result (AreCanonical (F.ops f.now) (O.order o.now) stack.new.items) }
     ensures sum { OnOk result (Same (F.ops f.now) (terms_together stack.new.items) (terms_together stack.old.items ++ (t ∷ []))) }
 {
     let p = Poly::term(alloc, f, t.at, t.by)?;
@@ -65,8 +65,8 @@ pub(crate) fn total<F: Field, O: Order>(
     o: &O,
     mut stack: Vec<Poly<F>>,
 ) -> Result<Poly<F>, Memory>
-    requires { AreKept (F.ops f.now) (O.order o.now) stack.items }
-    ensures kept { IfOk result (IsKept (F.ops f.now) (O.order o.now)) }
+    requires { AreCanonical (F.ops f.now) (O.order o.now) stack.items }
+    ensures canonical { IfOk result (IsKept (F.ops f.now) (O.order o.now)) }
     ensures sum { IfOk result (λ p. Same (F.ops f.now) p (terms_together stack.items)) }
 {
     let mut sum = Poly::zero(alloc);

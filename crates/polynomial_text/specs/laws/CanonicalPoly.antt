@@ -1,4 +1,4 @@
--- The canonical text of a polynomial is one due line, and is read as the polynomial.
+-- The canonical text of a polynomial is one line that is not skipped, and is read as the polynomial.
 use Rattle.std.proofs.Common.{◌≡◌, ℕ, ◌≤◌, ◌^◌, Bool, cond, List, [], ◌∷◌, ◌++◌, map, not, ◌==◌, true, false, Ok, codes, refl, sym, ap, ◌∙◌, arith}
 use Rattle.std.specs.List.{list_all, AllByRecursion}
 use Rattle.std.specs.Fmt.{decimal}
@@ -9,14 +9,15 @@ use Rattle.monomial_order.specs.declared.Term.{Term}
 use Rattle.monomial_order.specs.MonomialOrder.{MonomialOrder, IsMonomialOrder}
 use Rattle.poly_core.specs.declared.names.Names.{Names}
 use Rattle.poly_core.specs.Names.{is_name_byte}
-use Rattle.poly_core.specs.Poly.{same_monomial, coefficient, term_of, Same, Falls, IsKept, AllAt}
+use Rattle.poly_core.specs.Poly.{same_monomial, coefficient, term_of, Same, Falls, IsKept}
 use Rattle.poly_core.specs.Text.{join, term_text, poly_text, AreNamed}
 use Rattle.polynomial_text.specs.Results.{each}
-use Rattle.polynomial_text.specs.Blanks.{is_blank, is_skipped}
+use Rattle.polynomial_text.specs.Bytes.{is_blank, is_sign, is_skipped, behind}
+use Rattle.polynomial_text.specs.Degrees.{IsLow}
 use Rattle.polynomial_text.specs.PolyLine.{term_at, behind_sign, terms_of}
 use Rattle.polynomial_text.specs.Canonical.{AreDifferent}
-use Rattle.polynomial_text.specs.CanonicalParts.{Begins, begins_append, all_append, all_weaker, lack_from, differs, name_no_blank, is_term_byte, is_sign, term_no_sign, Lack, spaced, parts_joined}
-use Rattle.polynomial_text.specs.CanonicalTerms.{IsTextOfTerm, text_of_term, degree_one}
+use Rattle.polynomial_text.specs.laws.CanonicalParts.{Begins, begins_append, all_append, all_weaker, lack_from, differs, name_no_blank, is_term_byte, term_no_sign, Lack, spaced, parts_joined}
+use Rattle.polynomial_text.specs.laws.CanonicalTerms.{IsTextOfTerm, text_of_term, degree_one}
 
 not_blank : (x ys : List ℕ) → Begins is_name_byte x → list_all is_blank (x ++ ys) ≡ false
 not_blank [] ys h = absurd h
@@ -37,10 +38,10 @@ join_bytes [] h = refl
 join_bytes (x ∷ []) h = all_weaker is_term_byte is_line_byte term_in_line x h.0
 join_bytes (x ∷ (y ∷ ys)) h = all_append is_line_byte x (codes " + " ++ join (codes " + ") (y ∷ ys)) (all_weaker is_term_byte is_line_byte term_in_line x h.0) (join_bytes (y ∷ ys) h.1)
 
-due : (bytes : List ℕ) → Begins is_name_byte bytes → is_skipped bytes ≡ false
-unfolding is_skipped
-due [] h = absurd h
-due (b ∷ bytes) h = rw (name_no_blank b h, differs is_name_byte 35 refl b h) refl
+not_skipped : (bytes : List ℕ) → Begins is_name_byte bytes → is_skipped bytes ≡ false
+unfolding behind
+not_skipped [] h = absurd h
+not_skipped (b ∷ bytes) h = rw (name_no_blank b h, differs is_name_byte 35 refl b h) refl
 
 behind_spaced : (x : List ℕ) (xs : List (List ℕ)) → Begins is_name_byte x → behind_sign (spaced [] x xs) ≡ spaced [] x xs
 behind_spaced x [] h = refl
@@ -75,7 +76,7 @@ module _ {E : Type 0} (K : FieldOps E) (O : MonomialOrder) (names : Names) where
       ∙ each_read [] t p refl h
 
 module _ {E : Type 0} (K : FieldOps E) (F : IsField K) (few : K.size ≤ 2 ^ 32) (O : MonomialOrder) (L : IsMonomialOrder O) (names : Names) (D : AreDifferent O.places names) where
-  texts : (p : List (Term E)) → Falls K O p → AreNamed names p → AllAt (λ m. O.degree m ≤ 30000) p → AreTexts K O names p
+  texts : (p : List (Term E)) → Falls K O p → AreNamed names p → IsLow O p → AreTexts K O names p
   texts [] falls named small = tt
   texts (t ∷ p) falls named small =
       (text_of_term K F few O L names D t (record { term = falls.0.term; named = named.0; small = small.0 }), texts p falls.1 named.1 small.1)
@@ -100,19 +101,19 @@ module _ {E : Type 0} (K : FieldOps E) (F : IsField K) (few : K.size ≤ 2 ^ 32)
       by_test false = sym (zero-plus-zero K F)
 
   -- it is read as terms whose sum is the polynomial
-  pub canonical_terms : (p : List (Term E)) → IsKept K O p → AreNamed names p → AllAt (λ m. O.degree m ≤ 30000) p →
+  pub canonical_terms : (p : List (Term E)) → IsKept K O p → AreNamed names p → IsLow O p →
       (ts : List (Term E)) × (terms_of K O names (poly_text K names p) ≡ Ok ts) × Same K p ts
-  canonical_terms [] kept named small = (term_of [] K.zero ∷ [], ap (terms_of K O names) (sym zero_is) ∙ written K O names (term_of [] K.zero) [] (zero_text, tt), zero_same)
-  canonical_terms (t ∷ p) kept named small = (t ∷ p, written K O names t p (texts (t ∷ p) kept.falls named small), λ m. refl)
+  canonical_terms [] canonical named small = (term_of [] K.zero ∷ [], ap (terms_of K O names) (sym zero_is) ∙ written K O names (term_of [] K.zero) [] (zero_text, tt), zero_same)
+  canonical_terms (t ∷ p) canonical named small = (t ∷ p, written K O names t p (texts (t ∷ p) canonical.falls named small), λ m. refl)
 
   -- it has no line feed
-  pub canonical_line : (p : List (Term E)) → IsKept K O p → AreNamed names p → AllAt (λ m. O.degree m ≤ 30000) p →
+  pub canonical_line : (p : List (Term E)) → IsKept K O p → AreNamed names p → IsLow O p →
       list_all (λ b. not (b == 10)) (poly_text K names p) ≡ true
-  canonical_line [] kept named small = refl
-  canonical_line (t ∷ p) kept named small = join_bytes (map (term_text K names) (t ∷ p)) (texts_bytes K O names (t ∷ p) (texts (t ∷ p) kept.falls named small))
+  canonical_line [] canonical named small = refl
+  canonical_line (t ∷ p) canonical named small = join_bytes (map (term_text K names) (t ∷ p)) (texts_bytes K O names (t ∷ p) (texts (t ∷ p) canonical.falls named small))
 
-  -- it is due
-  pub canonical_due : (p : List (Term E)) → IsKept K O p → AreNamed names p → AllAt (λ m. O.degree m ≤ 30000) p →
+  -- it is not skipped
+  pub canonical_not_skipped : (p : List (Term E)) → IsKept K O p → AreNamed names p → IsLow O p →
       is_skipped (poly_text K names p) ≡ false
-  canonical_due [] kept named small = due (codes "0") refl
-  canonical_due (t ∷ p) kept named small = due (poly_text K names (t ∷ p)) (begins_join (term_text K names t) (map (term_text K names) p) (texts (t ∷ p) kept.falls named small).0.begins)
+  canonical_not_skipped [] canonical named small = not_skipped (codes "0") refl
+  canonical_not_skipped (t ∷ p) canonical named small = not_skipped (poly_text K names (t ∷ p)) (begins_join (term_text K names t) (map (term_text K names) p) (texts (t ∷ p) canonical.falls named small).0.begins)

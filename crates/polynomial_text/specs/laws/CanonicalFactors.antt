@@ -1,22 +1,21 @@
 -- Factors of canonical texts are read as what they are written for.
-use Rattle.std.proofs.Common.{◌≡◌, ℕ, zero, suc, ◌<◌, ◌≤◌, Bool, true, false, cond, eqb, List, [], ◌∷◌, ◌++◌, Option, Some, None, Ok, IsSome, refl, sym, ap, ◌∙◌, ⊎_elim, append_assoc, arith, le-leb}
+use Rattle.std.proofs.Common.{◌≡◌, ℕ, ◌≤◌, Bool, true, false, cond, eqb, List, [], ◌∷◌, ◌++◌, Some, Ok, refl, ap, ◌∙◌, append_assoc, le-leb}
 use Rattle.std.specs.List.{list_all}
 use Rattle.std.specs.Fmt.{decimal}
-use Rattle.std.proofs.lemmas.Bool.{and_parts, and_from, cases_eq, false_from_ne_true}
-use Rattle.std.proofs.lemmas.Slice.Eq.{bytes_eq-Decides}
+use Rattle.std.proofs.lemmas.Bool.{and_parts, eqb-true}
 use Rattle.word_field.specs.Field.{FieldOps}
 use Rattle.monomial_order.specs.declared.Term.{Term}
 use Rattle.monomial_order.specs.Monomial.{product}
 use Rattle.monomial_order.specs.MonomialOrder.{MonomialOrder}
 use Rattle.poly_core.specs.declared.names.Names.{Names}
-use Rattle.poly_core.specs.Names.{name_at, is_letter, is_name_byte, has_name_form}
+use Rattle.poly_core.specs.Names.{is_letter, is_name_byte, has_name_form}
 use Rattle.poly_core.specs.Poly.{term_of, term_times}
 use Rattle.poly_core.specs.Text.{factor_text}
-use Rattle.polynomial_text.specs.Blanks.{is_blank}
-use Rattle.polynomial_text.specs.Digits.{is_digit}
-use Rattle.polynomial_text.specs.PolyLine.{behind, number_at, exponent_at, power, place_of, is_named, power_at, factor_at, with_factor}
-use Rattle.polynomial_text.specs.Canonical.{AreDifferent}
-use Rattle.polynomial_text.specs.CanonicalParts.{Stops, Begins, all_append, all_weaker, begins_append, stops_from, begins_stops, front_all, behind_all, behind_blanks, is_piece_byte, digit_in_name, name_in_piece, name_no_blank, blank_no_name, blank_no_digit, letter_no_digit, letter_in_name, IsWritten, decimal_digits, decimal_begins, number_decimal}
+use Rattle.polynomial_text.specs.Bytes.{is_blank, is_digit, behind}
+use Rattle.polynomial_text.specs.Degrees.{degree_max}
+use Rattle.polynomial_text.specs.PolyLine.{number_at, exponent_at, power, place_of, power_at, factor_at, with_factor}
+use Rattle.polynomial_text.specs.laws.Names.{letter_in_name, name_bytes}
+use Rattle.polynomial_text.specs.laws.CanonicalParts.{Stops, Begins, all_append, all_weaker, begins_append, stops_from, begins_stops, front_all, behind_all, behind_blanks, is_piece_byte, digit_in_name, name_in_piece, name_no_blank, blank_no_name, blank_no_digit, letter_no_digit, IsWritten, decimal_digits, decimal_begins, number_decimal}
 
 -- ---- exponents
 
@@ -29,31 +28,6 @@ unfolding exponent_at behind
 exponent_some e back h b =
     let first : Stops is_blank (decimal e ++ back) = begins_stops is_digit is_blank (λ c d. name_no_blank c (digit_in_name c d)) (decimal e ++ back) (begins_append is_digit (decimal e) back (decimal_begins e h)) in
     rw (behind_all is_blank [] (decimal e ++ back) refl first) (number_decimal e back h (stops_from is_blank is_digit blank_no_digit back b))
-
--- ---- places
-
-named_is : (found : Option (List ℕ)) (word : List ℕ) → is_named found word ≡ true → found ≡ Some word
-named_is None word h = absurd cc
-named_is (Some name) word h = ap Some ((bytes_eq-Decides name word).0 h)
-
-pub named_itself : (word : List ℕ) → is_named (Some word) word ≡ true
-named_itself word = (bytes_eq-Decides word word).1 refl
-
-module _ (O : MonomialOrder) (names : Names) (D : AreDifferent O.places names) where
-  pub place_found : (n i : ℕ) (name : List ℕ) → i < n → n ≤ O.places → name_at names i ≡ Some name → place_of names n name ≡ Some i
-  unfolding place_of
-  place_found zero i name lt le at = absurd (omega arith)
-  place_found (suc n) i name lt le at =
-      ⊎_elim
-      (λ e. let found : name_at names n ≡ Some name = ap (name_at names) e ∙ at in rw (found, named_itself name) (ap Some e))
-      (λ ne.
-      let missed : is_named (name_at names n) name ≡ false =
-      false_from_ne_true _ (λ h. ne (D.differ n i (omega arith) (omega arith) (some (name_at names n) name (named_is (name_at names n) name h)) (named_is (name_at names n) name h ∙ sym at))) in
-      rw missed (place_found n i name (omega arith) (omega arith) at))
-      (cases_eq n i)
-    where
-      some : (found : Option (List ℕ)) (word : List ℕ) → found ≡ Some word → IsSome found
-      some found word e = rw e refl
 
 -- ---- factors
 
@@ -80,10 +54,6 @@ module _ {E : Type 0} (K : FieldOps E) (O : MonomialOrder) (names : Names) where
     read = λ back b. (back, factor_digits (decimal n) back back n (decimal_begins n h) (number_decimal n back h (stops_from is_blank is_digit blank_no_digit back b)), b);
   }
 
-  name_bytes : (name : List ℕ) → has_name_form name ≡ true → list_all is_name_byte name ≡ true
-  name_bytes [] h = absurd cc
-  name_bytes (b ∷ bytes) h = let a = and_parts (is_letter b) (list_all is_name_byte bytes) h in and_from (is_name_byte b) (list_all is_name_byte bytes) (letter_in_name b a.0) a.1
-
   name_begins : (name : List ℕ) → has_name_form name ≡ true → Begins is_name_byte name
   name_begins [] h = absurd cc
   name_begins (b ∷ bytes) h = letter_in_name b (and_parts (is_letter b) (list_all is_name_byte bytes) h).0
@@ -109,7 +79,7 @@ module _ {E : Type 0} (K : FieldOps E) (O : MonomialOrder) (names : Names) where
         begins = name_begins name form;
         bytes = all_weaker is_name_byte is_piece_byte name_in_piece name (name_bytes name form);
         read = λ back b.
-            let one : e ≡ 1 = Rattle.std.proofs.lemmas.Bool.eqb-true e 1 t in
+            let one : e ≡ 1 = eqb-true e 1 t in
             ([], factor_name name back [] i e form (stops_from is_blank is_name_byte blank_no_name back b) place (rw one (exponent_none back b)), refl);
       }
 
@@ -122,11 +92,11 @@ module _ {E : Type 0} (K : FieldOps E) (O : MonomialOrder) (names : Names) where
       }
 
   -- the product with the factor
-  pub with_piece : (t f : Term E) (lead piece back : List ℕ) → IsPieceOf piece f → O.degree (product t.at f.at) ≤ 30000 → list_all is_blank lead ≡ true → list_all is_blank back ≡ true →
+  pub with_piece : (t f : Term E) (lead piece back : List ℕ) → IsPieceOf piece f → O.degree (product t.at f.at) ≤ degree_max → list_all is_blank lead ≡ true → list_all is_blank back ≡ true →
       with_factor K O names t (lead ++ (piece ++ back)) ≡ Ok (term_times K t f)
   unfolding with_factor
   with_piece t f lead piece back h small l b =
       let first : Stops is_blank (piece ++ back) = begins_stops is_name_byte is_blank name_no_blank (piece ++ back) (begins_append is_name_byte piece back h.begins) in
       let r = h.read back b in
-      let low = le-leb (O.degree (product t.at f.at)) 30000 small in
+      let low = le-leb (O.degree (product t.at f.at)) degree_max small in
       rw (behind_all is_blank lead (piece ++ back) l first, r.1, low, r.2) refl

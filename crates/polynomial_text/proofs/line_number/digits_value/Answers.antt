@@ -1,7 +1,7 @@
 use Rattle.std.proofs.Common.{arith}
 use Rattle.std.proofs.lemmas.Str.Parse.{digit_at}
 use Rattle.polynomial_text.proofs.LineDigits.{are_digits, value_room, value_next}
-use Rattle.polynomial_text.proofs.line_number.value.Goals as goal
+use Rattle.polynomial_text.proofs.line_number.digits_value.Goals as goal
 
 pub overflow_mul-value : goal.overflow_mul-value
 overflow_mul-value c =

@@ -11,9 +11,8 @@ use Rattle.std.proofs.lemmas.List.Elements.{All-from_recursion}
 use Rattle.std.proofs.lemmas.List.Splits.{slice_split_none, slice_split_at}
 use Rattle.poly_core.specs.Names.{is_letter, is_name_byte}
 use Rattle.poly_core.specs.Text.{join}
-use Rattle.polynomial_text.specs.Blanks.{is_blank}
-use Rattle.polynomial_text.specs.Digits.{is_digit}
-use Rattle.polynomial_text.specs.PolyLine.{front, behind, number_at, signed_parts}
+use Rattle.polynomial_text.specs.Bytes.{digits_max, is_blank, is_digit, is_sign, front, behind}
+use Rattle.polynomial_text.specs.PolyLine.{number_at, signed_parts}
 
 -- ---- tests along lists
 
@@ -86,9 +85,6 @@ is_piece_byte b = is_name_byte b || b == 94
 abbrev pub is_term_byte : ℕ → Bool
 is_term_byte b = is_piece_byte b || b == 42
 
-abbrev pub is_sign : ℕ → Bool
-is_sign b = b == 43 || b == 45
-
 pub digit_in_name : (b : ℕ) → is_digit b ≡ true → is_name_byte b ≡ true
 digit_in_name b h = grind (arith, nat_tests)
 
@@ -126,19 +122,16 @@ blank_no_digit b h = grind (arith, nat_tests)
 pub letter_no_digit : (b : ℕ) → is_letter b ≡ true → is_digit b ≡ false
 letter_no_digit b h = grind (arith, nat_tests)
 
-pub letter_in_name : (b : ℕ) → is_letter b ≡ true → is_name_byte b ≡ true
-letter_in_name b h = rw h refl
-
 -- ---- numbers
 
 own : IsNumeralModel (λ ds. list_all is_digit ds ≡ true) (digits_value 10)
 own = numerals_by_value (λ ds. list_all is_digit ds ≡ true) (search rules)
 
-pub number_digits : (ds back : List ℕ) → list_all is_digit ds ≡ true → 0 < length ds → length ds ≤ 18 → Stops is_digit back → number_at (ds ++ back) ≡ Ok (digits_value 10 ds, back)
+pub number_digits : (ds back : List ℕ) → list_all is_digit ds ≡ true → 0 < length ds → length ds ≤ digits_max → Stops is_digit back → number_at (ds ++ back) ≡ Ok (digits_value 10 ds, back)
 unfolding number_at
 number_digits [] back h some few stop = absurd (omega arith)
 number_digits (d ∷ ds) back h some few stop =
-    let short = le-leb (length (d ∷ ds)) 18 few in
+    let short = le-leb (length (d ∷ ds)) digits_max few in
     rw (front_all is_digit (d ∷ ds) back h stop, behind_all is_digit (d ∷ ds) back h stop, short) refl
 
 -- numbers that are written

@@ -14,11 +14,13 @@ use Rattle.poly_core.specs.Names.{name_at, name_of, is_name_byte, has_name_form,
 use Rattle.poly_core.specs.Poly.{term_of, term_times, IsTerm}
 use Rattle.poly_core.specs.Text.{factors, monomial_text, term_text}
 use Rattle.polynomial_text.specs.Results.{along}
-use Rattle.polynomial_text.specs.Blanks.{is_blank}
+use Rattle.polynomial_text.specs.Bytes.{is_blank}
 use Rattle.polynomial_text.specs.PolyLine.{power, place_of, with_factor, term_at}
 use Rattle.polynomial_text.specs.Canonical.{AreDifferent}
-use Rattle.polynomial_text.specs.CanonicalParts.{Begins, begins_append, all_append, all_weaker, lack_from, is_piece_byte, is_term_byte, piece_in_term, piece_no_star, blank_no_star, between, is_star, Lack, split_joined, IsWritten}
-use Rattle.polynomial_text.specs.CanonicalFactors.{place_found, IsPieceOf, number_piece, power_piece, with_piece}
+use Rattle.polynomial_text.specs.laws.CanonicalParts.{Begins, begins_append, all_append, all_weaker, lack_from, is_piece_byte, is_term_byte, piece_in_term, piece_no_star, blank_no_star, between, is_star, Lack, split_joined, IsWritten}
+use Rattle.polynomial_text.specs.Degrees.{degree_max}
+use Rattle.polynomial_text.specs.laws.Names.{place_found}
+use Rattle.polynomial_text.specs.laws.CanonicalFactors.{IsPieceOf, number_piece, power_piece, with_piece}
 
 -- ---- powers and their products
 
@@ -86,13 +88,13 @@ module _ {E : Type 0} (K : FieldOps E) (O : MonomialOrder) (names : Names) where
   ArePieces (x ∷ xs) (f ∷ fs) = IsPieceOf K O names x f × ArePieces xs fs
 
   pub along_pieces : (L : IsMonomialOrder O) (t : Term E) (lead back x : List ℕ) (xs : List (List ℕ)) (f : Term E) (fs : List (Term E)) → list_all is_blank lead ≡ true → list_all is_blank back ≡ true →
-      ArePieces (x ∷ xs) (f ∷ fs) → O.degree (product_of K t (f ∷ fs)).at ≤ 30000 → along (with_factor K O names) t (between lead back x xs) ≡ Ok (product_of K t (f ∷ fs))
+      ArePieces (x ∷ xs) (f ∷ fs) → O.degree (product_of K t (f ∷ fs)).at ≤ degree_max → along (with_factor K O names) t (between lead back x xs) ≡ Ok (product_of K t (f ∷ fs))
   unfolding along
   along_pieces L t lead back x [] f [] l b h small = rw (with_piece K O names t f lead x back h.0 small l b) refl
   along_pieces L t lead back x [] f (g ∷ fs) l b h small = absurd h.1
   along_pieces L t lead back x (y ∷ ys) f [] l b h small = absurd h.1
   along_pieces L t lead back x (y ∷ ys) f (g ∷ fs) l b h small =
-      let low : O.degree (product t.at f.at) ≤ 30000 = omega (arith, small, degree_grows K O L (term_times K t f) (g ∷ fs)) in
+      let low : O.degree (product t.at f.at) ≤ degree_max = omega (arith, small, degree_grows K O L (term_times K t f) (g ∷ fs)) in
       let here = ap (λ w. with_factor K O names t (lead ++ w)) (sym (append-nil x)) ∙ with_piece K O names t f lead x [] h.0 low l refl in
       rw here (along_pieces L (term_times K t f) [] back y ys g fs refl b h.1 small)
 
@@ -118,7 +120,7 @@ module _ {E : Type 0} (K : FieldOps E) (O : MonomialOrder) (names : Names) where
     pub bytes : list_all is_term_byte text ≡ true
     pub read : (lead back : List ℕ) → list_all is_blank lead ≡ true → list_all is_blank back ≡ true → term_at K O names (false, lead ++ (text ++ back)) ≡ Ok t
 
-  pub joined_pieces : (L : IsMonomialOrder O) (x : List ℕ) (xs : List (List ℕ)) (f : Term E) (fs : List (Term E)) → ArePieces (x ∷ xs) (f ∷ fs) → O.degree (product_of K (term_of [] K.one) (f ∷ fs)).at ≤ 30000 →
+  pub joined_pieces : (L : IsMonomialOrder O) (x : List ℕ) (xs : List (List ℕ)) (f : Term E) (fs : List (Term E)) → ArePieces (x ∷ xs) (f ∷ fs) → O.degree (product_of K (term_of [] K.one) (f ∷ fs)).at ≤ degree_max →
       IsTextOfTerm (join_with_byte 42 (x ∷ xs)) (product_of K (term_of [] K.one) (f ∷ fs))
   unfolding term_at
   joined_pieces L x xs f fs h small = record {
@@ -140,17 +142,17 @@ module _ {E : Type 0} (K : FieldOps E) (O : MonomialOrder) (names : Names) (D : 
       given None h = absurd cc
       given (Some x) h = refl
 
-  pub factor_pieces : (i : ℕ) (m : List ℕ) → ((j : ℕ) → exponent m j ≢ 0 → IsSome (name_at names (i + j))) → ((j : ℕ) → exponent m j ≤ 30000) → i + length m ≤ O.places → ArePieces K O names (factors names i m) (powers K i m)
+  pub factor_pieces : (i : ℕ) (m : List ℕ) → ((j : ℕ) → exponent m j ≢ 0 → IsSome (name_at names (i + j))) → ((j : ℕ) → exponent m j ≤ degree_max) → i + length m ≤ O.places → ArePieces K O names (factors names i m) (powers K i m)
   factor_pieces i [] named small le = tt
   factor_pieces i (zero ∷ m) named small le = factor_pieces (suc i) m (λ j ne. subst (λ k. IsSome (name_at names k)) (omega arith) (named (suc j) ne)) (λ j. small (suc j)) (omega arith)
   factor_pieces i (suc e ∷ m) named small le =
       let at : name_at names i ≡ Some (name_of names i) = named_place i (subst (λ k. IsSome (name_at names k)) (omega arith) (named 0 (λ z. absurd (omega arith)))) in
       let form : has_name_form (name_of names i) ≡ true = rw at at (D.form i (omega arith)) in
-      let place : place_of names O.places (name_of names i) ≡ Some i = place_found O names D O.places i (name_of names i) (omega arith) (omega arith) at in
-      (power_piece K O names i (suc e) (name_of names i) form place (let s : suc e ≤ 30000 = small 0 in omega arith), factor_pieces (suc i) m (λ j ne. subst (λ k. IsSome (name_at names k)) (omega arith) (named (suc j) ne)) (λ j. small (suc j)) (omega arith))
+      let place : place_of names O.places (name_of names i) ≡ Some i = place_found O.places names D O.places i (name_of names i) (omega arith) (omega arith) at in
+      (power_piece K O names i (suc e) (name_of names i) form place (let s : suc e ≤ degree_max = small 0 in omega arith), factor_pieces (suc i) m (λ j ne. subst (λ k. IsSome (name_at names k)) (omega arith) (named (suc j) ne)) (λ j. small (suc j)) (omega arith))
 
 module _ {E : Type 0} (K : FieldOps E) (O : MonomialOrder) (L : IsMonomialOrder O) (names : Names) where
-  some_pieces : (xs : List (List ℕ)) (fs : List (Term E)) → 1 ≤ length xs → ArePieces K O names xs fs → O.degree (product_of K (term_of [] K.one) fs).at ≤ 30000 →
+  some_pieces : (xs : List (List ℕ)) (fs : List (Term E)) → 1 ≤ length xs → ArePieces K O names xs fs → O.degree (product_of K (term_of [] K.one) fs).at ≤ degree_max →
       IsTextOfTerm K O names (join_with_byte 42 xs) (product_of K (term_of [] K.one) fs)
   some_pieces [] fs some h small = absurd (omega arith)
   some_pieces (x ∷ xs) [] some h small = absurd h
@@ -170,10 +172,10 @@ factors_some names i (suc e) (f ∷ m) h = omega arith
 pub record IsPrintable {E : Type 0} (K : FieldOps E) (O : MonomialOrder) (names : Names) (t : Term E) : Type 0 where
   pub term : IsTerm K O.places t
   pub named : IsNamed names t.at
-  pub small : O.degree t.at ≤ 30000
+  pub small : O.degree t.at ≤ degree_max
 
 module _ {E : Type 0} (K : FieldOps E) (F : IsField K) (few : K.size ≤ 2 ^ 32) (O : MonomialOrder) (L : IsMonomialOrder O) (names : Names) (D : AreDifferent O.places names) where
-  exponents_small : (m : List ℕ) → length m ≤ O.places → O.degree m ≤ 30000 → (j : ℕ) → exponent m j ≤ 30000
+  exponents_small : (m : List ℕ) → length m ≤ O.places → O.degree m ≤ degree_max → (j : ℕ) → exponent m j ≤ degree_max
   exponents_small m le small j = ⊎_elim (λ lt. le_trans (L.exponent_at_most m j lt) small) (λ ge. let past : exponent m j ≡ 0 = exponent_past m j (omega arith) in omega arith) (cases_lt j O.places)
 
   all_factors : (m : List ℕ) (c : E) → IsPrintable K O names (term_of m c) → ArePieces K O names (factors names 0 m) (powers K 0 m)
@@ -210,8 +212,8 @@ module _ {E : Type 0} (K : FieldOps E) (F : IsField K) (few : K.size ≤ 2 ^ 32)
             (some_pieces K O L names (decimal (K.word c) ∷ factors names 0 (e ∷ m)) (number ∷ powers K 0 (e ∷ m)) (omega arith) (piece, all_factors (e ∷ m) c h) (low is)))
       ] refl
     where
-      low : {t : Term E} → t ≡ term_of (e ∷ m) c → O.degree t.at ≤ 30000
-      low {t} is = subst (λ (u : Term E). O.degree u.at ≤ 30000) (sym is) h.small
+      low : {t : Term E} → t ≡ term_of (e ∷ m) c → O.degree t.at ≤ degree_max
+      low {t} is = subst (λ (u : Term E). O.degree u.at ≤ degree_max) (sym is) h.small
 
   pub text_of_term : (t : Term E) → IsPrintable K O names t → IsTextOfTerm K O names (term_text K names t) t
   text_of_term t h = text_of t.at t.by h
