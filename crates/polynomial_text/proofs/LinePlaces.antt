@@ -12,8 +12,8 @@ use Rattle.std.proofs.lemmas.List.{take_rest}
 use Rattle.std.proofs.lemmas.Str.{IsUtf8-from_ascii}
 use Rattle.std.proofs.lemmas.Str.Parse.{parse_plain, digit_at}
 use Rattle.poly_core.specs.Names.{name_at}
-use Rattle.poly_core.specs.declared.names.Names.{Names}
-use Rattle.poly_core.specs.declared.names.Names.TheVariants.{Numbered, Paired}
+use Rattle.poly_core.specs.declared.place_names.Names.{Names}
+use Rattle.poly_core.specs.declared.place_names.Names.TheVariants.{Numbered, Paired}
 use Rattle.polynomial_text.specs.Canonical.{AreDifferent}
 use Rattle.polynomial_text.specs.laws.Names.{named_is, place_found, name_is_text, one_index}
 use Rattle.polynomial_text.specs.PolyLine.{place_of, is_named}

@@ -1,5 +1,5 @@
 //! In which field, order and names a line is read.
-use poly_core::names::Names;
+use poly_core::Names;
 use std::alloc::Global;
 
 /// In which field, order and names a line is read.

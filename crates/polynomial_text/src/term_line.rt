@@ -2,7 +2,7 @@
 ghost use Rattle.std.specs.Prelude.{◌≡◌, ◌≤◌, ◌<◌, ◌+◌, ◌*◌, ◌&&◌, ℕ, [], nat_le, if◌then◌else◌, IfOk};
 ghost use Rattle.word_field.specs.Field.{IsValue};
 ghost use Rattle.monomial_order.specs.Monomial.{IsMonomial, product};
-ghost use Rattle.poly_core.specs.Poly.{term_times};
+ghost use Rattle.polynomials.specs.Polynomial.{term_times};
 ghost use Rattle.polynomial_text.specs.Canonical.{AreDifferent};
 ghost use Rattle.polynomial_text.specs.Degrees.{degree_max};
 ghost use Rattle.polynomial_text.specs.PolyLine.{power, with_factor, term_at};

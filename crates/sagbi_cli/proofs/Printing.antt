@@ -4,14 +4,15 @@ use Rattle.std.specs.Prelude.{codes}
 use Rattle.std.specs.Fmt.{decimal}
 use Rattle.shelf_io.specs.Sink.{Continues}
 use Rattle.word_field.specs.Field.{FieldOps}
-use Rattle.monomial_order.specs.declared.Term.{Term}
+use Rattle.monomial_order.specs.declared.terms.Term.{Term}
 use Rattle.monomial_order.specs.MonomialOrder.{MonomialOrder}
-use Rattle.poly_core.specs.declared.names.Names.{Names}
+use Rattle.poly_core.specs.declared.place_names.Names.{Names}
 use Rattle.sagbi_cli.specs.declared.report.PrintFault.{PrintFault}
 use Rattle.sagbi_cli.specs.declared.report.PrintFault.TheVariants.{Sink, Memory}
 use Rattle.sagbi_cli.specs.ReportText.{element_line, element_lines, report_text}
 use Rattle.sagbi_cli.specs.Taking.{Prints}
 use Rattle.sagbi_cli.proofs.Putting.{continues-append, front-append, front-after, risen-within}
+use Rattle.polynomials.specs.Polynomial.{Polynomial}
 
 -- a text after one that was taken whole
 pub prints-after : (r : Result (Unit {0}) PrintFault) (xs ys : List ℕ) (f g h : ℕ) (a b d : Option (List ℕ)) → f ≤ g → g ≤ h → Continues a xs b → Prints r ys g h b d → Prints r (xs ++ ys) f h a d
@@ -32,7 +33,7 @@ prints-stopped e all front line more f g h a b d is fg gh p q =
 
 module _ {E : Type 0} (K : FieldOps E) (O : MonomialOrder) (names : Names) where
   -- the lines from an element on are its line and those after it
-  pub next-line : (all front : List ℕ) (basis : List (List (Term E))) (i : ℕ) (s : List (Term E)) → i < length basis → s ≡ get_or basis i s
+  pub next-line : (all front : List ℕ) (basis : List (Polynomial E)) (i : ℕ) (s : Polynomial E) → i < length basis → s ≡ get_or basis i s
       → all ≡ front ++ element_lines K O names (i + 1) (drop i basis)
       → all ≡ (front ++ element_line K O names (i + 1) s) ++ element_lines K O names ((i + 1) + 1) (drop (i + 1) basis)
   next-line all front basis i s lt at is =
@@ -46,11 +47,11 @@ module _ {E : Type 0} (K : FieldOps E) (O : MonomialOrder) (names : Names) where
   head_text bound count = codes "report 1\nbound " ++ (decimal bound ++ (codes "\nbasis " ++ (decimal count ++ codes "\n")))
 
   -- the head, the lines and the end
-  pub report-parts : (bound : ℕ) (S : List (List (Term E))) → report_text K O names bound S ≡ head_text bound (length S) ++ (element_lines K O names 1 S ++ codes "end\n")
+  pub report-parts : (bound : ℕ) (S : List (Polynomial E)) → report_text K O names bound S ≡ head_text bound (length S) ++ (element_lines K O names 1 S ++ codes "end\n")
   report-parts bound S = sym (simp append_assoc)
 
   -- the same behind any head that has that text
-  pub report-whole : (bound : ℕ) (S : List (List (Term E))) (head : List ℕ) → head ≡ head_text bound (length S) → report_text K O names bound S ≡ head ++ (element_lines K O names 1 S ++ codes "end\n")
+  pub report-whole : (bound : ℕ) (S : List (Polynomial E)) (head : List ℕ) → head ≡ head_text bound (length S) → report_text K O names bound S ≡ head ++ (element_lines K O names 1 S ++ codes "end\n")
   report-whole bound S head is = report-parts bound S ∙ ap (λ (l : List ℕ). l ++ (element_lines K O names 1 S ++ codes "end\n")) (sym is)
 
 pub prints-at : (r : Result (Unit {0}) PrintFault) (text other : List ℕ) (f g : ℕ) (a b : Option (List ℕ)) → text ≡ other → Prints r other f g a b → Prints r text f g a b

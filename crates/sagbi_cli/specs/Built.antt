@@ -2,10 +2,11 @@
 use Rattle.std.specs.Prelude.{◌≡◌, ◌≢◌, ◌⊎◌, ℕ, List, [], Contains}
 use Rattle.word_field.specs.Residues.{residues}
 use Rattle.word_field.specs.declared.WordField.{WordField}
-use Rattle.monomial_order.specs.declared.Term.{Term}
+use Rattle.monomial_order.specs.declared.terms.Term.{Term}
 use Rattle.monomial_order.specs.declared.weight_order.WeightOrder.{WeightOrder}
-use Rattle.poly_core.specs.declared.presentation.Presentation.{Presentation}
+use Rattle.poly_core.specs.declared.presentations.Presentation.{Presentation}
 use Rattle.monomial_basis.specs.MonomialGenerators.{IsMonomialOrZero, AreMonomials}
+use Rattle.polynomials.specs.Polynomial.{Polynomial}
 
 -- no ideal, and each generator is zero or a monomial with the coefficient 1
 pub record IsBuilt (p : Presentation WordField WeightOrder ℕ) : Type 0 where
@@ -15,4 +16,4 @@ pub record IsBuilt (p : Presentation WordField WeightOrder ℕ) : Type 0 where
 -- a generator of the ideal, or a generator of the subalgebra that is neither zero nor such a monomial
 abbrev pub IsNotBuilt : Presentation WordField WeightOrder ℕ → Type 0
 IsNotBuilt p =
-    (p.ideal.items ≢ []) ⊎ ((f : List (Term ℕ)) × Contains p.generators.items f × (IsMonomialOrZero (residues p.field.modulus) f → ⊥))
+    (p.ideal.items ≢ []) ⊎ ((f : Polynomial ℕ) × Contains p.generators.items f × (IsMonomialOrZero (residues p.field.modulus) f → ⊥))

@@ -4,7 +4,7 @@ use Rattle.std.specs.FinMap as map
 use Rattle.std.specs.Fmt.{decimal}
 use Rattle.word_field.specs.declared.WordField.{WordField}
 use Rattle.monomial_order.specs.declared.weight_order.WeightOrder.{WeightOrder}
-use Rattle.poly_core.specs.declared.presentation.Presentation.{Presentation}
+use Rattle.poly_core.specs.declared.presentations.Presentation.{Presentation}
 use Rattle.polynomial_text.specs.declared.text_kind.TextKind.{TextKind}
 use Rattle.polynomial_text.specs.declared.text_kind.TextKind.TheVariants.{Header, FieldUnknown, VarsLine, DuplicateName, WeightsLine, OrderLine, CountLine, PolySyntax, UnknownName, NumberTooLong, DegreeTooLarge, NotHomogeneous, UnitIdeal, ConstantGenerator, Truncated, TextAfterEnd}
 use Rattle.presentation_text.specs.Reading.{reading}

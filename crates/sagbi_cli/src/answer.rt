@@ -1,8 +1,8 @@
 //! What a run does with the bytes of its presentation.
 ghost use Rattle.std.specs.Prelude.{◌≡◌, ◌≢◌, ℕ, ◌≤◌, List, IfOk, length};
 ghost use Rattle.word_field.specs.Residues.{residues};
-ghost use Rattle.poly_core.specs.Presentation.{presented, order_of, IsValid};
-ghost use Rattle.poly_core.specs.Subalgebra.{IsReducedBasis};
+ghost use Rattle.poly_core.specs.Presentation.{presented, weight_order_of, IsValid};
+ghost use Rattle.polynomials.specs.Subalgebra.{IsReducedBasis};
 ghost use Rattle.presentation_text.specs.Meaning.{text_max, IsRead};
 ghost use Rattle.shelf_io.specs.Counts.{HasRisen};
 ghost use Rattle.sagbi_cli.specs.Built.{IsBuilt};
@@ -14,7 +14,7 @@ use crate::outcome::Outcome;
 use crate::report::{PrintFault, print};
 use monomial_basis::complete::complete;
 use monomial_order::WeightOrder;
-use poly_core::presentation::Presentation;
+use poly_core::Presentation;
 use presentation_text::{TextFault, read};
 use shelf_io::Sink;
 use std::alloc::Global;
@@ -45,7 +45,7 @@ fn report_if_built<K: Sink>(
     bound: u32,
     out: &mut K,
 ) -> Outcome
-    requires valid { IsValid (λ f. residues f.modulus) order_of p.now }
+    requires valid { IsValid (λ f. residues f.modulus) weight_order_of p.now }
     requires bound { IsBound bound }
     ensures ends { (bytes : List ℕ) → IsRead bytes p.now → length bytes ≤ text_max → Puts bytes bound result (K.taken out.old) (K.taken out.new) }
     ensures counted { K.faults out.old ≤ K.faults out.new }
@@ -68,7 +68,7 @@ fn report<K: Sink>(
     bound: u32,
     out: &mut K,
 ) -> Outcome
-    requires valid { IsValid (λ f. residues f.modulus) order_of p.now }
+    requires valid { IsValid (λ f. residues f.modulus) weight_order_of p.now }
     requires built { IsBuilt p.now }
     requires bound { IsBound bound }
     ensures ends { (bytes : List ℕ) → IsRead bytes p.now → length bytes ≤ text_max → Puts bytes bound result (K.taken out.old) (K.taken out.new) }

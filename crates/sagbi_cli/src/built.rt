@@ -1,13 +1,14 @@
 //! Which presentations are completed so far.
 ghost use Rattle.std.specs.Prelude.{◌↔◌, ℕ, List, Contains, IsTrue, IsFalse};
-ghost use Rattle.monomial_order.specs.declared.Term.{Term};
+ghost use Rattle.monomial_order.specs.declared.terms.Term.{Term};
 ghost use Rattle.word_field.specs.Residues.{residues};
 ghost use Rattle.monomial_basis.specs.MonomialGenerators.{IsMonomialOrZero, AreMonomials};
 ghost use Rattle.sagbi_cli.specs.Built.{IsBuilt, IsNotBuilt};
+ghost use Rattle.polynomials.specs.Polynomial.{Polynomial};
 
 use monomial_order::WeightOrder;
-use poly_core::poly::Poly;
-use poly_core::presentation::Presentation;
+use poly_core::Poly;
+use poly_core::Presentation;
 use word_field::{Field, WordField};
 
 fn is_monomial_or_zero(f: &WordField, p: &Poly<WordField>) -> bool
@@ -33,7 +34,7 @@ pub fn is_built(p: &Presentation<WordField, WeightOrder>) -> bool
 
 fn are_monomials(f: &WordField, list: &[Poly<WordField>]) -> bool
     ensures yes { IsTrue result → AreMonomials (residues f.now.modulus) list.now }
-    ensures no { IsFalse result → (p : List (Term ℕ)) × Contains list.now p × (IsMonomialOrZero (residues f.now.modulus) p → ⊥) }
+    ensures no { IsFalse result → (p : Polynomial ℕ) × Contains list.now p × (IsMonomialOrZero (residues f.now.modulus) p → ⊥) }
 {
     for p in list {
         if !is_monomial_or_zero(f, p) {

@@ -7,9 +7,9 @@ ghost use Rattle.sagbi_cli.specs.declared.report.PrintFault.TheVariants.{Sink as
 
 use crate::put::put_all;
 use monomial_order::{Memory, Order};
-use poly_core::names::Names;
-use poly_core::poly::Poly;
-use poly_core::text::write_word;
+use poly_core::Names;
+use poly_core::Poly;
+use poly_core::write_monomial;
 use shelf_io::{Sink, SinkFailed};
 use std::alloc::{AllocError, Global};
 use word_field::Field;
@@ -73,7 +73,7 @@ fn line<F: Field, O: Order>(
         unreachable!()
     };
     let numbers = numbers(alloc, index, o.degree(&first.at))?;
-    let word = write_word(alloc, &first.at, names)?;
+    let word = write_monomial(alloc, &first.at, names)?;
     let text = Poly::write(alloc, f, element, names)?;
     let mut line = Vec::from_slice(alloc, numbers.as_bytes())?;
     line.extend_from_slice(&word)?;

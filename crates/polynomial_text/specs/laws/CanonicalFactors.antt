@@ -4,12 +4,12 @@ use Rattle.std.specs.List.{list_all}
 use Rattle.std.specs.Fmt.{decimal}
 use Rattle.std.proofs.lemmas.Bool.{and_parts, eqb-true}
 use Rattle.word_field.specs.Field.{FieldOps}
-use Rattle.monomial_order.specs.declared.Term.{Term}
+use Rattle.monomial_order.specs.declared.terms.Term.{Term}
 use Rattle.monomial_order.specs.Monomial.{product}
 use Rattle.monomial_order.specs.MonomialOrder.{MonomialOrder}
-use Rattle.poly_core.specs.declared.names.Names.{Names}
+use Rattle.poly_core.specs.declared.place_names.Names.{Names}
 use Rattle.poly_core.specs.Names.{is_letter, is_name_byte, has_name_form}
-use Rattle.poly_core.specs.Poly.{term_of, term_times}
+use Rattle.polynomials.specs.Polynomial.{term_of, term_times}
 use Rattle.poly_core.specs.Text.{factor_text}
 use Rattle.polynomial_text.specs.Bytes.{is_blank, is_digit, behind}
 use Rattle.polynomial_text.specs.Degrees.{degree_max}

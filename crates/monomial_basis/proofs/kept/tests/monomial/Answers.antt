@@ -1,6 +1,6 @@
 use Rattle.std.proofs.Common.{◌≡◌, ℕ, List}
 use Rattle.std.specs.Prelude.{IfOk, Result, Ok, Err}
-use Rattle.monomial_order.specs.Cofactors.{same_exponents}
+use Rattle.monomial_order.specs.laws.Cofactors.{same_exponents}
 use Rattle.monomial_order.specs.Monomial.{exponent, IsTrimmed}
 use Rattle.monomial_basis.proofs.kept.tests.monomial.Goals as goal
 
