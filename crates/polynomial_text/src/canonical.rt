@@ -5,8 +5,7 @@ ghost use Rattle.polynomial_text.specs.Canonical.{AreDifferent, IsCanonicalReadi
 use crate::line_fault::LineFault;
 use crate::poly_line::read_poly;
 use monomial_order::{Memory, Order};
-use poly_core::Names;
-use poly_core::Poly;
+use poly_core::{Names, Poly};
 use std::alloc::Global;
 use word_field::Field;
 

@@ -10,8 +10,7 @@ use crate::line_reader::LineReader;
 use crate::term_line::term_at;
 use crate::term_sum::{push_term, total};
 use monomial_order::Order;
-use poly_core::Names;
-use poly_core::Poly;
+use poly_core::{Names, Poly};
 use std::alloc::Global;
 use word_field::Field;
 
