@@ -61,7 +61,7 @@ module _ {E : Type 0} (K : FieldOps E) (F : IsField K) (O : MonomialOrder) (name
         sym (front_more h.seen t (each (term_at K O names) left)) ∙ (ap (with_front h.seen) (sym (ap (each (term_at K O names)) split ∙ one)) ∙ h.whole);
   }
 
-  pub stops : (line : List ℕ) (parts left : List (Bool × List ℕ)) (part : Bool × List ℕ) (stack : List (Polynomial E)) (e : LineFault) → parts ≡ part ∷ left → IsLineFaultOf (term_at K O names part) e →
+  pub stops : (line : List ℕ) (parts left : List (Bool × List ℕ)) (part : Bool × List ℕ) (stack : List (Polynomial E)) (e : LineFault LineKind) → parts ≡ part ∷ left → IsLineFaultOf (term_at K O names part) e →
       IsSummed line parts stack → IsLineFaultOf (terms_of K O names line) e
   unfolding each
   stops line parts left part stack faults.Memory split here h = tt

@@ -18,7 +18,7 @@ module _ {S X : Type 0} (step : S → X → Result S LineKind) where
       let one : along step state (part ∷ left) ≡ along step next left = rw here refl in
       sym one ∙ (ap (along step state) (sym split) ∙ so_far)
 
-  pub along_stop : (state : S) (parts left : List X) (part : X) (total : Result S LineKind) (e : LineFault) → parts ≡ part ∷ left → IsLineFaultOf (step state part) e → along step state parts ≡ total → IsLineFaultOf total e
+  pub along_stop : (state : S) (parts left : List X) (part : X) (total : Result S LineKind) (e : LineFault LineKind) → parts ≡ part ∷ left → IsLineFaultOf (step state part) e → along step state parts ≡ total → IsLineFaultOf total e
   unfolding along
   along_stop state parts left part total faults.Memory split here so_far = tt
   along_stop state parts left part total (faults.Kind kind) split here so_far =

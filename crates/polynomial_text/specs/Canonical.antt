@@ -13,7 +13,7 @@ use Rattle.polynomial_text.specs.declared.line_fault.LineKind.{LineKind}
 use Rattle.polynomial_text.specs.Degrees.{IsLow}
 
 -- the fault that a line has, unless memory runs out
-abbrev pub IsLineFaultOf : {A : Type 0} → Result A LineKind → LineFault → Type 0
+abbrev pub IsLineFaultOf : {A K : Type 0} → Result A K → LineFault K → Type 0
 IsLineFaultOf read line_faults.Memory = Unit {0}
 IsLineFaultOf read (line_faults.Kind kind) = read ≡ Err kind
 

@@ -16,7 +16,7 @@ use Rattle.polynomial_text.specs.Canonical.{IsLineFaultOf}
 use Rattle.polynomial_text.specs.PolyLine.{power, number_at, signed_parts}
 
 -- what a call returned, seen by view, is what reading gives, unless memory ran out
-abbrev pub Gives : {X Y : Type 0} → (X → Y) → Result X LineFault → Result Y LineKind → Type 0
+abbrev pub Gives : {X Y K : Type 0} → (X → Y) → Result X (LineFault K) → Result Y K → Type 0
 Gives view (Ok x) read = read ≡ Ok (view x)
 Gives view (Err e) read = IsLineFaultOf read e
 

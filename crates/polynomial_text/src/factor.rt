@@ -26,7 +26,7 @@ pub(crate) struct Factor<E> {
 fn power_at<'a, F: Field, O: Order>(
     reader: &LineReader<F, O>,
     bytes: &'a [u8],
-) -> Result<(Factor<F::Elem>, &'a [u8]), LineFault>
+) -> Result<(Factor<F::Elem>, &'a [u8]), LineFault<LineKind>>
     requires { AreDifferent (O.order reader.now.order.now).places reader.now.names.now }
     ensures read { Gives (λ x. (factor_term x.0, x.1.now)) result
         (power_at (F.ops reader.now.field.now) (O.order reader.now.order.now) reader.now.names.now bytes.now) }
@@ -49,7 +49,7 @@ fn power_at<'a, F: Field, O: Order>(
 fn constant_at<'a, F: Field, O>(
     reader: &LineReader<F, O>,
     bytes: &'a [u8],
-) -> Result<(Factor<F::Elem>, &'a [u8]), LineFault>
+) -> Result<(Factor<F::Elem>, &'a [u8]), LineFault<LineKind>>
     ensures read { Gives (λ x. (factor_term x.0, x.1.now)) result (constant_at (F.ops reader.now.field.now) bytes.now) }
     ensures value { IfOk result (λ x. IsValue (F.ops reader.now.field.now) x.0.by) }
     ensures place { IfOk result (λ x. x.0.exponent ≡ 0) }
@@ -68,7 +68,7 @@ fn constant_at<'a, F: Field, O>(
 pub(crate) fn factor_at<'a, F: Field, O: Order>(
     reader: &LineReader<F, O>,
     bytes: &'a [u8],
-) -> Result<(Factor<F::Elem>, &'a [u8]), LineFault>
+) -> Result<(Factor<F::Elem>, &'a [u8]), LineFault<LineKind>>
     requires { AreDifferent (O.order reader.now.order.now).places reader.now.names.now }
     ensures read { Gives (λ x. (factor_term x.0, x.1.now)) result
         (factor_at (F.ops reader.now.field.now) (O.order reader.now.order.now) reader.now.names.now bytes.now) }

@@ -1,4 +1,4 @@
-//! Why the line of a polynomial was not read.
+//! Why a line was not read.
 ghost use Rattle.std.specs.Prelude.{◌≡◌};
 ghost use Rattle.polynomial_text.specs.declared.line_fault.LineFault.TheVariants.{Memory};
 
@@ -18,35 +18,35 @@ pub enum LineKind {
     DegreeTooLarge,
 }
 
-/// Why the line of a polynomial was not read.
+/// Why a line was not read.
 #[derive(Clone, Copy)]
-pub enum LineFault {
+pub enum LineFault<K> {
     /// Out of memory.
     Memory,
     /// The first fault of the line.
-    Kind(LineKind),
+    Kind(K),
 }
 
-impl From<Memory> for LineFault {
+impl<K> From<Memory> for LineFault<K> {
     ghost from_gives = { λ _ e. e ≡ Memory };
 
-    fn from(_memory: Memory) -> LineFault {
+    fn from(_memory: Memory) -> LineFault<K> {
         LineFault::Memory
     }
 }
 
-impl From<AllocError> for LineFault {
+impl<K> From<AllocError> for LineFault<K> {
     ghost from_gives = { λ _ e. e ≡ Memory };
 
-    fn from(_error: AllocError) -> LineFault {
+    fn from(_error: AllocError) -> LineFault<K> {
         LineFault::Memory
     }
 }
 
-impl<T: Drop> From<AllocFailed<T>> for LineFault {
+impl<K, T: Drop> From<AllocFailed<T>> for LineFault<K> {
     ghost from_gives = { λ _ e. e ≡ Memory };
 
-    fn from(_failed: AllocFailed<T>) -> LineFault {
+    fn from(_failed: AllocFailed<T>) -> LineFault<K> {
         LineFault::Memory
     }
 }

@@ -27,7 +27,7 @@ pub fn digits_value(digits: &[u8]) -> u64
 
 /// The number at the front, and what is behind it.
 #[tactic(auto, unfolding(crate::specs::PolyLine::number_at))]
-pub(crate) fn number_at(bytes: &[u8]) -> Result<(u64, &[u8]), LineFault>
+pub(crate) fn number_at(bytes: &[u8]) -> Result<(u64, &[u8]), LineFault<LineKind>>
     ensures { Gives (λ x. (x.0, x.1.now)) result (number_at bytes.now) }
 {
     let (digits, rest) = ByteClass::Digit.split(bytes);
@@ -40,7 +40,7 @@ pub(crate) fn number_at(bytes: &[u8]) -> Result<(u64, &[u8]), LineFault>
 
 /// The exponent behind a name, and what is behind it.
 #[tactic(auto, unfolding(crate::specs::PolyLine::exponent_at))]
-pub(crate) fn exponent_at(bytes: &[u8]) -> Result<(u64, &[u8]), LineFault>
+pub(crate) fn exponent_at(bytes: &[u8]) -> Result<(u64, &[u8]), LineFault<LineKind>>
     ensures { Gives (λ x. (x.0, x.1.now)) result (exponent_at bytes.now) }
 {
     let rest = behind_blanks(bytes);

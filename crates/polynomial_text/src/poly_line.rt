@@ -4,7 +4,7 @@ ghost use Rattle.polynomial_text.specs.Canonical.{AreDifferent, IsLineFaultOf};
 ghost use Rattle.polynomial_text.specs.Degrees.{IsLow};
 ghost use Rattle.polynomial_text.specs.PolyLine.{IsPolyOf, terms_of};
 
-use crate::line_fault::LineFault;
+use crate::line_fault::{LineFault, LineKind};
 use crate::line_parts::{first_text, signed_part};
 use crate::line_reader::LineReader;
 use crate::term_line::term_at;
@@ -21,7 +21,7 @@ pub fn read_poly<F: Field, O: Order>(
     o: &O,
     names: &Names,
     line: &[u8],
-) -> Result<Poly<F>, LineFault>
+) -> Result<Poly<F>, LineFault<LineKind>>
     requires { AreDifferent (O.order o.now).places names.now }
     ensures read { IfOk result (IsPolyOf (F.ops f.now) (O.order o.now) names.now line.now) }
     ensures low { IfOk result (IsLow (O.order o.now)) }

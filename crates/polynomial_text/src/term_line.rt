@@ -58,7 +58,7 @@ fn times_power<O: Order>(
     m: Monomial,
     place: usize,
     exponent: u64,
-) -> Result<Monomial, LineFault>
+) -> Result<Monomial, LineFault<LineKind>>
     requires monomial { IsSmallMonomial (O.order o.now) m }
     requires place { 1 ≤ exponent → place < (O.order o.now).places }
     ensures read { Gives (λ x. x) result (low (O.order o.now) (product m (power place exponent))) }
@@ -82,7 +82,7 @@ fn times_factor<F: Field, O: Order>(
     o: &O,
     t: Term<F::Elem>,
     x: Factor<F::Elem>,
-) -> Result<Term<F::Elem>, LineFault>
+) -> Result<Term<F::Elem>, LineFault<LineKind>>
     requires term { IsSmallTerm (F.ops f.now) (O.order o.now) t }
     requires factor { IsFactor (F.ops f.now) (O.order o.now) x }
     ensures read { Gives (λ u. u) result (bounded (O.order o.now) (term_times (F.ops f.now) t (factor_term x))) }
@@ -99,7 +99,7 @@ fn with_factor<F: Field, O: Order>(
     reader: &LineReader<F, O>,
     t: Term<F::Elem>,
     part: &[u8],
-) -> Result<Term<F::Elem>, LineFault>
+) -> Result<Term<F::Elem>, LineFault<LineKind>>
     requires names { AreDifferent (O.order reader.now.order.now).places reader.now.names.now }
     requires term { IsSmallTerm (F.ops reader.now.field.now) (O.order reader.now.order.now) t }
     ensures read { Gives (λ u. u) result
@@ -131,7 +131,7 @@ pub(crate) fn term_at<F: Field, O: Order>(
     reader: &LineReader<F, O>,
     minus: bool,
     text: &[u8],
-) -> Result<Term<F::Elem>, LineFault>
+) -> Result<Term<F::Elem>, LineFault<LineKind>>
     requires { AreDifferent (O.order reader.now.order.now).places reader.now.names.now }
     ensures read { Gives (λ u. u) result
         (term_at (F.ops reader.now.field.now) (O.order reader.now.order.now) reader.now.names.now (minus, text.now)) }
