@@ -1,34 +1,19 @@
 -- The parts of a line.
-use Rattle.std.proofs.Common.{◌≡◌, ℕ, ◌-◌, ◌<◌, ◌≤◌, Bool, true, false, not, cond, eqb, List, [], ◌∷◌, length, take, drop, get_or, refl, ap, ◌∙◌}
-use Rattle.std.specs.List.{list_all, onto_first}
+use Rattle.std.proofs.Common.{◌≡◌, ℕ, ◌-◌, ◌<◌, ◌≤◌, Bool, true, false, not, eqb, List, [], ◌∷◌, length, take, drop, get_or, refl, ap, ◌∙◌}
+use Rattle.std.specs.List.{list_all}
 use Rattle.polynomial_text.specs.Bytes.{is_blank, is_sign, front, behind}
 use Rattle.polynomial_text.specs.PolyLine.{signed_parts, behind_sign}
 use Rattle.polynomial_text.specs.LineReading.{factor_parts}
-use Rattle.polynomial_text.specs.laws.Fronts.{nothing_left, first_and_rest}
+use Rattle.polynomial_text.specs.laws.Fronts.{nothing_left, first_and_rest, parts_behind, parts_split}
 
 -- ---- factors
 
--- the parts behind the `*` that the bytes begin with
-abbrev factors_behind : List ℕ → List (List ℕ)
-factors_behind [] = []
-factors_behind (b ∷ bytes) = factor_parts bytes
-
-factors_split : (text : List ℕ) → factor_parts text ≡ front (λ b. not (eqb b 42)) text ∷ factors_behind (behind (λ b. not (eqb b 42)) text)
-unfolding front behind
-factors_split [] = refl
-factors_split (b ∷ text) =
-    elim (eqb b 42) as (λ t. cond t ([] ∷ factor_parts text) (onto_first b (factor_parts text))
-    ≡ cond (not t) (b ∷ front (λ b. not (eqb b 42)) text) [] ∷ factors_behind (cond (not t) (behind (λ b. not (eqb b 42)) text) (b ∷ text))) [
-      | true ↦ refl
-      | false ↦ rw (factors_split text) refl
-    ]
-
 pub factors_last : (text rest : List ℕ) → rest ≡ behind (λ b. not (eqb b 42)) text → length rest < 1 → factor_parts text ≡ front (λ b. not (eqb b 42)) text ∷ []
-factors_last text rest is none = rw (factors_split text, ← is, nothing_left rest none) refl
+factors_last text rest is none = rw (parts_split (λ b. eqb b 42) text, ← is, nothing_left rest none) refl
 
 pub factors_next : (text rest : List ℕ) → rest ≡ behind (λ b. not (eqb b 42)) text → 1 ≤ length rest → factor_parts text ≡ front (λ b. not (eqb b 42)) text ∷ factor_parts (take (length rest - 1) (drop 1 rest))
 factors_next text rest is some =
-    factors_split text ∙ ap (λ r. front (λ b. not (eqb b 42)) text ∷ r) (rw (← is) (ap factors_behind (first_and_rest rest some)))
+    parts_split (λ b. eqb b 42) text ∙ ap (λ r. front (λ b. not (eqb b 42)) text ∷ r) (rw (← is) (ap (parts_behind (λ b. eqb b 42)) (first_and_rest rest some)))
 
 -- ---- terms
 

@@ -1,7 +1,6 @@
 -- Lines with canonical polynomials, and the fault of a line.
 use Rattle.std.specs.Prelude.{◌≡◌, ◌<◌, ℕ, List, true, Option, Some, None, IsSome, IfSome, Result, Err}
 use Rattle.word_field.specs.Field.{FieldOps}
-use Rattle.monomial_order.specs.declared.terms.Term.{Term}
 use Rattle.monomial_order.specs.MonomialOrder.{MonomialOrder}
 use Rattle.polynomials.specs.Polynomial.{Polynomial, IsCanonical}
 use Rattle.poly_core.specs.Names.{name_at, has_name_form}
@@ -9,7 +8,6 @@ use Rattle.poly_core.specs.Text.{poly_text, AreNamed}
 use Rattle.poly_core.specs.declared.place_names.Names.{Names}
 use Rattle.polynomial_text.specs.declared.line_fault.LineFault.{LineFault}
 use Rattle.polynomial_text.specs.declared.line_fault.LineFault.TheVariants as line_faults
-use Rattle.polynomial_text.specs.declared.line_fault.LineKind.{LineKind}
 use Rattle.polynomial_text.specs.Degrees.{IsLow}
 
 -- the fault that a line has, unless memory runs out

@@ -1,6 +1,5 @@
 -- The degrees of polynomials in texts.
-use Rattle.std.specs.Prelude.{ℕ, ◌≤◌, List}
-use Rattle.monomial_order.specs.declared.terms.Term.{Term}
+use Rattle.std.specs.Prelude.{ℕ, ◌≤◌}
 use Rattle.monomial_order.specs.MonomialOrder.{MonomialOrder}
 use Rattle.polynomials.specs.Polynomial.{Polynomial, AllAt}
 

@@ -10,10 +10,10 @@ use Rattle.polynomials.specs.Polynomial.{Polynomial, coefficient, AllAt, IsCanon
 use Rattle.polynomials.specs.laws.Decreasing.{coefficient_first}
 use Rattle.polynomials.specs.laws.Degrees.{all_found}
 use Rattle.poly_core.specs.Presentation.{IsCanonicalGenerator}
-use Rattle.polynomial_text.specs.declared.text_kind.TextKind.{TextKind}
-use Rattle.polynomial_text.specs.declared.text_kind.TextKind.TheVariants.{NotHomogeneous}
+use Rattle.presentation_text.specs.declared.text_kind.TextKind.{TextKind}
+use Rattle.presentation_text.specs.declared.text_kind.TextKind.TheVariants.{NotHomogeneous}
 use Rattle.presentation_text.specs.Judging.{degrees, is_one_degree, judged}
-use Rattle.presentation_text.specs.KeptSums.{IsSumOf}
+use Rattle.presentation_text.specs.PolySums.{IsSumOf}
 
 -- ---- lists of degrees
 

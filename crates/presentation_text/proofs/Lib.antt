@@ -1,10 +1,10 @@
 mod Counting
-mod DueLines
+mod ContentLines
 mod HeadFacts
 mod Judged
 mod KeptOrder
-mod LineWords
-mod NameWords
+mod LineTokens
+mod NameTokens
 mod NextLines
 mod NextPolys
 mod PolyLines
@@ -12,13 +12,13 @@ mod QueryTexts
 pub mod ReadingLaws
 mod SmallTerms
 mod TableNames
-mod TakenWords
+mod TakenTokens
 pub mod TextHeading
 pub mod TextLines
 pub mod TextNumbers
 pub mod TextPolys
 pub mod TextRead
-pub mod TextWords
+pub mod TextTokens
 mod WholeTexts
 pub mod WrittenPieces
 pub mod WrittenText

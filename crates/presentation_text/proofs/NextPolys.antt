@@ -9,23 +9,24 @@ use Rattle.poly_core.specs.Presentation.{AreCanonicalGenerators, IsCanonicalGene
 use Rattle.polynomial_text.specs.declared.line_fault.LineFault.{LineFault}
 use Rattle.presentation_text.specs.declared.text_fault.TextFault.{TextFault}
 use Rattle.presentation_text.specs.declared.text_fault.TextFault.TheVariants as faults
-use Rattle.polynomial_text.specs.declared.text_kind.TextKind.{TextKind}
-use Rattle.polynomial_text.specs.Results.{◌>>=◌, Fault}
+use Rattle.presentation_text.specs.declared.text_kind.TextKind.{TextKind}
+use Rattle.polynomial_text.specs.Results.{◌>>=◌}
+use Rattle.presentation_text.specs.Kinds.{Fault}
 use Rattle.presentation_text.specs.Reading.{Line, next, several}
 use Rattle.polynomial_text.specs.Canonical.{IsLineFaultOf}
 use Rattle.presentation_text.specs.Meaning.{AreSums, IsFaultOf}
 use Rattle.presentation_text.specs.Giving.{located}
-use Rattle.presentation_text.specs.KeptSums.{IsSumIn, AreSumsIn}
+use Rattle.presentation_text.specs.PolySums.{IsSumIn, AreSumsIn}
 use Rattle.presentation_text.proofs.NextLines.{next_ok, next_err}
 use Rattle.polynomials.specs.Polynomial.{Polynomial}
 
-pub poly_fails : {X : Type 0} (f : List ℕ → Result (Polynomial ℕ) TextKind) (last number : ℕ) (bytes : List ℕ) (ls rest : List Line) (r : Result X LineFault) (s : Result X TextFault)
+pub poly_fails : {X : Type 0} (f : List ℕ → Result (Polynomial ℕ) TextKind) (last number : ℕ) (bytes : List ℕ) (ls rest : List Line) (r : Result X (LineFault TextKind)) (s : Result X TextFault)
     → ls ≡ (number, bytes) ∷ rest → IfErr r (IsLineFaultOf (f bytes)) → s ≡ located number r → IfErr s (IsFaultOf (next last f ls))
 poly_fails f last number bytes ls rest (Ok x) s split h is = rw is tt
 poly_fails f last number bytes ls rest (Err e) s split h is = rw is (next_err f last number bytes ls rest e split h)
 
 module _ (K : FieldOps ℕ) (O : MonomialOrder) where
-  pub poly_gives : (f : List ℕ → Result (Polynomial ℕ) TextKind) (last number : ℕ) (bytes : List ℕ) (ls rest : List Line) (r : Result (Polynomial ℕ) LineFault) (s : Result (Polynomial ℕ) TextFault)
+  pub poly_gives : (f : List ℕ → Result (Polynomial ℕ) TextKind) (last number : ℕ) (bytes : List ℕ) (ls rest : List Line) (r : Result (Polynomial ℕ) (LineFault TextKind)) (s : Result (Polynomial ℕ) TextFault)
       → ls ≡ (number, bytes) ∷ rest → IfOk r (IsSumIn K O (λ sum. f bytes ≡ Ok sum)) → s ≡ located number r → IfOk s (IsSumIn K O (λ sum. next last f ls ≡ Ok (sum, rest)))
   poly_gives f last number bytes ls rest (Ok p) s split h is =
       rw is (record { sum = h.sum; is = next_ok f last number bytes ls rest h.sum split h.is; same = h.same; generator = h.generator })

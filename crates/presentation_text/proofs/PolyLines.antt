@@ -10,13 +10,13 @@ use Rattle.polynomials.specs.laws.ReducedBasis.{degree_one}
 use Rattle.presentation_text.specs.declared.head.Head.{Head}
 use Rattle.polynomial_text.specs.declared.line_fault.LineFault.{LineFault}
 use Rattle.polynomial_text.specs.declared.line_fault.LineFault.TheVariants as line_faults
-use Rattle.polynomial_text.specs.declared.text_kind.TextKind.{TextKind}
+use Rattle.presentation_text.specs.declared.text_kind.TextKind.{TextKind}
 use Rattle.polynomial_text.specs.Results.{◌>>=◌}
 use Rattle.polynomial_text.specs.PolyLine.{terms_of, IsPolyOf}
 use Rattle.presentation_text.specs.Judging.{judged}
 use Rattle.presentation_text.specs.Reading.{poly_line}
 use Rattle.presentation_text.specs.Giving.{head_of}
-use Rattle.presentation_text.specs.KeptSums.{IsSumOf}
+use Rattle.presentation_text.specs.PolySums.{IsSumOf}
 use Rattle.polynomial_text.specs.Canonical.{IsLineFaultOf}
 use Rattle.presentation_text.proofs.SmallTerms.{low_terms}
 use Rattle.presentation_text.proofs.TableNames.{is_listed}
@@ -33,11 +33,11 @@ module _ (h : Head) (named : AreNames (length h.order.weights.items) h.names) wh
   pub line_judged : (constant : TextKind) (line : List ℕ) (sum : Polynomial ℕ) → terms line ≡ Ok sum → poly_line (head_of h) constant line ≡ judged h.field.modulus (weight_order_of h.order) constant sum
   line_judged constant line sum e = line_is constant line ∙ ap (λ (r : Result (Polynomial ℕ) TextKind). r >>= judged h.field.modulus (weight_order_of h.order) constant) e
 
-  pub line_err : (constant : TextKind) (line : List ℕ) (e : LineFault) → IsLineFaultOf (terms line) e → IsLineFaultOf (poly_line (head_of h) constant line) e
+  pub line_err : (constant : TextKind) (line : List ℕ) (e : LineFault TextKind) → IsLineFaultOf (terms line) e → IsLineFaultOf (poly_line (head_of h) constant line) e
   line_err constant line line_faults.Memory k = tt
   line_err constant line (line_faults.Kind kind) k = line_is constant line ∙ ap (λ (r : Result (Polynomial ℕ) TextKind). r >>= judged h.field.modulus (weight_order_of h.order) constant) k
 
-  pub line_fault : (constant : TextKind) (line : List ℕ) (sum : Polynomial ℕ) (e : LineFault) → terms line ≡ Ok sum → IsLineFaultOf (judged h.field.modulus (weight_order_of h.order) constant sum) e → IsLineFaultOf (poly_line (head_of h) constant line) e
+  pub line_fault : (constant : TextKind) (line : List ℕ) (sum : Polynomial ℕ) (e : LineFault TextKind) → terms line ≡ Ok sum → IsLineFaultOf (judged h.field.modulus (weight_order_of h.order) constant sum) e → IsLineFaultOf (poly_line (head_of h) constant line) e
   line_fault constant line sum line_faults.Memory is k = tt
   line_fault constant line sum (line_faults.Kind kind) is k = line_judged constant line sum is ∙ k
 

@@ -11,7 +11,8 @@ use Rattle.poly_core.specs.declared.place_names.Names.{Names}
 use Rattle.polynomial_text.specs.declared.line_fault.LineFault.{LineFault}
 use Rattle.presentation_text.specs.declared.text_fault.TextFault.{TextFault}
 use Rattle.presentation_text.specs.declared.text_fault.TextFault.TheVariants as faults
-use Rattle.polynomial_text.specs.Results.{◌>>=◌, Fault, each}
+use Rattle.polynomial_text.specs.Results.{◌>>=◌, each}
+use Rattle.presentation_text.specs.Kinds.{Fault}
 use Rattle.polynomial_text.specs.Degrees.{IsLow}
 use Rattle.polynomial_text.specs.PolyLine.{terms_of, IsPolyOf}
 use Rattle.presentation_text.specs.Reading.{Line, at_line, queries}
@@ -20,11 +21,11 @@ use Rattle.presentation_text.specs.Meaning.{AreSums, AreQueries, IsFaultOf}
 use Rattle.presentation_text.specs.Giving.{fault_at, located}
 use Rattle.presentation_text.specs.Pending.{Pending, pending}
 use Rattle.presentation_text.proofs.NextLines.{at_ok, at_err}
-use Rattle.presentation_text.proofs.TextWords.{all_append}
+use Rattle.presentation_text.proofs.TextTokens.{all_append}
 use Rattle.polynomials.specs.Polynomial.{Polynomial}
 
 -- what was made of a line
-pub located_ok : {A : Type 0} (P : A → Type 0) (number : ℕ) (r : Result A LineFault) (x : A) → Ok x ≡ located number r → IfOk r P → P x
+pub located_ok : {A : Type 0} (P : A → Type 0) (number : ℕ) (r : Result A (LineFault TextKind)) (x : A) → Ok x ≡ located number r → IfOk r P → P x
 located_ok P number (Ok y) x is h = let same : y ≡ x = cc in subst P same h
 located_ok P number (Err e) x is h = absurd cc
 
@@ -57,8 +58,8 @@ module _ {E : Type 0} (K : FieldOps E) (O : MonomialOrder) (names : Names) where
     pub same : AreSums K O sums ps
     pub low : AllByRecursion (IsLow O) ps
 
-  pub come_first : (text : List ℕ) (l : Pending) → l ≡ pending 1 text → HaveCome l.due text []
-  come_first text l e = record { sums = []; is = none_before (sums_of l.due) ∙ rw e refl; same = tt; low = tt }
+  pub come_first : (text : List ℕ) (l : Pending) → l ≡ pending 1 text → HaveCome l.left text []
+  come_first text l e = record { sums = []; is = none_before (sums_of l.left) ∙ rw e refl; same = tt; low = tt }
 
   pub come_next : (number : ℕ) (bytes : List ℕ) (ls rest : List Line) (text : List ℕ) (ps : List (Polynomial E)) (p : Polynomial E)
       → ls ≡ (number, bytes) ∷ rest → HaveCome ls text ps → IsPolyOf K O names bytes p → IsLow O p → HaveCome rest text (ps ++ p ∷ [])
@@ -68,7 +69,7 @@ module _ {E : Type 0} (K : FieldOps E) (O : MonomialOrder) (names : Names) where
       let step : with_sums h.sums (sums_of ls) ≡ with_sums (h.sums ++ s.terms ∷ []) (sums_of rest) = rw (split, first) (regroup h.sums s.terms (sums_of rest)) in
       record { sums = h.sums ++ s.terms ∷ []; is = sym step ∙ h.is; same = sums_push h.sums ps s.terms p h.same (s.sum, s.kept, tt); low = all_append (IsLow O) ps (p ∷ []) h.low (low, tt) }
 
-  pub come_stop : (number : ℕ) (bytes : List ℕ) (ls rest : List Line) (text : List ℕ) (ps : List (Polynomial E)) (e : LineFault)
+  pub come_stop : (number : ℕ) (bytes : List ℕ) (ls rest : List Line) (text : List ℕ) (ps : List (Polynomial E)) (e : LineFault TextKind)
       → ls ≡ (number, bytes) ∷ rest → HaveCome ls text ps → IsLineFaultOf (terms_of K O names bytes) e → IsFaultOf (queries K O names text) (fault_at number e)
   unfolding each
   come_stop number bytes ls rest text ps e split h k = stopped (fault_at number e) (at_err (terms_of K O names) number bytes e k)
@@ -88,7 +89,7 @@ module _ {E : Type 0} (K : FieldOps E) (O : MonomialOrder) (names : Names) where
   pub come_low : (ls : List Line) (text : List ℕ) (ps : List (Polynomial E)) → HaveCome ls text ps → All (IsLow O) ps
   come_low ls text ps h = All-from_recursion (IsLow O) ps h.low
 
-  pub located_stop : (number : ℕ) (bytes : List ℕ) (ls rest : List Line) (text : List ℕ) (ps : List (Polynomial E)) (r : Result (Polynomial E) LineFault) (e : TextFault)
+  pub located_stop : (number : ℕ) (bytes : List ℕ) (ls rest : List Line) (text : List ℕ) (ps : List (Polynomial E)) (r : Result (Polynomial E) (LineFault TextKind)) (e : TextFault)
       → ls ≡ (number, bytes) ∷ rest → HaveCome ls text ps → Err e ≡ located number r → IfErr r (IsLineFaultOf (terms_of K O names bytes)) → IsFaultOf (queries K O names text) e
   located_stop number bytes ls rest text ps (Ok q) e split h is k = absurd cc
   located_stop number bytes ls rest text ps (Err f) e split h is k = let same : fault_at number f ≡ e = cc in subst (IsFaultOf (queries K O names text)) same (come_stop number bytes ls rest text ps f split h k)

@@ -13,7 +13,7 @@ use Rattle.poly_core.specs.declared.place_names.Names.TheVariants.{Listed}
 use Rattle.poly_core.specs.declared.presentations.Presentation.{Presentation}
 use Rattle.polynomials.specs.laws.Decreasing.{IsDecreasing_unique}
 use Rattle.poly_core.specs.Presentation.{IsSame, weight_order_of, generator_degree}
-use Rattle.polynomial_text.specs.Results.{Fault}
+use Rattle.presentation_text.specs.Kinds.{Fault}
 use Rattle.presentation_text.specs.Reading.{Reading, reading}
 use Rattle.presentation_text.specs.Meaning.{AreSums, IsRead}
 use Rattle.polynomials.specs.Polynomial.{Polynomial}

@@ -7,9 +7,9 @@ use Rattle.monomial_order.specs.declared.terms.Term.{Term}
 use Rattle.monomial_order.specs.MonomialOrder.{MonomialOrder}
 use Rattle.polynomials.specs.Polynomial.{Polynomial, AllAt, term_of, term_times}
 use Rattle.poly_core.specs.declared.place_names.Names.{Names}
-use Rattle.polynomial_text.specs.declared.text_kind.TextKind.TheVariants.{PolySyntax, DegreeTooLarge}
+use Rattle.presentation_text.specs.declared.text_kind.TextKind.TheVariants.{PolySyntax, DegreeTooLarge}
 use Rattle.polynomial_text.specs.Results.{◌>>=◌, along, each}
-use Rattle.polynomial_text.specs.Blanks.{is_blank}
+use Rattle.polynomial_text.specs.Bytes.{is_blank}
 use Rattle.polynomial_text.specs.PolyLine.{behind, factor_at, with_factor, sign, term_at, terms_of}
 
 pub bind_ok : {A B F : Type 0} (r : Result A F) (f : A → Result B F) (y : B) → (r >>= f) ≡ Ok y → (x : A) × (r ≡ Ok x) × (f x ≡ Ok y)

@@ -19,15 +19,15 @@ use Rattle.poly_core.specs.declared.place_names.Names.TheVariants.{Listed}
 use Rattle.poly_core.specs.Presentation.{IsCanonicalGenerator, AreCanonicalGenerators}
 use Rattle.poly_core.specs.Text.{poly_text}
 use Rattle.poly_core.specs.laws.Text.{decreasing_named}
-use Rattle.polynomial_text.specs.declared.text_kind.TextKind.{TextKind}
-use Rattle.polynomial_text.specs.Blanks.{is_skipped}
-use Rattle.presentation_text.specs.Lines.{lines, due_lines}
+use Rattle.presentation_text.specs.declared.text_kind.TextKind.{TextKind}
+use Rattle.polynomial_text.specs.Bytes.{is_skipped}
+use Rattle.presentation_text.specs.Lines.{lines, content_lines}
 use Rattle.presentation_text.specs.Judging.{degrees, is_one_degree, judged}
 use Rattle.presentation_text.specs.Reading.{Head, order_of_head, several, poly_line}
 use Rattle.presentation_text.specs.PresentationText.{line, poly_lines}
 use Rattle.polynomial_text.specs.Canonical.{AreDifferent}
 use Rattle.presentation_text.specs.Meaning.{AreSums}
-use Rattle.polynomial_text.specs.CanonicalPoly.{canonical_terms, canonical_line, canonical_due}
+use Rattle.polynomial_text.specs.laws.CanonicalPoly.{canonical_terms, canonical_line, canonical_not_skipped}
 use Rattle.presentation_text.proofs.TextLines.{IsOneLine, next_line}
 use Rattle.presentation_text.proofs.TextHeading.{listed_small}
 
@@ -167,14 +167,14 @@ module _ (h : Head) (S : IsSound h) where
           read = rw ts.1 judge;
           sum = ts.2;
           one = no_feed (poly_text field (Listed h.names) f) (canonical_line field laws few order S.order (Listed h.names) different f g.kept named small);
-          due = canonical_due field laws few order S.order (Listed h.names) different f g.kept named small;
+          due = canonical_not_skipped field laws few order S.order (Listed h.names) different f g.kept named small;
         },
       )
 
   -- the lines of generators
   pub polys_back : (constant : TextKind) (last n : ℕ) (fs : List (Polynomial ℕ)) (rest : List ℕ) → AreCanonicalGenerators field order fs →
       (sums : List (Polynomial ℕ)) × (k : ℕ)
-      × (several last (poly_line h constant) (length fs) (due_lines n (lines (poly_lines field h.names fs ++ rest))) ≡ Ok (sums, due_lines k (lines rest)))
+      × (several last (poly_line h constant) (length fs) (content_lines n (lines (poly_lines field h.names fs ++ rest))) ≡ Ok (sums, content_lines k (lines rest)))
       × AreSums field order sums fs
   unfolding several
   polys_back constant last n [] rest g = ([], n, refl, tt)

@@ -13,6 +13,7 @@ use Rattle.poly_core.specs.Names.{is_letter, is_name_byte}
 use Rattle.poly_core.specs.Text.{join}
 use Rattle.polynomial_text.specs.Bytes.{digits_max, is_blank, is_digit, is_sign, front, behind}
 use Rattle.polynomial_text.specs.PolyLine.{number_at, signed_parts}
+use Rattle.polynomial_text.specs.laws.Fronts.{Stops}
 
 -- ---- tests along lists
 
@@ -35,11 +36,6 @@ lack_from p q f (x ∷ xs) h = let a = and_parts (p x) (list_all p xs) h in (f x
 pub lack_append : (q : ℕ → Bool) (xs ys : List ℕ) → Lack q xs → Lack q ys → Lack q (xs ++ ys)
 lack_append q [] ys h k = k
 lack_append q (x ∷ xs) ys h k = (h.0, lack_append q xs ys h.1 k)
-
--- the list has no first member that passes
-abbrev pub Stops : (ℕ → Bool) → List ℕ → Type 0
-Stops p [] = Unit {0}
-Stops p (b ∷ bytes) = p b ≡ false
 
 -- the list has a first member, and it passes
 abbrev pub Begins : (ℕ → Bool) → List ℕ → Type 0

@@ -1,6 +1,6 @@
 use Rattle.std.proofs.Common.{sym}
 use Rattle.std.proofs.lemmas.List.{take_rest}
-use Rattle.presentation_text.proofs.DueLines.{lines_cut, lines_whole, no_lines, behind_all}
+use Rattle.presentation_text.proofs.ContentLines.{lines_cut, lines_whole, no_lines, behind_all}
 use Rattle.presentation_text.proofs.lines.first_line.Goals as goal
 
 pub returns-in-Some-clause-lines : goal.returns-in-Some-clause-lines

@@ -1,5 +1,5 @@
 use Rattle.std.proofs.Common.{sym, ◌∙◌}
-use Rattle.presentation_text.proofs.DueLines.{skipped_blank, skipped_at, skipped_end, drop_past}
+use Rattle.presentation_text.proofs.ContentLines.{skipped_blank, skipped_at, skipped_end, drop_past}
 use Rattle.presentation_text.proofs.lines.is_skipped.Goals as goal
 
 pub returns-then-not-is_blank : goal.returns-then-not-is_blank

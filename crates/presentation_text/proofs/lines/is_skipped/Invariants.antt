@@ -1,5 +1,5 @@
 use Rattle.std.proofs.Common.{◌≡◌, drop}
-use Rattle.polynomial_text.specs.Blanks.{is_skipped}
+use Rattle.polynomial_text.specs.Bytes.{is_skipped}
 use Rattle.presentation_text.proofs.lines.is_skipped.Given as goal
 
 abbrev pub invariant-loop-b : goal.invariant-loop-b

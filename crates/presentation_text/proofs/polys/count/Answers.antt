@@ -6,8 +6,8 @@ use Rattle.presentation_text.proofs.polys.count.Goals as goal
 pub returns-in_err-line-clause-read : goal.returns-in_err-line-clause-read
 returns-in_err-line-clause-read c =
     let p = err_from_is_err_and c.from_residual.result c.from_residual.ensures.1 in
-    rw (p.1, p.2) (next_none (count_line c.args.key.now) c.args.lines.now.missing c.args.lines.now.due c.in_err-line.field-0.0 c.in_err-line.ensures.none.0 c.in_err-line.ensures.none.1)
+    rw (p.1, p.2) (next_none (count_line c.args.key.now) c.args.lines.now.missing c.args.lines.now.left c.in_err-line.field-0.0 c.in_err-line.ensures.none.0 c.in_err-line.ensures.none.1)
 
 pub returns-clause-read : goal.returns-clause-read
 returns-clause-read c =
-    next_gives (count_line c.args.key.now) (λ n. n) c.args.lines.now.missing c.in_ok-line.line.number c.in_ok-line.line.bytes.now c.args.lines.now.due c.due_line.new.lines.due c.count_line.result c.located.result c.in_ok-line.ensures.due c.count_line.ensures c.located.ensures
+    next_gives (count_line c.args.key.now) (λ n. n) c.args.lines.now.missing c.in_ok-line.line.number c.in_ok-line.line.bytes.now c.args.lines.now.left c.needed_line.new.lines.left c.count_line.result c.located.result c.in_ok-line.ensures.line c.count_line.ensures c.located.ensures

@@ -7,8 +7,8 @@ use Rattle.presentation_text.proofs.reading.closing.Goals as goal
 pub returns-in_err-line-clause-read : goal.returns-in_err-line-clause-read
 returns-in_err-line-clause-read c =
     let p = err_from_is_err_and c.from_residual.result c.from_residual.ensures.1 in
-    rw (p.1, p.2) (next_none closing_line c.args.lines.now.missing c.args.lines.now.due c.in_err-line.field-0.0 c.in_err-line.ensures.none.0 c.in_err-line.ensures.none.1)
+    rw (p.1, p.2) (next_none closing_line c.args.lines.now.missing c.args.lines.now.left c.in_err-line.field-0.0 c.in_err-line.ensures.none.0 c.in_err-line.ensures.none.1)
 
 pub returns-clause-read : goal.returns-clause-read
 returns-clause-read c =
-    next_gives closing_line (λ _. []) c.args.lines.now.missing c.in_ok-line.line.number c.in_ok-line.line.bytes.now c.args.lines.now.due c.due_line.new.lines.due c.closing_line.result c.located.result c.in_ok-line.ensures.due c.closing_line.ensures c.located.ensures
+    next_gives closing_line (λ _. []) c.args.lines.now.missing c.in_ok-line.line.number c.in_ok-line.line.bytes.now c.args.lines.now.left c.needed_line.new.lines.left c.closing_line.result c.located.result c.in_ok-line.ensures.line c.closing_line.ensures c.located.ensures
