@@ -1,7 +1,7 @@
 -- The first line of a text, and lines that are skipped.
-use Rattle.std.proofs.Common.{◌≡◌, ℕ, suc, ◌+◌, ◌-◌, ◌<◌, ◌≤◌, Bool, true, false, not, eqb, List, [], ◌∷◌, length, take, drop, refl, sym, ap, ◌∙◌, arith, add-one}
+use Rattle.std.proofs.Common.{◌≡◌, ℕ, ◌+◌, ◌-◌, ◌<◌, ◌≤◌, Bool, true, false, not, eqb, List, [], ◌∷◌, length, take, drop, refl, ap, ◌∙◌, arith, add-one}
 use Rattle.std.proofs.lemmas.Bool.{eqb-true}
-use Rattle.polynomial_text.specs.Bytes.{is_blank, is_skipped, front, behind}
+use Rattle.polynomial_text.specs.Bytes.{is_skipped, front, behind}
 use Rattle.polynomial_text.specs.laws.Fronts.{nothing_left, first_and_rest}
 use Rattle.presentation_text.specs.Lines.{lines, content_lines}
 

@@ -7,7 +7,7 @@ use Rattle.presentation_text.specs.declared.text_kind.TextKind.{TextKind}
 use Rattle.presentation_text.specs.declared.text_kind.TextKind.TheVariants.{CountLine}
 use Rattle.presentation_text.specs.Numbers.{number_of, number_within}
 use Rattle.presentation_text.specs.Lines.{tokens}
-use Rattle.presentation_text.specs.Heading.{◌>>=◌, count_max, behind_key, only, count_of, count_line}
+use Rattle.presentation_text.specs.Heading.{count_max, behind_key, only, count_of, count_line}
 use Rattle.presentation_text.specs.Reading.{Line, Head, next, several, poly_line, counted}
 use Rattle.presentation_text.specs.Meaning.{IsFaultOf}
 use Rattle.presentation_text.proofs.NextLines.{next_was}

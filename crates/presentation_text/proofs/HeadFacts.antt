@@ -9,7 +9,7 @@ use Rattle.presentation_text.specs.declared.text_kind.TextKind.TheVariants.{Dupl
 use Rattle.presentation_text.specs.Lines.{tokens}
 use Rattle.presentation_text.specs.Heading.{behind_key, is_name, are_different, names_of, vars_line, number_first, numbers_first, weight_max, weights_of, weights_line}
 use Rattle.presentation_text.specs.Reading.{Line, next}
-use Rattle.presentation_text.proofs.NameTokens.{and_parts, HaveForm, names_form, are_distinct}
+use Rattle.presentation_text.proofs.NameTokens.{HaveForm, names_form, are_distinct}
 use Rattle.presentation_text.proofs.NextLines.{next_was}
 use Rattle.presentation_text.proofs.TakenTokens.{bind_some, or_fault_ok}
 
@@ -49,12 +49,12 @@ vars_read last ls x e = let w = next_was vars_line last ls x e in vars_fit w.0 x
 -- so many numbers are taken
 as_many : (low high n : ℕ) (line : List (List ℕ)) (x : List ℕ × List (List ℕ)) → numbers_first low high n line ≡ Some x → length x.0 ≡ n
 unfolding numbers_first
-as_many low high zero line x e = rw (← e) refl
+as_many low high zero line x e = let same : ([], line) ≡ x = cc in ap (λ (y : List ℕ × List (List ℕ)). length y.0) (sym same)
 as_many low high (suc n) line x e =
     let first = bind_some (number_first low high line) _ x e in
     let others = bind_some (numbers_first low high n first.0.1) _ x first.2 in
     let same : (first.0.0 ∷ others.0.0, others.0.1) ≡ x = cc in
-    rw (← same) (ap suc (as_many low high n first.0.1 others.0 others.1))
+    ap (λ (y : List ℕ × List (List ℕ)). length y.0) (sym same) ∙ ap suc (as_many low high n first.0.1 others.0 others.1)
 
 weights_fit : (n : ℕ) (line : List (List ℕ)) (ws : List ℕ) → weights_of n line ≡ Some ws → length ws ≡ n
 unfolding weights_of

@@ -1,5 +1,8 @@
--- What is made of the next due line.
-use Rattle.std.proofs.Common.{◌≡◌, ℕ, List, [], ◌∷◌, Result, Ok, Err, refl, ap}
+-- What is made of the next line.
+use Rattle.std.proofs.Common.{◌≡◌, ℕ, List, [], ◌∷◌, ◌++◌, Result, Ok, Err, refl, ap}
+use Rattle.word_field.specs.Field.{FieldOps}
+use Rattle.monomial_order.specs.MonomialOrder.{MonomialOrder}
+use Rattle.polynomials.specs.Polynomial.{Polynomial}
 use Rattle.polynomial_text.specs.declared.line_fault.LineFault.{LineFault}
 use Rattle.polynomial_text.specs.declared.line_fault.LineFault.TheVariants as line_faults
 use Rattle.presentation_text.specs.declared.text_fault.TextFault.{TextFault}
@@ -10,9 +13,16 @@ use Rattle.polynomial_text.specs.Results.{◌>>=◌}
 use Rattle.presentation_text.specs.Kinds.{Fault}
 use Rattle.presentation_text.specs.Reading.{Line, at_line, next}
 use Rattle.polynomial_text.specs.Canonical.{IsLineFaultOf}
-use Rattle.presentation_text.specs.Meaning.{IsFaultOf}
+use Rattle.presentation_text.specs.Meaning.{AreSums, IsFaultOf}
 use Rattle.polynomial_text.specs.LineReading.{Gives as LineGives}
 use Rattle.presentation_text.specs.Giving.{Gives, fault_at, located}
+
+module _ {E : Type 0} (K : FieldOps E) (O : MonomialOrder) where
+  pub sums_push : (sums ps : List (Polynomial E)) (sum p : Polynomial E) → AreSums K O sums ps → AreSums K O (sum ∷ []) (p ∷ []) → AreSums K O (sums ++ sum ∷ []) (ps ++ p ∷ [])
+  sums_push [] [] sum p h k = k
+  sums_push [] (q ∷ ps) sum p h k = absurd h
+  sums_push (s ∷ sums) [] sum p h k = absurd h
+  sums_push (s ∷ sums) (q ∷ ps) sum p h k = (h.0, h.1, sums_push sums ps sum p h.2 k)
 
 module _ {Y : Type 0} (f : List ℕ → Result Y TextKind) where
   pub at_ok : (number : ℕ) (bytes : List ℕ) (y : Y) → f bytes ≡ Ok y → at_line f (number, bytes) ≡ Ok y

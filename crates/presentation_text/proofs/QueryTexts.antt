@@ -5,14 +5,14 @@ use Rattle.std.specs.List.{AllByRecursion}
 use Rattle.std.proofs.lemmas.List.{append-nil}
 use Rattle.std.proofs.lemmas.List.Elements.{All-from_recursion}
 use Rattle.word_field.specs.Field.{FieldOps}
-use Rattle.monomial_order.specs.declared.terms.Term.{Term}
 use Rattle.monomial_order.specs.MonomialOrder.{MonomialOrder}
 use Rattle.poly_core.specs.declared.place_names.Names.{Names}
 use Rattle.polynomial_text.specs.declared.line_fault.LineFault.{LineFault}
 use Rattle.presentation_text.specs.declared.text_fault.TextFault.{TextFault}
 use Rattle.presentation_text.specs.declared.text_fault.TextFault.TheVariants as faults
 use Rattle.polynomial_text.specs.Results.{◌>>=◌, each}
-use Rattle.presentation_text.specs.Kinds.{Fault}
+use Rattle.presentation_text.specs.declared.text_kind.TextKind.{TextKind}
+use Rattle.presentation_text.specs.Kinds.{Fault, in_text}
 use Rattle.polynomial_text.specs.Degrees.{IsLow}
 use Rattle.polynomial_text.specs.PolyLine.{terms_of, IsPolyOf}
 use Rattle.presentation_text.specs.Reading.{Line, at_line, queries}
@@ -20,7 +20,8 @@ use Rattle.polynomial_text.specs.Canonical.{IsLineFaultOf}
 use Rattle.presentation_text.specs.Meaning.{AreSums, AreQueries, IsFaultOf}
 use Rattle.presentation_text.specs.Giving.{fault_at, located}
 use Rattle.presentation_text.specs.Pending.{Pending, pending}
-use Rattle.presentation_text.proofs.NextLines.{at_ok, at_err}
+use Rattle.presentation_text.proofs.NextLines.{at_ok, at_err, sums_push}
+use Rattle.presentation_text.proofs.PolyLines.{in_text_ok}
 use Rattle.presentation_text.proofs.TextTokens.{all_append}
 use Rattle.polynomials.specs.Polynomial.{Polynomial}
 
@@ -34,8 +35,11 @@ module _ {E : Type 0} (K : FieldOps E) (O : MonomialOrder) (names : Names) where
   abbrev pub with_sums : List (Polynomial E) → Result (List (Polynomial E)) Fault → Result (List (Polynomial E)) Fault
   with_sums front read = read >>= λ x. Ok (front ++ x)
 
+  abbrev pub read_line : List ℕ → Result (Polynomial E) TextKind
+  read_line line = in_text (terms_of K O names line)
+
   abbrev pub sums_of : List Line → Result (List (Polynomial E)) Fault
-  sums_of ls = each (at_line (terms_of K O names)) ls
+  sums_of ls = each (at_line read_line) ls
 
   regroup : (front : List (Polynomial E)) (sum : Polynomial E) (read : Result (List (Polynomial E)) Fault) → with_sums front (read >>= λ x. Ok (sum ∷ x)) ≡ with_sums (front ++ sum ∷ []) read
   regroup front sum (Ok x) = ap (λ (l : List (Polynomial E)). Ok l) (sym (append_assoc front (sum ∷ []) x))
@@ -44,12 +48,6 @@ module _ {E : Type 0} (K : FieldOps E) (O : MonomialOrder) (names : Names) where
   none_before : (read : Result (List (Polynomial E)) Fault) → with_sums [] read ≡ read
   none_before (Ok x) = refl
   none_before (Err e) = refl
-
-  sums_push : (sums ps : List (Polynomial E)) (sum p : Polynomial E) → AreSums K O sums ps → AreSums K O (sum ∷ []) (p ∷ []) → AreSums K O (sums ++ sum ∷ []) (ps ++ p ∷ [])
-  sums_push [] [] sum p h k = k
-  sums_push [] (q ∷ ps) sum p h k = absurd h
-  sums_push (s ∷ sums) [] sum p h k = absurd h
-  sums_push (s ∷ sums) (q ∷ ps) sum p h k = (h.0, h.1, sums_push sums ps sum p h.2 k)
 
   -- some polynomials were read, and what is still read gives the whole
   pub record HaveCome (ls : List Line) (text : List ℕ) (ps : List (Polynomial E)) : Type 0 where
@@ -65,16 +63,16 @@ module _ {E : Type 0} (K : FieldOps E) (O : MonomialOrder) (names : Names) where
       → ls ≡ (number, bytes) ∷ rest → HaveCome ls text ps → IsPolyOf K O names bytes p → IsLow O p → HaveCome rest text (ps ++ p ∷ [])
   unfolding each
   come_next number bytes ls rest text ps p split h s low =
-      let first : at_line (terms_of K O names) (number, bytes) ≡ Ok s.terms = at_ok (terms_of K O names) number bytes s.terms s.read in
+      let first : at_line read_line (number, bytes) ≡ Ok s.terms = at_ok read_line number bytes s.terms (in_text_ok (terms_of K O names bytes) s.terms s.read) in
       let step : with_sums h.sums (sums_of ls) ≡ with_sums (h.sums ++ s.terms ∷ []) (sums_of rest) = rw (split, first) (regroup h.sums s.terms (sums_of rest)) in
-      record { sums = h.sums ++ s.terms ∷ []; is = sym step ∙ h.is; same = sums_push h.sums ps s.terms p h.same (s.sum, s.kept, tt); low = all_append (IsLow O) ps (p ∷ []) h.low (low, tt) }
+      record { sums = h.sums ++ s.terms ∷ []; is = sym step ∙ h.is; same = sums_push K O h.sums ps s.terms p h.same (s.sum, s.canonical, tt); low = all_append (IsLow O) ps (p ∷ []) h.low (low, tt) }
 
   pub come_stop : (number : ℕ) (bytes : List ℕ) (ls rest : List Line) (text : List ℕ) (ps : List (Polynomial E)) (e : LineFault TextKind)
-      → ls ≡ (number, bytes) ∷ rest → HaveCome ls text ps → IsLineFaultOf (terms_of K O names bytes) e → IsFaultOf (queries K O names text) (fault_at number e)
+      → ls ≡ (number, bytes) ∷ rest → HaveCome ls text ps → IsLineFaultOf (read_line bytes) e → IsFaultOf (queries K O names text) (fault_at number e)
   unfolding each
-  come_stop number bytes ls rest text ps e split h k = stopped (fault_at number e) (at_err (terms_of K O names) number bytes e k)
+  come_stop number bytes ls rest text ps e split h k = stopped (fault_at number e) (at_err read_line number bytes e k)
     where
-      stopped : (f : TextFault) → IsFaultOf (at_line (terms_of K O names) (number, bytes)) f → IsFaultOf (queries K O names text) f
+      stopped : (f : TextFault) → IsFaultOf (at_line read_line (number, bytes)) f → IsFaultOf (queries K O names text) f
       stopped faults.Memory k = tt
       stopped (faults.At kind line) k =
           let step : with_sums h.sums (sums_of ls) ≡ Err (kind, line) = rw (split, k) refl in
@@ -90,6 +88,6 @@ module _ {E : Type 0} (K : FieldOps E) (O : MonomialOrder) (names : Names) where
   come_low ls text ps h = All-from_recursion (IsLow O) ps h.low
 
   pub located_stop : (number : ℕ) (bytes : List ℕ) (ls rest : List Line) (text : List ℕ) (ps : List (Polynomial E)) (r : Result (Polynomial E) (LineFault TextKind)) (e : TextFault)
-      → ls ≡ (number, bytes) ∷ rest → HaveCome ls text ps → Err e ≡ located number r → IfErr r (IsLineFaultOf (terms_of K O names bytes)) → IsFaultOf (queries K O names text) e
+      → ls ≡ (number, bytes) ∷ rest → HaveCome ls text ps → Err e ≡ located number r → IfErr r (IsLineFaultOf (read_line bytes)) → IsFaultOf (queries K O names text) e
   located_stop number bytes ls rest text ps (Ok q) e split h is k = absurd cc
   located_stop number bytes ls rest text ps (Err f) e split h is k = let same : fault_at number f ≡ e = cc in subst (IsFaultOf (queries K O names text)) same (come_stop number bytes ls rest text ps f split h k)

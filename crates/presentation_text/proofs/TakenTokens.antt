@@ -1,14 +1,13 @@
 -- Taking tokens one by one gives what the definition of a line says.
-use Rattle.std.proofs.Common.{◌≡◌, ℕ, zero, suc, ◌+◌, ◌-◌, ◌<◌, ◌≤◌, Bool, true, false, cond, eqb, List, [], ◌∷◌, ◌++◌, length, take, drop, Option, Some, None, Ok, Err, refl, sym, ap, ◌∙◌, append_assoc, arith}
-use Rattle.std.specs.Prelude.{codes}
+use Rattle.std.proofs.Common.{◌≡◌, ℕ, suc, ◌+◌, ◌-◌, ◌<◌, ◌≤◌, true, false, eqb, List, [], ◌∷◌, ◌++◌, length, Option, Some, None, Ok, Err, refl, sym, ap, ◌∙◌, append_assoc, arith}
 use Rattle.std.proofs.lemmas.List.{append-nil}
 use Rattle.monomial_order.specs.declared.tie_break.Tie.{Tie}
-use Rattle.presentation_text.specs.Numbers.{number_within}
-use Rattle.presentation_text.specs.Heading.{◌>>=◌, number_first, numbers_first, row_at, rows_max, rows_of, tie_alone}
+use Rattle.presentation_text.specs.Heading.{◌>>=◌, number_first, numbers_first, row_at, rows_of, tie_alone}
 use Rattle.polynomial_text.specs.Canonical.{IsLineFaultOf}
 use Rattle.presentation_text.specs.Kinds.{or_fault}
 use Rattle.polynomial_text.specs.declared.line_fault.LineFault.{LineFault}
 use Rattle.polynomial_text.specs.declared.line_fault.LineFault.TheVariants as line_faults
+use Rattle.presentation_text.specs.declared.text_kind.TextKind.{TextKind}
 use Rattle.presentation_text.specs.declared.text_kind.TextKind.TheVariants.{OrderLine}
 use Rattle.presentation_text.specs.Taking.{with_front}
 

@@ -1,10 +1,9 @@
 -- The lines of the heading of a canonical text are read.
-use Rattle.std.proofs.Common.{◌≡◌, ℕ, zero, suc, ◌+◌, ◌<◌, ◌≤◌, true, false, leb, eqb, ◌&&◌, List, [], ◌∷◌, ◌++◌, length, map, Some, Ok, refl, sym, ap, subst, ◌∙◌, arith, append_assoc, length-append}
+use Rattle.std.proofs.Common.{◌≡◌, ℕ, zero, suc, ◌<◌, ◌≤◌, true, false, leb, eqb, ◌&&◌, List, [], ◌∷◌, ◌++◌, length, map, Some, Ok, refl, sym, ap, subst, ◌∙◌, arith, append_assoc, length-append}
 use Rattle.std.specs.Prelude.{codes}
-use Rattle.std.specs.List.{AllByRecursion, IsDistinct, list_all, list_any, flat_map}
-use Rattle.std.specs.Str.{bytes_eq}
+use Rattle.std.specs.List.{AllByRecursion, list_all, flat_map}
 use Rattle.std.specs.Fmt.{decimal}
-use Rattle.std.proofs.lemmas.Bool.{and_parts, eq-eqb, eqb-true, le-leb}
+use Rattle.std.proofs.lemmas.Bool.{and_parts, eqb-true, le-leb}
 use Rattle.std.proofs.lemmas.Slice.Eq.{bytes_eq-Decides}
 use Rattle.std.proofs.lemmas.List.{append-nil}
 use Rattle.std.proofs.lemmas.List.Elements.{recursion_from_All}
@@ -14,7 +13,7 @@ use Rattle.monomial_order.specs.declared.tie_break.Tie.{Tie}
 use Rattle.monomial_order.specs.declared.tie_break.Tie.TheVariants.{Lex, RevLex}
 use Rattle.poly_core.specs.Names.{is_letter, is_name_byte, IsName, IsNameList}
 use Rattle.presentation_text.specs.Lines.{tokens}
-use Rattle.presentation_text.specs.Heading.{count_max, entry_max, name_max, names_max, rows_max, weight_max, numbers_first, behind_key, header, size, is_name, names_of, are_different, weights_of, tie_of, tie_alone, row_at, rows_of, order_of, count_of, closing, header_line, field_line, vars_line, weights_line, order_line, count_line, closing_line}
+use Rattle.presentation_text.specs.Heading.{count_max, entry_max, name_max, names_max, rows_max, weight_max, numbers_first, behind_key, header, size, is_name, names_of, weights_of, tie_of, tie_alone, row_at, rows_of, order_of, count_of, closing, header_line, field_line, vars_line, weights_line, order_line, count_line, closing_line}
 use Rattle.presentation_text.specs.PresentationText.{row_tokens, tie_token}
 use Rattle.presentation_text.proofs.NameTokens.{different}
 use Rattle.presentation_text.proofs.TextTokens.{IsToken, not_equal, all_append}

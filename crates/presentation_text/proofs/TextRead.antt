@@ -7,7 +7,6 @@ use Rattle.std.proofs.lemmas.Bool.{and_parts, leb-true, not-true}
 use Rattle.std.proofs.lemmas.List.Elements.{recursion_from_All}
 use Rattle.word_field.specs.Residues.{residues, is_listed}
 use Rattle.word_field.specs.declared.WordField.{WordField}
-use Rattle.monomial_order.specs.declared.terms.Term.{Term}
 use Rattle.monomial_order.specs.declared.weight_order.WeightOrder.{WeightOrder}
 use Rattle.monomial_order.specs.declared.tie_break.Tie.{Tie}
 use Rattle.monomial_order.specs.Ranges.{all_between, are_rows}
@@ -19,7 +18,7 @@ use Rattle.poly_core.specs.Presentation.{IsCanonicalList, IsValid, weight_order_
 use Rattle.presentation_text.specs.declared.text_kind.TextKind.{TextKind}
 use Rattle.presentation_text.specs.declared.text_kind.TextKind.TheVariants.{UnitIdeal, ConstantGenerator}
 use Rattle.presentation_text.specs.Lines.{lines, content_lines, end_line}
-use Rattle.presentation_text.specs.Heading.{header_line, field_line, vars_line, weights_line, order_line, count_line, closing_line}
+use Rattle.presentation_text.specs.Heading.{count_max, rows_max, weight_max, header_line, field_line, vars_line, weights_line, order_line, count_line, closing_line}
 use Rattle.presentation_text.specs.Reading.{Line, Head, order_of_head, next, several, head, poly_line, counted, ended, reading_of, reading}
 use Rattle.presentation_text.specs.PresentationText.{line, poly_lines, presentation_text}
 use Rattle.presentation_text.specs.Meaning.{AreSums, IsTextOf, IsRead}
@@ -50,15 +49,15 @@ field_back p last n rest h = next_tokens last n field_line p (codes "field") (de
 vars_back : (names : List (List ℕ)) (places last n : ℕ) (rest : List ℕ) → IsNameList places names → next last vars_line (content_lines n (lines (line (codes "vars") names ++ rest))) ≡ Ok (names, content_lines (suc n) (lines rest))
 vars_back names places last n rest h = next_tokens last n vars_line names (codes "vars") names rest (omega arith) (key (codes "vars") refl) (names_tokens names (recursion_from_All IsName names h.each)) (λ l. reads_vars places names l h)
 
-weights_back : (weights : List ℕ) (places last n : ℕ) (rest : List ℕ) → length weights ≡ places → all_between 1 64 weights ≡ true → next last (weights_line places) (content_lines n (lines (line (codes "weights") (map decimal weights) ++ rest))) ≡ Ok (weights, content_lines (suc n) (lines rest))
+weights_back : (weights : List ℕ) (places last n : ℕ) (rest : List ℕ) → length weights ≡ places → all_between 1 weight_max weights ≡ true → next last (weights_line places) (content_lines n (lines (line (codes "weights") (map decimal weights) ++ rest))) ≡ Ok (weights, content_lines (suc n) (lines rest))
 weights_back weights places last n rest c h =
-    next_tokens last n (weights_line places) weights (codes "weights") (map decimal weights) rest (omega arith) (key (codes "weights") refl) (between_tokens 1 64 weights (omega arith) h) (λ l. reads_weights places weights l c h)
+    next_tokens last n (weights_line places) weights (codes "weights") (map decimal weights) rest (omega arith) (key (codes "weights") refl) (between_tokens 1 weight_max weights (omega arith) h) (λ l. reads_weights places weights l c h)
 
-order_back : (rows : List (List ℕ)) (tie : Tie) (places last n : ℕ) (rest : List ℕ) → length rows ≤ 4 → are_rows places rows ≡ true → next last (order_line places) (content_lines n (lines (line (codes "order") (row_line rows tie) ++ rest))) ≡ Ok ((rows, tie), content_lines (suc n) (lines rest))
+order_back : (rows : List (List ℕ)) (tie : Tie) (places last n : ℕ) (rest : List ℕ) → length rows ≤ rows_max → are_rows places rows ≡ true → next last (order_line places) (content_lines n (lines (line (codes "order") (row_line rows tie) ++ rest))) ≡ Ok ((rows, tie), content_lines (suc n) (lines rest))
 order_back rows tie places last n rest few h =
     next_tokens last n (order_line places) (rows, tie) (codes "order") (row_line rows tie) rest (omega arith) (key (codes "order") refl) (row_line_tokens places rows tie h) (λ l. reads_order places rows tie l few h)
 
-count_back : (token : List ℕ) (k last n : ℕ) (rest : List ℕ) → Begins token → IsToken token → k ≤ 256 → next last (count_line token) (content_lines n (lines (line token (decimal k ∷ []) ++ rest))) ≡ Ok (k, content_lines (suc n) (lines rest))
+count_back : (token : List ℕ) (k last n : ℕ) (rest : List ℕ) → Begins token → IsToken token → k ≤ count_max → next last (count_line token) (content_lines n (lines (line token (decimal k ∷ []) ++ rest))) ≡ Ok (k, content_lines (suc n) (lines rest))
 count_back token k last n rest b w few =
     next_tokens last n (count_line token) k token (decimal k ∷ []) rest b w (decimal_token k (omega arith), tt) (λ l. reads_count token k l few)
 

@@ -4,7 +4,7 @@ use Rattle.std.specs.List.{AllByRecursion, flat_map}
 use Rattle.std.proofs.lemmas.List.Elements.{All-from_recursion}
 use Rattle.std.proofs.lemmas.List.Splits.{slice_split_at, slice_split_none}
 use Rattle.presentation_text.specs.declared.text_kind.TextKind.{TextKind}
-use Rattle.polynomial_text.specs.Bytes.{is_blank, is_skipped}
+use Rattle.polynomial_text.specs.Bytes.{is_blank, is_skipped, behind}
 use Rattle.presentation_text.specs.Lines.{lines, content_lines, tokens}
 use Rattle.presentation_text.specs.Reading.{next}
 use Rattle.presentation_text.specs.PresentationText.{line}
@@ -15,7 +15,7 @@ pub record IsToken (w : List ℕ) : Type 0 where
   pub some : eqb (length w) 0 ≡ false
   pub visible : AllByRecursion (λ b. 33 ≤ b) w
 
--- the first byte of a line that is due
+-- the first byte of a line that is not skipped
 abbrev pub Begins : List ℕ → Type 0
 Begins [] = ⊥
 Begins (b ∷ w) = 36 ≤ b
@@ -27,7 +27,7 @@ no_blank : (b : ℕ) → 33 ≤ b → is_blank b ≡ false
 no_blank b h = rw (not_equal b 32 (omega arith), not_equal b 9 (omega arith), not_equal b 13 (omega arith)) refl
 
 pub begins_not_skipped : (w : List ℕ) → Begins w → is_skipped w ≡ false
-unfolding is_skipped
+unfolding behind
 begins_not_skipped [] h = absurd h
 begins_not_skipped (b ∷ w) h = rw (no_blank b (omega arith), not_equal b 35 h) refl
 

@@ -4,7 +4,6 @@ use Rattle.std.specs.Prelude.{codes}
 use Rattle.word_field.specs.Residues.{residues}
 use Rattle.word_field.specs.laws.Residues.{residues_field}
 use Rattle.word_field.specs.declared.WordField.{WordField}
-use Rattle.monomial_order.specs.declared.terms.Term.{Term}
 use Rattle.monomial_order.specs.declared.weight_order.WeightOrder.{WeightOrder}
 use Rattle.monomial_order.specs.MonomialOrder.{IsMonomialOrder}
 use Rattle.monomial_order.specs.laws.Ties.{weight_laws}
@@ -12,7 +11,7 @@ use Rattle.poly_core.specs.Names.{AreNames}
 use Rattle.poly_core.specs.declared.presentations.Presentation.{Presentation}
 use Rattle.poly_core.specs.Presentation.{IsValid, weight_order_of}
 use Rattle.poly_core.specs.laws.Presentation.{canonical_presentation}
-use Rattle.presentation_text.specs.declared.head.Head.{Head as Kept}
+use Rattle.presentation_text.specs.declared.head.Head.{Head as Opening}
 use Rattle.presentation_text.specs.declared.text_fault.TextFault.{TextFault}
 use Rattle.presentation_text.specs.declared.text_fault.TextFault.TheVariants as faults
 use Rattle.presentation_text.specs.declared.text_kind.TextKind.TheVariants.{UnitIdeal, ConstantGenerator}
@@ -21,7 +20,7 @@ use Rattle.polynomial_text.specs.Results.{◌>>=◌}
 use Rattle.presentation_text.specs.Kinds.{Fault}
 use Rattle.presentation_text.specs.Reading.{Line, Head, Reading, head, counted, ended, reading_of, reading}
 use Rattle.presentation_text.specs.Meaning.{IsRead, IsFaultOf}
-use Rattle.presentation_text.specs.Giving.{head_of}
+use Rattle.presentation_text.specs.Giving.{field_in, order_in, head_of}
 use Rattle.presentation_text.specs.Pending.{Pending, pending}
 use Rattle.presentation_text.specs.PolySums.{AreListsIn, IsMadeOf, lists}
 use Rattle.presentation_text.proofs.TableNames.{is_listed}
@@ -96,7 +95,7 @@ reading_from text l e =
 pub head_refused : (text : List ℕ) (l : Pending) (e : TextFault) → l ≡ pending 1 text → IsFaultOf (head l.missing l.left) e → IsFaultOf (reading text) e
 head_refused text l e start k = rw (reading_from text l start) (head_err l.missing l.left e k)
 
-module _ (text : List ℕ) (l : Pending) (start : l ≡ pending 1 text) (h : Kept) (rest : List Line) (first : head l.missing l.left ≡ Ok (head_of h, rest)) where
+module _ (text : List ℕ) (l : Pending) (start : l ≡ pending 1 text) (h : Opening) (rest : List Line) (first : head l.missing l.left ≡ Ok (head_of h, rest)) where
   whole : reading text ≡ finished (head_of h, rest) l.missing
   whole = reading_from text l start ∙ reading_step l.missing l.left (head_of h) rest first
 
@@ -104,7 +103,7 @@ module _ (text : List ℕ) (l : Pending) (start : l ≡ pending 1 text) (h : Kep
   lists_refused e k = rw whole (lists_err l.missing (head_of h) rest e k)
 
   module _ (named : AreNames (length h.order.weights.items) h.names) (ideal generators : List (Polynomial ℕ))
-      (are : AreListsIn (residues h.field.modulus) (weight_order_of h.order) (λ sums. lists l.missing (head_of h) rest ≡ Ok sums) ideal generators) (p : Presentation WordField WeightOrder ℕ) (of : IsMadeOf h ideal generators p) where
+      (are : AreListsIn (field_in h) (order_in h) (λ sums. lists l.missing (head_of h) rest ≡ Ok sums) ideal generators) (p : Presentation WordField WeightOrder ℕ) (of : IsMadeOf h ideal generators p) where
     laws : IsMonomialOrder (weight_order_of h.order)
     laws = weight_laws h.order.weights.items h.order.rows.items h.order.tie h.order.weights_in_range
 

@@ -1,5 +1,5 @@
 -- The kinds of faults in texts.
-use Rattle.std.specs.Prelude.{◌≡◌, ℕ, List, Option, Some, None, Result, Ok, Err, codes}
+use Rattle.std.specs.Prelude.{ℕ, List, Option, Some, None, Result, Ok, Err, codes}
 use Rattle.polynomial_text.specs.declared.line_fault.LineFault.{LineFault}
 use Rattle.polynomial_text.specs.declared.line_fault.LineFault.TheVariants as line_faults
 use Rattle.polynomial_text.specs.declared.line_fault.LineKind.{LineKind}

@@ -110,7 +110,10 @@ fn are_names(line: &Tokens) -> bool
     let mut tokens = line.copy();
     let mut count: usize = 0;
     while let Some(token) = tokens.next() {
-        if count >= NAMES_MAX || !is_name(token) {
+        if count >= NAMES_MAX {
+            return false;
+        }
+        if !is_name(token) {
             return false;
         }
         count += 1;
@@ -186,7 +189,7 @@ fn number_first(tokens: &mut Tokens, low: u32, high: u32) -> Option<u32>
 
 /// Numbers of a line: how many, from which to which, and the kind of fault of a line without them.
 #[derive(Clone, Copy)]
-struct Numbers {
+struct Wanted {
     count: usize,
     low: u32,
     high: u32,
@@ -197,14 +200,16 @@ struct Numbers {
 fn numbers(
     alloc: Global,
     tokens: &mut Tokens,
-    wanted: Numbers,
+    wanted: Wanted,
 ) -> Result<Vec<u32>, LineFault<TextKind>>
     ensures { Gives (λ v. (v.items, tokens.new)) result
         (or_fault wanted.kind (numbers_first wanted.low wanted.high wanted.count tokens.old)) }
 {
     let mut numbers = Vec::new(alloc);
     for _ in 0..wanted.count {
-        let n = number_first(tokens, wanted.low, wanted.high).ok_or(LineFault::Kind(wanted.kind))?;
+        let Some(n) = number_first(tokens, wanted.low, wanted.high) else {
+            return Err(LineFault::Kind(wanted.kind));
+        };
         numbers.push(n)?;
     }
     Ok(numbers)
@@ -222,7 +227,7 @@ pub(crate) fn weights_line(
     let kind = TextKind::WeightsLine;
     let mut tokens = Tokens::new(line);
     take_key(&mut tokens, b"weights", kind)?;
-    let wanted = Numbers {
+    let wanted = Wanted {
         count,
         low: 1,
         high: WEIGHT_MAX,
@@ -241,7 +246,7 @@ fn row(alloc: Global, tokens: &mut Tokens, count: usize) -> Result<Row, LineFaul
     ensures { Gives (λ r. (r, tokens.new)) result (or_fault TextKind.OrderLine (row_at count tokens.old)) }
 {
     let kind = TextKind::OrderLine;
-    let wanted = Numbers {
+    let wanted = Wanted {
         count,
         low: 0,
         high: ENTRY_MAX,

@@ -21,6 +21,7 @@ pub(crate) struct Head {
     pub order: WeightOrder,
 }
 
+#[tactic(auto, unfolding(crate::specs::Reading::next, crate::specs::Reading::at_line))]
 fn header(lines: &mut Lines) -> Result<(), TextFault>
     ensures missing { lines.new.missing ≡ lines.old.missing }
     ensures read { Gives (λ _. ([], lines.new.left)) result (next lines.old.missing header_line lines.old.left) }
@@ -29,6 +30,7 @@ fn header(lines: &mut Lines) -> Result<(), TextFault>
     located(line.number, header_line(line.bytes))
 }
 
+#[tactic(auto, unfolding(crate::specs::Reading::next, crate::specs::Reading::at_line))]
 fn field(lines: &mut Lines) -> Result<WordField, TextFault>
     ensures missing { lines.new.missing ≡ lines.old.missing }
     ensures read { Gives (λ f. (f.modulus, lines.new.left)) result (next lines.old.missing field_line lines.old.left) }
@@ -37,6 +39,7 @@ fn field(lines: &mut Lines) -> Result<WordField, TextFault>
     located(line.number, field_line(line.bytes))
 }
 
+#[tactic(auto, unfolding(crate::specs::Reading::next, crate::specs::Reading::at_line))]
 fn vars(alloc: Global, lines: &mut Lines) -> Result<NameTable, TextFault>
     ensures missing { lines.new.missing ≡ lines.old.missing }
     ensures read { Gives (λ t. (t, lines.new.left)) result (next lines.old.missing vars_line lines.old.left) }
@@ -45,17 +48,21 @@ fn vars(alloc: Global, lines: &mut Lines) -> Result<NameTable, TextFault>
     located(line.number, vars_line(alloc, line.bytes))
 }
 
+#[tactic(auto, unfolding(crate::specs::Reading::next, crate::specs::Reading::at_line))]
 fn weights(alloc: Global, count: usize, lines: &mut Lines) -> Result<Vec<u32>, TextFault>
     ensures missing { lines.new.missing ≡ lines.old.missing }
-    ensures read { Gives (λ v. (v.items, lines.new.left)) result (next lines.old.missing (weights_line count) lines.old.left) }
+    ensures read { Gives (λ v. (v.items, lines.new.left)) result
+        (next lines.old.missing (weights_line count) lines.old.left) }
 {
     let line = lines.needed_line()?;
     located(line.number, weights_line(alloc, count, line.bytes))
 }
 
+#[tactic(auto, unfolding(crate::specs::Reading::next, crate::specs::Reading::at_line))]
 fn rows(alloc: Global, count: usize, lines: &mut Lines) -> Result<(Vec<Row>, Tie), TextFault>
     ensures missing { lines.new.missing ≡ lines.old.missing }
-    ensures read { Gives (λ x. ((x.0.items, x.1), lines.new.left)) result (next lines.old.missing (order_line count) lines.old.left) }
+    ensures read { Gives (λ x. ((x.0.items, x.1), lines.new.left)) result
+        (next lines.old.missing (order_line count) lines.old.left) }
 {
     let line = lines.needed_line()?;
     located(line.number, order_line(alloc, count, line.bytes))

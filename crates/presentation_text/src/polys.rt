@@ -12,8 +12,8 @@ ghost use Rattle.presentation_text.specs.Meaning.{IsFaultOf};
 ghost use Rattle.presentation_text.specs.PolySums.{IsSumIn, AreSumsIn};
 ghost use Rattle.presentation_text.specs.Reading.{next, several, poly_line, counted};
 
-use crate::head::Head;
 use crate::fixed_lines::count_line;
+use crate::head::Head;
 use crate::lines::{Lines, located};
 use crate::poly_line::poly_of_line;
 use crate::text_fault::TextFault;
@@ -104,6 +104,7 @@ fn several(
     Ok(polys)
 }
 
+#[tactic(auto, unfolding(crate::specs::Reading::next, crate::specs::Reading::at_line))]
 fn count(key: &[u8], lines: &mut Lines) -> Result<u32, TextFault>
     ensures missing { lines.new.missing ≡ lines.old.missing }
     ensures read { Gives (λ n. (n, lines.new.left)) result (next lines.old.missing (count_line key.now) lines.old.left) }

@@ -9,8 +9,7 @@ use crate::lines::{Lines, located};
 use crate::poly_line::poly_of_line;
 use crate::text_fault::TextFault;
 use monomial_order::WeightOrder;
-use poly_core::Poly;
-use poly_core::Presentation;
+use poly_core::{Poly, Presentation};
 use std::alloc::Global;
 use word_field::Field;
 

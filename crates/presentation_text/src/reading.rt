@@ -16,11 +16,11 @@ use crate::polys::counted;
 use crate::text_fault::TextFault;
 use crate::text_kind::TextKind;
 use monomial_order::{Memory, Order, WeightOrder, WordOrder};
-use poly_core::Poly;
-use poly_core::Presentation;
+use poly_core::{Poly, Presentation};
 use std::alloc::Global;
 use word_field::WordField;
 
+#[tactic(auto, unfolding(crate::specs::Reading::next, crate::specs::Reading::at_line))]
 fn closing(lines: &mut Lines) -> Result<(), TextFault>
     ensures missing { lines.new.missing ≡ lines.old.missing }
     ensures read { Gives (λ _. ([], lines.new.left)) result (next lines.old.missing closing_line lines.old.left) }

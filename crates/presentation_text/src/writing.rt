@@ -8,9 +8,7 @@ ghost use Rattle.presentation_text.specs.PresentationText.{line, lines_of, list_
 
 use itoa::Buffer;
 use monomial_order::{Memory, Row, Tie, WeightOrder};
-use poly_core::{NameTable, Names};
-use poly_core::Poly;
-use poly_core::Presentation;
+use poly_core::{NameTable, Names, Poly, Presentation};
 use std::alloc::Global;
 use word_field::Field;
 

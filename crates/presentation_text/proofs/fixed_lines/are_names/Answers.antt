@@ -2,8 +2,8 @@ use Rattle.std.proofs.Common.{sym, ◌∙◌, arith}
 use Rattle.presentation_text.proofs.NameTokens.{form_next, form_bad, form_many, form_over}
 use Rattle.presentation_text.proofs.fixed_lines.are_names.Goals as goal
 
-pub returns-then-count-ge32 : goal.returns-then-count-ge32
-returns-then-count-ge32 c = form_many c.loop-token.count c.loop-token.tokens c.next.new.self c.in-Some.token.now c.in-Some.ensures.some c.if-count-ge32.true ∙ c.loop-token.invariant.same
+pub returns-then-count-ge-NAMES_MAX : goal.returns-then-count-ge-NAMES_MAX
+returns-then-count-ge-NAMES_MAX c = form_many c.loop-token.count c.loop-token.tokens c.next.new.self c.in-Some.token.now c.in-Some.ensures.some c.if-count-ge-NAMES_MAX.true ∙ c.loop-token.invariant.same
 
 pub returns-then-not-is_name : goal.returns-then-not-is_name
 returns-then-not-is_name c = form_bad c.loop-token.count c.loop-token.tokens c.next.new.self c.in-Some.token.now c.in-Some.ensures.some (sym c.is_name.ensures ∙ c.if-not-is_name.true) ∙ c.loop-token.invariant.same
@@ -11,7 +11,7 @@ returns-then-not-is_name c = form_bad c.loop-token.count c.loop-token.tokens c.n
 pub loop-token-preserved : goal.loop-token-preserved
 loop-token-preserved c = record {
   same = form_next c.loop-token.count c.loop-token.tokens c.next.new.self c.in-Some.token.now c.in-Some.ensures.some (sym c.is_name.ensures ∙ c.if-not-is_name.false) ∙ c.loop-token.invariant.same;
-  few = omega (arith, c.if-count-ge32.false);
+  few = omega (arith, c.if-count-ge-NAMES_MAX.false);
 }
 
 pub returns : goal.returns

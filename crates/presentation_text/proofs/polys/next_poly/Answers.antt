@@ -12,8 +12,8 @@ returns-in_err-line-clause-fault c =
 
 pub returns-clause-read : goal.returns-clause-read
 returns-clause-read c =
-    poly_gives _ _ (poly_line (head_of c.args.h.now) c.args.constant) c.args.lines.now.missing c.in_ok-line.line.number c.in_ok-line.line.bytes.now c.args.lines.now.left c.needed_line.new.lines.left c.poly_line.result c.located.result c.in_ok-line.ensures.line c.poly_line.ensures.read c.located.ensures
+    poly_gives _ _ (poly_line (head_of c.args.h.now) c.args.constant) c.args.lines.now.missing c.in_ok-line.line.number c.in_ok-line.line.bytes.now c.args.lines.now.left c.needed_line.new.self.left c.poly_line.result c.located.result c.in_ok-line.ensures.line c.poly_line.ensures.read c.located.ensures
 
 pub returns-clause-fault : goal.returns-clause-fault
 returns-clause-fault c =
-    poly_fails (poly_line (head_of c.args.h.now) c.args.constant) c.args.lines.now.missing c.in_ok-line.line.number c.in_ok-line.line.bytes.now c.args.lines.now.left c.needed_line.new.lines.left c.poly_line.result c.located.result c.in_ok-line.ensures.line c.poly_line.ensures.fault c.located.ensures
+    poly_fails (poly_line (head_of c.args.h.now) c.args.constant) c.args.lines.now.missing c.in_ok-line.line.number c.in_ok-line.line.bytes.now c.args.lines.now.left c.needed_line.new.self.left c.poly_line.result c.located.result c.in_ok-line.ensures.line c.poly_line.ensures.fault c.located.ensures

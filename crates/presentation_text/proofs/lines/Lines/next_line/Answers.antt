@@ -8,7 +8,7 @@ returns-then-not-is_skipped-clause-line c =
 
 pub loop-number-preserved : goal.loop-number-preserved
 loop-number-preserved c = record {
-  due = sym (content_passed c.loop-number.self-inside.number c.first_line.result.0.now c.loop-number.self-inside.rest.now c.first_line.result.1.now c.first_line.ensures.lines (sym c.is_skipped.ensures ∙ c.if-not-is_skipped.false)) ∙ c.loop-number.invariant.left;
+  left = sym (content_passed c.loop-number.self-inside.number c.first_line.result.0.now c.loop-number.self-inside.rest.now c.first_line.result.1.now c.first_line.ensures.lines (sym c.is_skipped.ensures ∙ c.if-not-is_skipped.false)) ∙ c.loop-number.invariant.left;
   missing = omega (arith, ap length c.first_line.ensures.lines, c.loop-number.invariant.missing);
   fits = omega (arith, c.first_line.ensures.shorter, c.loop-number.invariant.fits);
 }
