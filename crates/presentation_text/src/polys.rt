@@ -73,7 +73,7 @@ fn next_poly(
     ensures missing { lines.new.missing ≡ lines.old.missing }
     ensures read { IfOk result (IsSumIn (field_in h.now) (order_in h.now)
         (λ sum. next lines.old.missing (poly_line (head_of h.now) constant) lines.old.left
-            ≡ Ok (sum, lines.new.left))) }
+        ≡ Ok (sum, lines.new.left))) }
     ensures fault { IfErr result
         (IsFaultOf (next lines.old.missing (poly_line (head_of h.now) constant) lines.old.left)) }
 {
@@ -94,7 +94,7 @@ fn several(
     ensures missing { lines.new.missing ≡ lines.old.missing }
     ensures read { IfOk result (λ v. AreSumsIn (field_in h.now) (order_in h.now)
         (λ sums. several lines.old.missing (poly_line (head_of h.now) constant) count lines.old.left
-            ≡ Ok (sums, lines.new.left)) v.items) }
+        ≡ Ok (sums, lines.new.left)) v.items) }
     ensures fault { IfErr result
         (IsFaultOf (several lines.old.missing (poly_line (head_of h.now) constant) count lines.old.left)) }
 {
@@ -128,7 +128,7 @@ pub(crate) fn counted(
     ensures missing { lines.new.missing ≡ lines.old.missing }
     ensures read { IfOk result (λ v. AreSumsIn (field_in h.now) (order_in h.now)
         (λ sums. counted lines.old.missing (head_of h.now) key.now constant lines.old.left
-            ≡ Ok (sums, lines.new.left)) v.items) }
+        ≡ Ok (sums, lines.new.left)) v.items) }
     ensures fault { IfErr result
         (IsFaultOf (counted lines.old.missing (head_of h.now) key.now constant lines.old.left)) }
 {
