@@ -7,12 +7,15 @@ use Rattle.monomial_order.specs.declared.weight_order.WeightOrder.{WeightOrder}
 use Rattle.poly_core.specs.declared.presentation.Presentation.{Presentation}
 use Rattle.monomial_basis.specs.MonomialGenerators.{IsMonomialOrZero, AreMonomials}
 
--- no ideal, and each generator is zero or a monomial with the coefficient 1
+-- there is no ideal, and each generator is zero or a monomial with the coefficient 1
 pub record IsBuilt (p : Presentation WordField WeightOrder ℕ) : Type 0 where
   pub no_ideal : p.ideal.items ≡ []
   pub monomials : AreMonomials (residues p.field.modulus) p.generators.items
 
--- a generator of the ideal, or a generator of the subalgebra that is neither zero nor such a monomial
+-- one of the polynomials is neither zero nor a monomial with the coefficient 1
+abbrev pub IsSomeOther : ℕ → List (List (Term ℕ)) → Type 0
+IsSomeOther modulus fs = (f : List (Term ℕ)) × Contains fs f × (IsMonomialOrZero (residues modulus) f → ⊥)
+
+-- there is a generator of the ideal, or such a generator of the subalgebra
 abbrev pub IsNotBuilt : Presentation WordField WeightOrder ℕ → Type 0
-IsNotBuilt p =
-    (p.ideal.items ≢ []) ⊎ ((f : List (Term ℕ)) × Contains p.generators.items f × (IsMonomialOrZero (residues p.field.modulus) f → ⊥))
+IsNotBuilt p = (p.ideal.items ≢ []) ⊎ IsSomeOther p.field.modulus p.generators.items

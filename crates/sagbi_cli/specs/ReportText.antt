@@ -1,20 +1,19 @@
 -- The text of a report.
 use Rattle.std.specs.Prelude.{◌≢◌, ℕ, ◌+◌, ◌≤◌, List, [], ◌∷◌, ◌++◌, length, codes}
 use Rattle.std.specs.Fmt.{decimal}
-use Rattle.word_field.specs.Field.{FieldOps}
 use Rattle.monomial_order.specs.declared.Term.{Term}
 use Rattle.monomial_order.specs.Monomial.{IsMonomial}
-use Rattle.monomial_order.specs.MonomialOrder.{MonomialOrder}
 use Rattle.poly_core.specs.declared.names.Names.{Names}
 use Rattle.poly_core.specs.Poly.{lead}
+use Rattle.poly_core.specs.Subalgebra.{Presented}
 use Rattle.poly_core.specs.Text.{word_text, poly_text, AreValues, AreNamed}
 
-module _ {E : Type 0} (K : FieldOps E) (O : MonomialOrder) (names : Names) where
+module _ {E : Type 0} (P : Presented E) (names : Names) where
   -- the number of the element, the degree of its lead, its lead, and the element
   abbrev pub element_line : ℕ → List (Term E) → List ℕ
   element_line index s =
-      decimal index ++ (codes " " ++ (decimal (O.degree (lead s)) ++ (codes " " ++ (word_text names (lead s)
-      ++ (codes " : " ++ (poly_text K names s ++ codes "\n"))))))
+      decimal index ++ (codes " " ++ (decimal (P.order.degree (lead s)) ++ (codes " " ++ (word_text names (lead s)
+      ++ (codes " : " ++ (poly_text P.field names s ++ codes "\n"))))))
 
   -- a line for each element, numbered from the index on
   abbrev pub element_lines : ℕ → List (List (Term E)) → List ℕ
@@ -27,10 +26,10 @@ module _ {E : Type 0} (K : FieldOps E) (O : MonomialOrder) (names : Names) where
       codes "report 1\nbound " ++ (decimal bound ++ (codes "\nbasis " ++ (decimal (length S) ++ (codes "\n"
       ++ (element_lines 1 S ++ codes "end\n")))))
 
-  -- what can be printed: a nonzero polynomial in places that have names
+  -- what can be printed: a nonzero polynomial in named variables
   pub record IsPrintable (s : List (Term E)) : Type 0 where
-    pub values : AreValues K s
+    pub values : AreValues P.field s
     pub named : AreNamed names s
     pub nonzero : s ≢ []
-    pub monomial : IsMonomial O.places (lead s)
-    pub small : O.degree (lead s) ≤ 65535
+    pub monomial : IsMonomial P.order.places (lead s)
+    pub small : P.order.degree (lead s) ≤ 65535

@@ -7,7 +7,7 @@ use Rattle.shelf_io.proofs.memory_shelf.MemoryShelfShelf.write.Goals as goal
 pub returns-in_err-store-clause-held : goal.returns-in_err-store-clause-held
 returns-in_err-store-clause-held c =
     let p = err_from_is_err_and c.from_residual.result c.from_residual.ensures.1 in
-    rw (p.1, p.2) (λ new told. (files_of c.args.self.now.files, refl, sym (same_some _ _ told) ∙ c.in_err-store.ensures.err))
+    rw (p.1, p.2) (λ new is. (files_of c.args.self.now.files, refl, sym (same_some _ _ is) ∙ c.in_err-store.ensures.err))
 
 pub returns-clause-held : goal.returns-clause-held
-returns-clause-held c = λ new told. (files_of c.args.self.now.files, refl, sym (same_some _ _ told) ∙ c.in_ok-store.ensures.ok)
+returns-clause-held c = λ new is. (files_of c.args.self.now.files, refl, sym (same_some _ _ is) ∙ c.in_ok-store.ensures.ok)

@@ -1,7 +1,7 @@
-//! Want of memory.
+//! Out of memory.
 use std::alloc::{AllocError, AllocFailed};
 
-/// Want of memory in a constructor or a setting of a shelf or a sink.
+/// A constructor or a setting of a shelf or a sink ran out of memory.
 #[derive(Clone, Copy, Debug, PartialEq, Eq)]
 pub struct ShelfMemory;
 
