@@ -9,7 +9,7 @@ use Rattle.monomial_order.specs.MonomialLaws.{product_assoc, product_comm, expon
 use Rattle.monomial_order.specs.Cofactors.{same_exponents, length-product_right}
 use Rattle.monomial_order.specs.Lists.{contains_cases}
 use Rattle.poly_core.specs.Subalgebra.{IsGenerated, AllIn, product_of}
-use Rattle.monomial_basis.specs.Products.{AreFactors, IsQuotient, SomeWaits, Waits}
+use Rattle.monomial_basis.specs.Products.{AreFactors, IsQuotient, SomePending, IsPending}
 
 pub product_cancel : (g k r : List ℕ) → IsTrimmed k → IsTrimmed r → product g k ≡ product g r → k ≡ r
 product_cancel g k r hk hr e = same_exponents k r hk hr (λ i.
@@ -116,13 +116,13 @@ module _ (O : MonomialOrder) (L : IsMonomialOrder O) (gs : List (List ℕ)) (F :
   some_place [] h = absurd (let z = degree_one in omega arith)
   some_place (a ∷ m) h = omega arith
 
-  -- a product that has the place p has a quotient among those that wait
-  pub some_waits : (m : List ℕ) (p : ℕ) (lists : List (Vec (List ℕ) Global)) → exponent m p ≢ 0 →
-      ((i : ℕ) (r : List ℕ) → i < length gs → IsTrimmed r → exponent (get_or gs i []) p ≢ 0 → product (get_or gs i []) r ≡ m → Waits lists (O.degree r) r) →
-      IsGenerated gs m → SomeWaits O gs lists (O.degree m)
-  some_waits m p lists some found w = by_factor (factor_at gs p w.factors w.members (λ z. some (ap (λ x. exponent x p) (sym w.product) ∙ z)))
+  -- a product that has the place p has a pending quotient
+  pub some_pending : (m : List ℕ) (p : ℕ) (lists : List (Vec (List ℕ) Global)) → exponent m p ≢ 0 →
+      ((i : ℕ) (r : List ℕ) → i < length gs → IsTrimmed r → exponent (get_or gs i []) p ≢ 0 → product (get_or gs i []) r ≡ m → IsPending lists (O.degree r) r) →
+      IsGenerated gs m → SomePending O gs lists (O.degree m)
+  some_pending m p lists some found w = by_factor (factor_at gs p w.factors w.members (λ z. some (ap (λ x. exponent x p) (sym w.product) ∙ z)))
     where
-      by_factor : HasFactorAt gs p (product_of w.factors) → SomeWaits O gs lists (O.degree m)
+      by_factor : HasFactorAt gs p (product_of w.factors) → SomePending O gs lists (O.degree m)
       by_factor q =
           let f = q.factor in
           let r = product_of q.others in

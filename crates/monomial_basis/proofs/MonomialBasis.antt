@@ -19,10 +19,10 @@ use Rattle.poly_core.specs.ValueLaws.{one_times}
 use Rattle.poly_core.specs.CongruenceLaws.{minus_zero, congruent_same}
 use Rattle.poly_core.specs.ReducedBasisLaws.{generated_times, map_contains}
 use Rattle.monomial_basis.specs.Products.{AreFactors}
-use Rattle.monomial_basis.specs.Kept.{Rises, IsMinimal}
+use Rattle.monomial_basis.specs.MinimalGenerators.{Rises, IsMinimal}
 use Rattle.monomial_basis.specs.MonomialGenerators.{monomial_poly, AreMonomials, leads_of}
 use Rattle.monomial_basis.proofs.Dividing.{generated_one}
-use Rattle.monomial_basis.proofs.Keeping.{generated_member}
+use Rattle.monomial_basis.proofs.Minimality.{generated_member}
 
 -- the monomial of each term is a product of members of G
 abbrev AllGenerated : {E : Type 0} → List (List ℕ) → List (Term E) → Type 0

@@ -4,7 +4,7 @@ ghost use Rattle.poly_core.specs.Presentation.{presented, IsValid};
 ghost use Rattle.poly_core.specs.Subalgebra.{IsReducedBasis};
 ghost use Rattle.monomial_basis.specs.MonomialGenerators.{monomial_poly, AreMonomials, leads_of};
 
-use crate::kept::kept;
+use crate::minimal_generators;
 use monomial_order::{Memory, Monomial, Order};
 use poly_core::poly::Poly;
 use poly_core::presentation::Presentation;
@@ -23,7 +23,7 @@ pub fn complete<F: Field, O: Order>(
     ensures { IfOk result (λ s. IsReducedBasis (presented F.ops O.order p.now) bound s.items) }
 {
     let leads = leads(alloc, p.generators.as_slice())?;
-    let needed = kept(alloc, &p.order, leads.as_slice(), bound)?;
+    let needed = minimal_generators(alloc, &p.order, leads.as_slice(), bound)?;
     polynomials(alloc, &p.field, needed)
 }
 

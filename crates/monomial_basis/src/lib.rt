@@ -1,6 +1,10 @@
 //! Reduced bases of the subalgebras that monomials generate.
 #![tactic(auto)]
 
-pub mod complete;
-pub mod kept;
-pub mod products;
+mod complete;
+mod minimal_generators;
+mod products;
+
+pub use complete::complete;
+pub use minimal_generators::minimal_generators;
+pub use products::is_product;

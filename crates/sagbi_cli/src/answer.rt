@@ -11,7 +11,7 @@ ghost use Rattle.sagbi_cli.specs.SinkChange.{change};
 use crate::built::is_built;
 use crate::report::print;
 use crate::{Outcome, PrintFault};
-use monomial_basis::complete::complete;
+use monomial_basis::complete;
 use monomial_order::WeightOrder;
 use poly_core::presentation::Presentation;
 use presentation_text::{TextFault, read};

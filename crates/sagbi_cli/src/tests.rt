@@ -5,6 +5,7 @@ use std::alloc::Global;
 use std::test::Fail;
 
 /// A command on a file P, and what it puts.
+#[derive(Drop)]
 struct Case {
     command: &'static str,
     text: &'static str,

@@ -10,8 +10,6 @@ mod shelf;
 mod shelf_memory;
 mod sink;
 mod stream_sink;
-#[cfg(test)]
-mod tests;
 
 pub use file_shelf::FileShelf;
 pub use memory_shelf::MemoryShelf;

@@ -8,13 +8,13 @@ use Rattle.monomial_basis.specs.MonomialGenerators.{monomial_poly, leads_of}
 use Rattle.monomial_basis.proofs.MonomialBasis.{monomial_basis, leads_are_factors, leads_small}
 use Rattle.monomial_basis.proofs.complete.complete.Goals as goal
 
-pub kept-requires-clause-factors : goal.kept-requires-clause-factors
-kept-requires-clause-factors g c =
+pub minimal_generators-requires-clause-factors : goal.minimal_generators-requires-clause-factors
+minimal_generators-requires-clause-factors g c =
     subst (AreFactors (g.O.Order.order c.args.p.now.order)) (sym (c.as_slice-2.ensures.value ∙ (c.in_ok-leads.ensures ∙ ap leads_of c.as_slice.ensures.value)))
     (leads_are_factors (presented g.F.Field.ops g.O.Order.order c.args.p.now) c.requires.valid.presentation c.requires.no_ideal c.requires.monomials)
 
-pub kept-requires-clause-small : goal.kept-requires-clause-small
-kept-requires-clause-small g c = λ m i.
+pub minimal_generators-requires-clause-small : goal.minimal_generators-requires-clause-small
+minimal_generators-requires-clause-small g c = λ m i.
     leads_small (g.F.Field.ops c.args.p.now.field) (g.O.Order.order c.args.p.now.order) c.args.p.now.generators.items c.requires.valid.generators.each m
     (subst (λ l. Contains l m) (c.as_slice-2.ensures.value ∙ (c.in_ok-leads.ensures ∙ ap leads_of c.as_slice.ensures.value)) i)
 

@@ -3,7 +3,7 @@ use Rattle.std.proofs.Common.{◌≡◌, ◌≢◌, ℕ, zero, suc, ◌<◌, ref
 use Rattle.std.specs.Prelude.{Contains, slice_get, slice_set, nat_eq}
 use Rattle.std.proofs.lemmas.Bool.{eqb-true, eq-eqb, true≢false}
 use Rattle.std.specs.declared.alloc.Global.{Global}
-use Rattle.monomial_basis.specs.Products.{Waits}
+use Rattle.monomial_basis.specs.Products.{IsPending}
 
 pub slice_get-set_same : {A : Type 0} (xs : List A) (i : ℕ) (y : A) → i < length xs → slice_get (slice_set xs i y) i ≡ Some y
 slice_get-set_same [] i y l = absurd (omega arith)
@@ -36,20 +36,20 @@ module _ (lists : List (Vec (List ℕ) Global)) (i : ℕ) (before after : Vec (L
   was : slice_get lists i ≡ Some before
   was = slice_get_at lists i before l at
 
-  pub waits_here : (k : List ℕ) → Contains after.items k → Waits (slice_set lists i after) i k
-  waits_here k h = (after, slice_get-set_same lists i after l, h)
+  pub pending_here : (k : List ℕ) → Contains after.items k → IsPending (slice_set lists i after) i k
+  pending_here k h = (after, slice_get-set_same lists i after l, h)
 
-  pub waits_kept : ((k : List ℕ) → Contains before.items k → Contains after.items k) → (e : ℕ) (k : List ℕ) → Waits lists e k → Waits (slice_set lists i after) e k
-  waits_kept keeps e k w =
+  pub pending_keeps : ((k : List ℕ) → Contains before.items k → Contains after.items k) → (e : ℕ) (k : List ℕ) → IsPending lists e k → IsPending (slice_set lists i after) e k
+  pending_keeps keeps e k w =
       ⊎_elim
-      (λ same. subst (λ x. Waits (slice_set lists i after) x k) (sym same)
-      (waits_here k (keeps k (subst (λ v. Contains v.items k) (some_injective w.0 before (sym w.1 ∙ (ap (slice_get lists) same ∙ was))) w.2))))
+      (λ same. subst (λ x. IsPending (slice_set lists i after) x k) (sym same)
+      (pending_here k (keeps k (subst (λ v. Contains v.items k) (some_injective w.0 before (sym w.1 ∙ (ap (slice_get lists) same ∙ was))) w.2))))
       (λ other. (w.0, slice_get-set_other lists i e after other ∙ w.1, w.2))
       (same_or_not e i)
 
-  pub waits_others : (m : List ℕ) → ((k : List ℕ) → Contains after.items k → Contains before.items k ⊎ (k ≡ m)) → (e : ℕ) (k : List ℕ) →
-      Waits (slice_set lists i after) e k → Waits lists e k ⊎ ((e ≡ i) × (k ≡ m))
-  waits_others m others e k w =
+  pub pending_others : (m : List ℕ) → ((k : List ℕ) → Contains after.items k → Contains before.items k ⊎ (k ≡ m)) → (e : ℕ) (k : List ℕ) →
+      IsPending (slice_set lists i after) e k → IsPending lists e k ⊎ ((e ≡ i) × (k ≡ m))
+  pending_others m others e k w =
       ⊎_elim
       (λ same. ⊎_elim
       (λ h. inl (before, ap (slice_get lists) same ∙ was, h))
@@ -59,10 +59,10 @@ module _ (lists : List (Vec (List ℕ) Global)) (i : ℕ) (before after : Vec (L
       (same_or_not e i)
 
   -- where nothing is left
-  pub taken_was : (k : List ℕ) → Contains before.items k → Waits lists i k
+  pub taken_was : (k : List ℕ) → Contains before.items k → IsPending lists i k
   taken_was k h = (before, was, h)
 
-  pub taken_others : after.items ≡ [] → (e : ℕ) (k : List ℕ) → Waits (slice_set lists i after) e k → Waits lists e k
+  pub taken_others : after.items ≡ [] → (e : ℕ) (k : List ℕ) → IsPending (slice_set lists i after) e k → IsPending lists e k
   taken_others none e k w =
       ⊎_elim
       (λ same. absurd (nothing k (subst (λ xs. Contains xs k) none
@@ -73,7 +73,7 @@ module _ (lists : List (Vec (List ℕ) Global)) (i : ℕ) (before after : Vec (L
       nothing : (k : List ℕ) → Contains [] k → ⊥
       nothing k h = let l = h.1 in omega arith
 
-  pub taken_parted : (e : ℕ) (k : List ℕ) → Waits lists e k → ((e ≢ i) × Waits (slice_set lists i after) e k) ⊎ ((e ≡ i) × Contains before.items k)
+  pub taken_parted : (e : ℕ) (k : List ℕ) → IsPending lists e k → ((e ≢ i) × IsPending (slice_set lists i after) e k) ⊎ ((e ≡ i) × Contains before.items k)
   taken_parted e k w =
       ⊎_elim
       (λ same. inr (same, subst (λ v. Contains v.items k) (some_injective w.0 before (sym w.1 ∙ (ap (slice_get lists) same ∙ was))) w.2))
@@ -81,9 +81,9 @@ module _ (lists : List (Vec (List ℕ) Global)) (i : ℕ) (before after : Vec (L
       (same_or_not e i)
 
 -- one more empty list
-pub waits_pushed : (lists : List (Vec (List ℕ) Global)) (v : Vec (List ℕ) Global) → v.items ≡ [] →
-    ((e : ℕ) (k : List ℕ) → Waits lists e k → ⊥) → (e : ℕ) (k : List ℕ) → Waits (lists ++ v ∷ []) e k → ⊥
-waits_pushed lists v none before e k w = ⊎_elim (λ h. before e k (w.0, h, w.2)) (λ h. empty (subst (λ x. Contains x.items k) h w.2)) (pushed_cases lists e w.0 w.1)
+pub pending_pushed : (lists : List (Vec (List ℕ) Global)) (v : Vec (List ℕ) Global) → v.items ≡ [] →
+    ((e : ℕ) (k : List ℕ) → IsPending lists e k → ⊥) → (e : ℕ) (k : List ℕ) → IsPending (lists ++ v ∷ []) e k → ⊥
+pending_pushed lists v none before e k w = ⊎_elim (λ h. before e k (w.0, h, w.2)) (λ h. empty (subst (λ x. Contains x.items k) h w.2)) (pushed_cases lists e w.0 w.1)
   where
     empty : Contains v.items k → ⊥
     empty h = let c : Contains [] k = subst (λ xs. Contains xs k) none h in let l = c.1 in omega arith

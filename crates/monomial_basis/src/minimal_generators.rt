@@ -4,14 +4,14 @@ ghost use Rattle.std.specs.declared.cmp.Ordering.TheVariants.{Less};
 ghost use Rattle.monomial_order.specs.Monomial.{IsMonomial};
 ghost use Rattle.poly_core.specs.Subalgebra.{IsGenerated};
 ghost use Rattle.monomial_basis.specs.Products.{AreFactors};
-ghost use Rattle.monomial_basis.specs.Kept.{Rises, IsMinimal, IsNext, HasNone, AddsNeeded};
+ghost use Rattle.monomial_basis.specs.MinimalGenerators.{Rises, IsMinimal, IsLeastAbove, HasNoneAbove, AddsUnlessGenerated};
 
-use crate::products::is_product;
+use crate::is_product;
 use monomial_order::{Memory, Monomial, Order};
 use std::alloc::Global;
 
-/// The monomials of degree at most the bound that the others do not generate, rising in the order.
-pub fn kept<O: Order>(
+/// The monomials of degree at most the bound that the others do not generate, increasing in the order.
+pub fn minimal_generators<O: Order>(
     alloc: Global,
     o: &O,
     monomials: &[Monomial],
@@ -20,20 +20,22 @@ pub fn kept<O: Order>(
     requires factors { AreFactors (O.order o.now) monomials.now }
     requires small { (m : List ℕ) → Contains monomials.now m → (O.order o.now).degree m ≤ 65535 }
     ensures rise { IfOk result (λ s. Rises (O.order o.now) s.items) }
-    ensures members { IfOk result (λ s. (m : List ℕ) → Contains s.items m → Contains monomials.now m × ((O.order o.now).degree m ≤ bound)) }
+    ensures members { IfOk result (λ s. (m : List ℕ) → Contains s.items m
+        → Contains monomials.now m × ((O.order o.now).degree m ≤ bound)) }
     ensures minimal { IfOk result (λ s. IsMinimal s.items) }
-    ensures generates { IfOk result (λ s. (m : List ℕ) → Contains monomials.now m → (O.order o.now).degree m ≤ bound → IsGenerated s.items m) }
+    ensures generates { IfOk result (λ s. (m : List ℕ) → Contains monomials.now m
+        → (O.order o.now).degree m ≤ bound → IsGenerated s.items m) }
 {
-    let mut kept = Vec::new(alloc);
+    let mut minimal = Vec::new(alloc);
     let mut last = Monomial::one(alloc);
     'rising: while let Some(m) = least_above(o, monomials, &last) {
         if o.degree(m) > bound {
-            return Ok(kept);
+            return Ok(minimal);
         }
-        add_needed(alloc, o, &mut kept, m)?;
+        add_unless_generated(alloc, o, &mut minimal, m)?;
         last = m.copy(alloc)?;
     }
-    Ok(kept)
+    Ok(minimal)
 }
 
 /// The least monomial of the list above m.
@@ -42,7 +44,8 @@ fn least_above<'a, O: Order>(o: &O, monomials: &'a [Monomial], m: &Monomial) -> 
     requires small { (k : List ℕ) → Contains monomials.now k → (O.order o.now).degree k ≤ 65535 }
     requires monomial { IsMonomial (O.order o.now).places m.now }
     requires degree { (O.order o.now).degree m.now ≤ 65535 }
-    ensures { MatchOption result (HasNone (O.order o.now) monomials.now m.now) (λ k. IsNext (O.order o.now) monomials.now m.now k.now) }
+    ensures { MatchOption result (HasNoneAbove (O.order o.now) monomials.now m.now)
+        (λ k. IsLeastAbove (O.order o.now) monomials.now m.now k.now) }
 {
     let mut least = None;
     'seek: for k in monomials {
@@ -53,12 +56,14 @@ fn least_above<'a, O: Order>(o: &O, monomials: &'a [Monomial], m: &Monomial) -> 
     least
 }
 
-/// Whether the monomial is less than another, where there is one.
+/// Whether the monomial is less than another, or there is no other.
 fn is_below<O: Order>(o: &O, k: &Monomial, other: Option<&Monomial>) -> bool
     requires monomial { IsMonomial (O.order o.now).places k.now }
     requires degree { (O.order o.now).degree k.now ≤ 65535 }
-    requires other { IfSome other (λ n. IsMonomial (O.order o.now).places n.now × ((O.order o.now).degree n.now ≤ 65535)) }
-    ensures { MatchOption other.entry (IsTrue result) (λ n. IsTrue result ↔ ((O.order o.now).compare k.now n.now ≡ Less)) }
+    requires other { IfSome other (λ n. IsMonomial (O.order o.now).places n.now
+        × ((O.order o.now).degree n.now ≤ 65535)) }
+    ensures { MatchOption other.entry (IsTrue result)
+        (λ n. IsTrue result ↔ ((O.order o.now).compare k.now n.now ≡ Less)) }
 {
     match other {
         None => true,
@@ -67,7 +72,7 @@ fn is_below<O: Order>(o: &O, k: &Monomial, other: Option<&Monomial>) -> bool
 }
 
 /// Puts a monomial at the end of a list that does not generate it.
-fn add_needed<O: Order>(
+fn add_unless_generated<O: Order>(
     alloc: Global,
     o: &O,
     list: &mut Vec<Monomial>,
@@ -76,7 +81,7 @@ fn add_needed<O: Order>(
     requires factors { AreFactors (O.order o.now) list.old.items }
     requires monomial { IsMonomial (O.order o.now).places m.now }
     requires degree { (O.order o.now).degree m.now ≤ 65535 }
-    ensures { OnOk result (AddsNeeded list.old.items list.new.items m.now) }
+    ensures { OnOk result (AddsUnlessGenerated list.old.items list.new.items m.now) }
 {
     if is_product(alloc, o, list.as_slice(), m)? {
         return Ok(());
@@ -84,6 +89,3 @@ fn add_needed<O: Order>(
     list.push(m.copy(alloc)?)?;
     Ok(())
 }
-
-#[cfg(test)]
-mod tests;

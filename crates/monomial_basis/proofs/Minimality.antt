@@ -12,7 +12,7 @@ use Rattle.monomial_order.specs.Comparing.{less_or_not, not_below_self, three_wa
 use Rattle.monomial_order.specs.Lists.{contains_cases, contains_here, contains_there, contains_none, contains_left, contains_right}
 use Rattle.poly_core.specs.Subalgebra.{IsGenerated, AllIn, product_of}
 use Rattle.monomial_basis.specs.Products.{AreFactors, IsFactor}
-use Rattle.monomial_basis.specs.Kept.{Rises, IsMinimal, IsNext, HasNone, AddsNeeded}
+use Rattle.monomial_basis.specs.MinimalGenerators.{Rises, IsMinimal, IsLeastAbove, HasNoneAbove, AddsUnlessGenerated}
 use Rattle.monomial_basis.proofs.Dividing.{product_of_monomial, degree_zero, degree_one, any_default}
 
 pub contains_append : {A : Type 0} (xs ys : List A) (x : A) → Contains (xs ++ ys) x → Contains xs x ⊎ Contains ys x
@@ -74,7 +74,7 @@ IsIrreducible ks = (fs : List (List ℕ)) → AllIn ks fs → Contains ks (produ
 
 module _ (O : MonomialOrder) where
   -- ks has what is needed of the members of ms up to `last`
-  pub record IsKeptSoFar (ms : List (List ℕ)) (bound : ℕ) (last : List ℕ) (ks : List (List ℕ)) : Type 0 where
+  pub record IsMinimalSoFar (ms : List (List ℕ)) (bound : ℕ) (last : List ℕ) (ks : List (List ℕ)) : Type 0 where
     pub rise : Rises O ks
     pub members : (m : List ℕ) → Contains ks m → Contains ms m × (O.degree m ≤ bound)
     pub irreducible : IsIrreducible ks
@@ -151,8 +151,8 @@ module _ (O : MonomialOrder) (L : IsMonomialOrder O) where
       (all_in_end ks x fs h)
 
   module _ (ms : List (List ℕ)) (bound : ℕ) (F : AreFactors O ms) (S : (m : List ℕ) → Contains ms m → O.degree m ≤ 65535) where
-    pub kept_none : IsKeptSoFar O ms bound [] []
-    kept_none = record {
+    pub so_far_none : IsMinimalSoFar O ms bound [] []
+    so_far_none = record {
       rise = tt;
       members = λ m c. absurd (contains_none m c);
       irreducible = λ fs h c. absurd (contains_none (product_of fs) c);
@@ -162,11 +162,11 @@ module _ (O : MonomialOrder) (L : IsMonomialOrder O) where
       small = let z = degree_one O L [] (λ g k. absurd (contains_none g k)) in omega arith;
     }
 
-    pub kept_factors : (last : List ℕ) (ks : List (List ℕ)) → IsKeptSoFar O ms bound last ks → AreFactors O ks
-    kept_factors last ks h g c = F g (h.members g c).0
+    pub so_far_factors : (last : List ℕ) (ks : List (List ℕ)) → IsMinimalSoFar O ms bound last ks → AreFactors O ks
+    so_far_factors last ks h g c = F g (h.members g c).0
 
     -- up to the next one
-    generated_next : (last x : List ℕ) (ks ls : List (List ℕ)) → IsKeptSoFar O ms bound last ks → IsNext O ms last x →
+    generated_next : (last x : List ℕ) (ks ls : List (List ℕ)) → IsMinimalSoFar O ms bound last ks → IsLeastAbove O ms last x →
         ((g : List ℕ) → Contains ks g → Contains ls g) → IsGenerated ls x → (m : List ℕ) → Contains ms m → ¬ (O.compare x m ≡ Less) → IsGenerated ls m
     generated_next last x ks ls h n more g m c not_above =
         ⊎_elim
@@ -174,10 +174,10 @@ module _ (O : MonomialOrder) (L : IsMonomialOrder O) where
         (λ l. generated_weaker ks ls more m (h.generated m c l))
         (less_or_not (O.compare last m))
 
-    pub kept_more : (last x : List ℕ) (ks ls : List (List ℕ)) → IsKeptSoFar O ms bound last ks → IsNext O ms last x → O.degree x ≤ bound → AddsNeeded ks ls x → IsKeptSoFar O ms bound x ls
-    kept_more last x ks ls h n le adds =
+    pub so_far_more : (last x : List ℕ) (ks ls : List (List ℕ)) → IsMinimalSoFar O ms bound last ks → IsLeastAbove O ms last x → O.degree x ≤ bound → AddsUnlessGenerated ks ls x → IsMinimalSoFar O ms bound x ls
+    so_far_more last x ks ls h n le adds =
         ⊎_elim
-        (λ (same : IsGenerated ks x × (ls ≡ ks)). subst (IsKeptSoFar O ms bound x) (sym same.1) (record {
+        (λ (same : IsGenerated ks x × (ls ≡ ks)). subst (IsMinimalSoFar O ms bound x) (sym same.1) (record {
           rise = h.rise;
           members = h.members;
           irreducible = h.irreducible;
@@ -186,10 +186,10 @@ module _ (O : MonomialOrder) (L : IsMonomialOrder O) where
           monomial = (F x n.member).monomial;
           small = S x n.member;
         }))
-        (λ (more : (¬ IsGenerated ks x) × (ls ≡ ks ++ (x ∷ []))). subst (IsKeptSoFar O ms bound x) (sym more.1) (record {
+        (λ (more : (¬ IsGenerated ks x) × (ls ≡ ks ++ (x ∷ []))). subst (IsMinimalSoFar O ms bound x) (sym more.1) (record {
           rise = rises_more ks x h.rise (λ k c. h.below k x c n.above);
           members = λ m c. ⊎_elim (λ k. h.members m k) (λ e. subst (λ y. Contains ms y × (O.degree y ≤ bound)) e (n.member, le)) (contains_end ks x m c);
-          irreducible = irreducible_more ks x (kept_factors last ks h) (F x n.member) (λ k c. h.below k x c n.above) more.0 h.irreducible;
+          irreducible = irreducible_more ks x (so_far_factors last ks h) (F x n.member) (λ k c. h.below k x c n.above) more.0 h.irreducible;
           below = λ m k c l. ⊎_elim (λ i. L.total.trans m x k (h.below m x i n.above) l) (λ e. subst (λ y. O.compare y k ≡ Less) e l) (contains_end ks x m c);
           generated = generated_next last x ks (ks ++ (x ∷ [])) h n (λ g c. contains_left ks (x ∷ []) g c)
               (generated_member (ks ++ (x ∷ [])) x (contains_right ks (x ∷ []) x (contains_here x [])));
@@ -198,9 +198,9 @@ module _ (O : MonomialOrder) (L : IsMonomialOrder O) where
         }))
         adds
 
-    pub kept_above_bound : (last x : List ℕ) (ks : List (List ℕ)) → IsKeptSoFar O ms bound last ks → IsNext O ms last x → bound < O.degree x →
+    pub above_bound : (last x : List ℕ) (ks : List (List ℕ)) → IsMinimalSoFar O ms bound last ks → IsLeastAbove O ms last x → bound < O.degree x →
         (m : List ℕ) → Contains ms m → O.degree m ≤ bound → IsGenerated ks m
-    kept_above_bound last x ks h n lt m c le =
+    above_bound last x ks h n lt m c le =
         ⊎_elim (λ l. absurd (n.least m c l (L.degree_first m x (omega arith)))) (λ l. h.generated m c l) (less_or_not (O.compare last m))
 
   count_step : (p q : Bool) (x y : ℕ) → (p ≡ true → q ≡ true) → x ≤ y → cond p (suc x) x ≤ cond q (suc y) y
@@ -254,7 +254,7 @@ module _ (O : MonomialOrder) (L : IsMonomialOrder O) where
       (contains_cases k ks b c)
 
   pub sought_all : {R : Type 0} (now : R → List ℕ) (ms : List (List ℕ)) (m : List ℕ) (i : ℕ) (o : Option R) → length ms ≤ i → IsSought O now ms m i o →
-      MatchOption o (HasNone O ms m) (λ k. IsNext O ms m (now k))
+      MatchOption o (HasNoneAbove O ms m) (λ k. IsLeastAbove O ms m (now k))
   sought_all now ms m i None l h = λ n c a. h c.0 (let lt = c.1 in omega arith) (subst (λ y. O.compare m y ≡ Less) (sym (any_default ms c.0 n [] c.1 c.2)) a)
   sought_all now ms m i (Some k) l h = record {
     member = h.member;
