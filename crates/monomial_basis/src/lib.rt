@@ -1,10 +1,10 @@
 //! Reduced bases of the subalgebras that monomials generate.
 #![tactic(auto)]
 
-mod complete;
-mod minimal_generators;
+mod minimal;
 mod products;
+mod reduced_basis;
 
-pub use complete::complete;
-pub use minimal_generators::minimal_generators;
+pub use minimal::minimal_generators;
 pub use products::is_product;
+pub use reduced_basis::complete;

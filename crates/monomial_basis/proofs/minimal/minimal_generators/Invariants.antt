@@ -1,5 +1,5 @@
 use Rattle.monomial_basis.proofs.Minimality.{IsMinimalSoFar, count_above}
-use Rattle.monomial_basis.proofs.minimal_generators.minimal_generators.Given as goal
+use Rattle.monomial_basis.proofs.minimal.minimal_generators.Given as goal
 
 abbrev pub invariant-rising : goal.invariant-rising
 invariant-rising g l = IsMinimalSoFar (g.O.Order.order l.o) l.monomials l.bound l.last l.minimal.items

@@ -1,7 +1,7 @@
 use Rattle.std.proofs.Common.{refl, ap, ◌∙◌}
 use Rattle.monomial_basis.proofs.MonomialBasis.{leads_of_nonzero, leads_of_zero}
-use Rattle.monomial_basis.proofs.complete.leads.Goals as goal
-use Rattle.monomial_basis.proofs.complete.leads.Goals.{in-Some+in_ok-copy+in_ok-push, in_default}
+use Rattle.monomial_basis.proofs.reduced_basis.leads.Goals as goal
+use Rattle.monomial_basis.proofs.reduced_basis.leads.Goals.{in-Some+in_ok-copy+in_ok-push, in_default}
 
 pub loop-f-preserved : goal.loop-f-preserved
 loop-f-preserved g c = elim c.match-lead.branch [

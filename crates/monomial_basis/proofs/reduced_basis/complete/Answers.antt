@@ -6,7 +6,7 @@ use Rattle.poly_core.specs.Subalgebra.{IsReducedBasis}
 use Rattle.monomial_basis.specs.Products.{AreFactors}
 use Rattle.monomial_basis.specs.MonomialGenerators.{monomial_poly, leads_of}
 use Rattle.monomial_basis.proofs.MonomialBasis.{monomial_basis, leads_are_factors, leads_small}
-use Rattle.monomial_basis.proofs.complete.complete.Goals as goal
+use Rattle.monomial_basis.proofs.reduced_basis.complete.Goals as goal
 
 pub minimal_generators-requires-clause-factors : goal.minimal_generators-requires-clause-factors
 minimal_generators-requires-clause-factors g c =

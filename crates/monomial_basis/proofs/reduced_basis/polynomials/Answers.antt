@@ -1,5 +1,5 @@
 use Rattle.monomial_basis.proofs.MonomialBasis.{polynomials_more}
-use Rattle.monomial_basis.proofs.complete.polynomials.Goals as goal
+use Rattle.monomial_basis.proofs.reduced_basis.polynomials.Goals as goal
 
 pub loop-m-preserved : goal.loop-m-preserved
 loop-m-preserved g c =

@@ -1,6 +1,6 @@
 use Rattle.std.proofs.Common.{◌<◌, [], sym, subst, arith}
 use Rattle.monomial_basis.proofs.Minimality.{IsMinimalSoFar, count_above, so_far_none, so_far_more, count_falls, minimal}
-use Rattle.monomial_basis.proofs.minimal_generators.minimal_generators.Goals as goal
+use Rattle.monomial_basis.proofs.minimal.minimal_generators.Goals as goal
 
 pub rising-init : goal.rising-init
 rising-init g c =

@@ -1,7 +1,7 @@
 use Rattle.std.proofs.Common.{◌≡◌, Bor, List, ℕ, true, false}
 use Rattle.monomial_basis.proofs.Minimality.{sought_all, sought_here, sought_high, sought_low, tested_less, tested_not_less}
-use Rattle.monomial_basis.proofs.minimal_generators.least_above.Goals as goal
-use Rattle.monomial_basis.proofs.minimal_generators.least_above.Goals.{then-is_lt+then-is_below, else-is_lt, else-is_lt-via-then-is_lt+else-is_below, else-is_lt-via-else-is_lt}
+use Rattle.monomial_basis.proofs.minimal.least_above.Goals as goal
+use Rattle.monomial_basis.proofs.minimal.least_above.Goals.{then-is_lt+then-is_below, else-is_lt, else-is_lt-via-then-is_lt+else-is_below, else-is_lt-via-else-is_lt}
 
 pub seek-preserved : goal.seek-preserved
 seek-preserved g c =
