@@ -9,7 +9,7 @@ use Rattle.std.proofs.lemmas.List.Quantifiers.{position-Some}
 use Rattle.monomial_order.specs.declared.order_fault.OrderFault.{OrderFault}
 use Rattle.monomial_order.specs.declared.order_fault.OrderFault.TheVariants.{PlaceCount, TooManyRows, ZeroWeight, TooHeavy, RowLength, Memory}
 use Rattle.monomial_order.specs.Faults.{IsFirst, IsNth, IsFault, IsFirstHeavy, IsLight, HasPlaces}
-use Rattle.monomial_order.specs.OrderLaws.{all_three, between_from_all}
+use Rattle.monomial_order.specs.laws.Orders.{all_three, between_from_all}
 use Rattle.monomial_order.specs.Ranges.{all_between, are_rows}
 use Rattle.monomial_order.proofs.Firsts.{first_from_position, first_from_test, IsNth-same, IsFirst-same, none_is_first}
 

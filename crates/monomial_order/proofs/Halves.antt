@@ -3,7 +3,7 @@ use Rattle.std.proofs.Common.{◌≡◌, ℕ, zero, suc, ◌+◌, ◌*◌, ◌�
 use Rattle.std.specs.Prelude.{min}
 use Rattle.std.proofs.lemmas.List.Sums.{sum_by-cons}
 use Rattle.monomial_order.specs.Monomial.{weighted_degree}
-use Rattle.monomial_order.specs.OrderLaws.{ArePositive}
+use Rattle.monomial_order.specs.laws.Orders.{ArePositive}
 
 weighted_nil : (ws : List ℕ) → weighted_degree ws [] ≡ 0
 weighted_nil [] = refl

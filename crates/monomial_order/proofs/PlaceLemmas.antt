@@ -4,8 +4,8 @@ use Rattle.std.specs.Prelude.{max}
 use Rattle.std.specs.List.{refill}
 use Rattle.std.proofs.lemmas.Grind.{same_number_lists, common_steps}
 use Rattle.monomial_order.specs.Monomial.{exponent, product, least_common_multiple, Divides, IsTrimmed}
-use Rattle.monomial_order.specs.MonomialLaws.{length-product, exponent-product, exponent_past, length-least_common_multiple, exponent-least_common_multiple, IsTrimmed-product}
-use Rattle.monomial_order.specs.Cofactors.{same_exponents}
+use Rattle.monomial_order.specs.laws.Monomial.{length-product, exponent-product, exponent_past, length-least_common_multiple, exponent-least_common_multiple, IsTrimmed-product}
+use Rattle.monomial_order.specs.laws.Cofactors.{same_exponents}
 
 below_or_not : (a b : ℕ) → (a < b) ⊎ (b ≤ a)
 below_or_not a b = grind arith

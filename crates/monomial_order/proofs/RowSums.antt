@@ -1,7 +1,7 @@
 -- The sum of a row is at most a thousand times the degree.
 use Rattle.std.proofs.Common.{◌≡◌, ℕ, zero, suc, ◌*◌, ◌<◌, ◌≤◌, ◌^◌, List, [], ◌∷◌, length, get_or, arith, true}
 use Rattle.monomial_order.specs.Monomial.{weighted_degree}
-use Rattle.monomial_order.specs.OrderLaws.{ArePositive, between_first, between_rest, positive_weights, rows_first, rows_rest}
+use Rattle.monomial_order.specs.laws.Orders.{ArePositive, between_first, between_rest, positive_weights, rows_first, rows_rest}
 use Rattle.monomial_order.specs.Ranges.{all_between, are_rows}
 
 row_sum : (ws row m : List ℕ) → length row ≡ length ws → all_between 0 1000 row ≡ true → ArePositive ws → weighted_degree row m ≤ 1000 * weighted_degree ws m

@@ -2,7 +2,7 @@
 use Rattle.std.proofs.Common.{◌≡◌, ℕ, suc, ◌+◌, ◌*◌, ◌≤◌, refl, sym, subst, ap, ◌∙◌, List, [], ◌∷◌, ◌++◌, length, true, arith}
 use Rattle.std.proofs.Math.Nat.{mul-le-mul_right, mul-le-mul_left}
 use Rattle.monomial_order.specs.Monomial.{exponent, weighted_degree}
-use Rattle.monomial_order.specs.OrderLaws.{between_first, between_rest}
+use Rattle.monomial_order.specs.laws.Orders.{between_first, between_rest}
 use Rattle.monomial_order.specs.Ranges.{all_between}
 
 pub weighted_at_most : (hi k : ℕ) (ws m : List ℕ) → all_between 1 hi ws ≡ true → ((i : ℕ) → exponent m i ≤ k) → weighted_degree ws m ≤ length ws * (hi * k)

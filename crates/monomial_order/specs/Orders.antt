@@ -4,27 +4,27 @@ use Rattle.std.specs.Ordering.{nat_cmp, ordering_then, on, then_cmp}
 use Rattle.std.specs.Cmp.Lexicographic.{slice_cmp}
 use Rattle.std.specs.declared.cmp.Ordering.{Ordering}
 use Rattle.std.specs.declared.cmp.Ordering.TheVariants.{Less, Equal, Greater}
-use Rattle.monomial_order.specs.Monomial.{weighted_degree}
+use Rattle.monomial_order.specs.Monomial.{Exponents, weighted_degree}
 use Rattle.monomial_order.specs.MonomialOrder.{MonomialOrder}
 
 -- the greater exponent at the first place that differs is the greater monomial
-abbrev pub lex : List ℕ → List ℕ → Ordering
+abbrev pub lex : Exponents → Exponents → Ordering
 lex = slice_cmp nat_cmp
 
 -- the greater exponent at the last place that differs is the smaller monomial
-abbrev pub reverse_lex : List ℕ → List ℕ → Ordering
+abbrev pub reverse_lex : Exponents → Exponents → Ordering
 reverse_lex [] [] = Equal
 reverse_lex [] (b ∷ n) = Greater
 reverse_lex (a ∷ m) [] = Less
 reverse_lex (a ∷ m) (b ∷ n) = ordering_then (reverse_lex m n) (nat_cmp b a)
 
 -- each row in turn compares the sums of entry times exponent, and then the tie is broken
-abbrev pub by_rows : List (List ℕ) → (List ℕ → List ℕ → Ordering) → List ℕ → List ℕ → Ordering
+abbrev pub by_rows : List (List ℕ) → (Exponents → Exponents → Ordering) → Exponents → Exponents → Ordering
 by_rows [] tie = tie
 by_rows (row ∷ rows) tie = then_cmp (on (weighted_degree row) nat_cmp) (by_rows rows tie)
 
 -- the degree by the weights, then the rows, then the tie
-abbrev pub weight_order : List ℕ → List (List ℕ) → (List ℕ → List ℕ → Ordering) → MonomialOrder
+abbrev pub weight_order : List ℕ → List (List ℕ) → (Exponents → Exponents → Ordering) → MonomialOrder
 weight_order weights rows tie = record {
   places = length weights;
   degree = weighted_degree weights;

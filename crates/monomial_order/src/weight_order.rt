@@ -4,8 +4,8 @@ ghost use Rattle.monomial_order.specs.Monomial.{weighted_degree};
 ghost use Rattle.monomial_order.specs.Orders.{weight_order, by_rows};
 ghost use Rattle.monomial_order.specs.Ties.{tie_order};
 ghost use Rattle.monomial_order.specs.Ranges.{all_between, are_rows};
-ghost use Rattle.monomial_order.specs.TieLaws.{weight_laws};
-ghost use Rattle.monomial_order.specs.OrderLaws.{weight_small};
+ghost use Rattle.monomial_order.specs.laws.Ties.{weight_laws};
+ghost use Rattle.monomial_order.specs.laws.Orders.{weight_small};
 
 use crate::order_fault::{OrderFault, find_fault};
 use crate::rows::Row;

@@ -4,7 +4,7 @@ ghost use Rattle.std.specs.Ordering.{nat_cmp, on, then_cmp};
 ghost use Rattle.monomial_order.specs.Monomial.{IsMonomial, weighted_degree};
 ghost use Rattle.monomial_order.specs.Orders.{word_order, lex};
 ghost use Rattle.monomial_order.specs.Ranges.{all_between};
-ghost use Rattle.monomial_order.specs.OrderLaws.{word_laws, word_small};
+ghost use Rattle.monomial_order.specs.laws.Orders.{word_laws, word_small};
 
 use crate::sums::{exponent_sum, split_places, weighted_sum};
 use crate::{Memory, Monomial, Order};

@@ -5,7 +5,7 @@ use Rattle.std.specs.List.{list_any, position, position_from, AllByRecursion, Al
 use Rattle.std.specs.Str.{bytes_eq}
 use Rattle.std.proofs.lemmas.Slice.Eq.{bytes_eq-Decides}
 use Rattle.std.proofs.lemmas.Iterator.Adapters.{position_from-zero}
-use Rattle.monomial_order.specs.Lists.{contains_cases, contains_here, contains_there, contains_none}
+use Rattle.monomial_order.specs.laws.Lists.{contains_cases, contains_here, contains_there, contains_none}
 
 module _ {A : Type 0} (f : A → List ℕ) where
   -- a test that finds a name finds a member, and a member is found

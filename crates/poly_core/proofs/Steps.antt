@@ -4,28 +4,28 @@ use Rattle.std.specs.Prelude.{nat_eq, Result, Ok, Err, IfOk}
 use Rattle.std.proofs.lemmas.List.{take_more}
 use Rattle.std.proofs.lemmas.Bool.{eqb-true, eq-eqb}
 use Rattle.word_field.specs.Field.{FieldOps, IsField}
-use Rattle.monomial_order.specs.declared.Term.{Term}
+use Rattle.monomial_order.specs.declared.terms.Term.{Term}
 use Rattle.monomial_order.specs.MonomialOrder.{MonomialOrder, IsMonomialOrder}
-use Rattle.poly_core.specs.Poly.{component, coefficient, scaled, times, Same, Falls, IsSmall, IsKept}
-use Rattle.poly_core.specs.DegreeLaws.{component-append}
-use Rattle.poly_core.specs.SameLaws.{append_same}
-use Rattle.poly_core.specs.ValueLaws.{times-append}
-use Rattle.poly_core.specs.KeptLaws.{Falls-scaled, IsSmall-left, IsSmall-right, kept_left, kept_right}
+use Rattle.polynomials.specs.Polynomial.{Polynomial, component, coefficient, scaled, times, Same, IsDecreasing, IsSmall, IsCanonical}
+use Rattle.polynomials.specs.laws.Degrees.{component-append}
+use Rattle.polynomials.specs.laws.Same.{append_same}
+use Rattle.polynomials.specs.laws.Value.{times-append}
+use Rattle.polynomials.specs.laws.Terms.{IsDecreasing-scaled, IsSmall-left, IsSmall-right, canonical_left, canonical_right}
 
 differs : (a d : ℕ) → a ≢ d → nat_eq a d ≡ false
 differs a d h = elim (nat_eq a d) as (λ b. nat_eq a d ≡ b → b ≡ false) [ true ↦ λ e. absurd (h (eqb-true a d e)) | false ↦ λ e. refl ] refl
 
-module _ {E : Type 0} (O : MonomialOrder) (d : ℕ) (p : List (Term E)) (i : ℕ) (t : Term E) where
+module _ {E : Type 0} (O : MonomialOrder) (d : ℕ) (p : Polynomial E) (i : ℕ) (t : Term E) where
   more : i < length p → t ≡ get_or p i t → component O d (take (i + 1) p) ≡ component O d (take i p) ++ component O d (t ∷ [])
   more l e = ap (component O d) (take_more p i t l ∙ ap (λ x. take i p ++ (x ∷ [])) (sym e)) ∙ component-append O d (take i p) (t ∷ [])
 
-  pub component_more : (c c' : List (Term E)) (u : Term E) → i < length p → t ≡ get_or p i t → c ≡ component O d (take i p) → u ≡ t →
+  pub component_more : (c c' : Polynomial E) (u : Term E) → i < length p → t ≡ get_or p i t → c ≡ component O d (take i p) → u ≡ t →
       O.degree t.at ≡ d → c' ≡ c ++ (u ∷ []) → c' ≡ component O d (take (i + 1) p)
   component_more c c' u l e h same holds is =
       is ∙ (ap (λ x. x ++ (u ∷ [])) h ∙ (ap (λ x. component O d (take i p) ++ (x ∷ [])) same ∙
       (ap (λ x. component O d (take i p) ++ x) (sym (ap (λ b. cond b (t ∷ []) []) (eq-eqb (O.degree t.at) d holds))) ∙ sym (more l e))))
 
-  pub component_skip : (c : List (Term E)) → i < length p → t ≡ get_or p i t → c ≡ component O d (take i p) →
+  pub component_skip : (c : Polynomial E) → i < length p → t ≡ get_or p i t → c ≡ component O d (take i p) →
       O.degree t.at ≢ d → c ≡ component O d (take (i + 1) p)
   component_skip c l e h fails =
       h ∙ (sym (append-nil (component O d (take i p))) ∙
@@ -42,28 +42,28 @@ single [] x l m e = absurd (omega arith)
 single (y ∷ []) x l m e = ap (λ z. z ∷ []) (sym e)
 single (y ∷ (z ∷ xs)) x l m e = absurd (omega arith)
 
-module _ {E : Type 0} (K : FieldOps E) (F : IsField K) (O : MonomialOrder) (L : IsMonomialOrder O) (a b : List (Term E)) (ha : IsKept K O a) (hb : IsKept K O b) (small : IsSmall O (times K a b)) where
+module _ {E : Type 0} (K : FieldOps E) (F : IsField K) (O : MonomialOrder) (L : IsMonomialOrder O) (a b : Polynomial E) (ha : IsCanonical K O a) (hb : IsCanonical K O b) (small : IsSmall O (times K a b)) where
   -- the product with a list of one term
-  pub kept_one : (t : Term E) → a ≡ t ∷ [] → IsKept K O (scaled K t b)
+  pub kept_one : (t : Term E) → a ≡ t ∷ [] → IsCanonical K O (scaled K t b)
   kept_one t e =
-      let f : Falls K O (t ∷ []) = subst (Falls K O) e ha.falls in
+      let f : IsDecreasing K O (t ∷ []) = subst (IsDecreasing K O) e ha.decreasing in
       record {
-        falls = Falls-scaled K F O L t b f.0.term f.0.nonzero hb.falls;
+        decreasing = IsDecreasing-scaled K F O L t b f.0.term f.0.nonzero hb.decreasing;
         small = IsSmall-left O (scaled K t b) [] (subst (λ x. IsSmall O (times K x b)) e small);
       }
 
-  module _ (front back : List (Term E)) (e : a ≡ front ++ back) where
-    kept_both : IsKept K O (front ++ back)
-    kept_both = subst (IsKept K O) e ha
+  module _ (front back : Polynomial E) (e : a ≡ front ++ back) where
+    kept_both : IsCanonical K O (front ++ back)
+    kept_both = subst (IsCanonical K O) e ha
 
     small_both : IsSmall O (times K front b ++ times K back b)
     small_both = subst (IsSmall O) (ap (λ x. times K x b) e ∙ times-append K F front back b) small
 
-    pub kept_front : IsKept K O front
-    kept_front = kept_left K O front back kept_both
+    pub kept_front : IsCanonical K O front
+    kept_front = canonical_left K O front back kept_both
 
-    pub kept_back : IsKept K O back
-    kept_back = kept_right K O front back kept_both
+    pub kept_back : IsCanonical K O back
+    kept_back = canonical_right K O front back kept_both
 
     pub small_front : IsSmall O (times K front b)
     small_front = IsSmall-left O (times K front b) (times K back b) small_both
@@ -71,7 +71,7 @@ module _ {E : Type 0} (K : FieldOps E) (F : IsField K) (O : MonomialOrder) (L : 
     pub small_back : IsSmall O (times K back b)
     small_back = IsSmall-right O (times K front b) (times K back b) small_both
 
-    pub halves : (g s r : List (Term E)) → Same K g (times K front b) → Same K s (times K back b) → Same K r (g ++ s) → Same K r (times K a b)
+    pub halves : (g s r : Polynomial E) → Same K g (times K front b) → Same K s (times K back b) → Same K r (g ++ s) → Same K r (times K a b)
     halves g s r hg hs hr m =
         hr m ∙ (append_same K F g (times K front b) s (times K back b) hg hs m ∙
         ap (λ x. coefficient K x m) (sym (times-append K F front back b) ∙ ap (λ x. times K x b) (sym e)))

@@ -4,10 +4,11 @@ use Rattle.std.specs.Prelude.{codes}
 use Rattle.std.specs.List.{flat_map, join_with_byte}
 use Rattle.std.proofs.lemmas.List.{drop_all}
 use Rattle.word_field.specs.Field.{FieldOps, IsValue}
-use Rattle.monomial_order.specs.declared.Term.{Term}
-use Rattle.poly_core.specs.declared.names.Names.{Names}
+use Rattle.monomial_order.specs.declared.terms.Term.{Term}
+use Rattle.poly_core.specs.declared.place_names.Names.{Names}
 use Rattle.poly_core.specs.Names.{name_of, IsNamed}
 use Rattle.poly_core.specs.Text.{factor_text, factors, join, AreValues, AreNamed}
+use Rattle.polynomials.specs.Polynomial.{Polynomial}
 
 -- the factors still to be written, of which the first follows a `*` unless nothing is written
 abbrev pub factors_left : Bool → List (List ℕ) → List ℕ
@@ -114,21 +115,21 @@ module _ {A : Type 0} (text : A → List ℕ) (ts : List A) (i : ℕ) where
 
 -- a term of a polynomial
 module _ {E : Type 0} where
-  pub value_at : (K : FieldOps E) (p : List (Term E)) (i : ℕ) (d : Term E) → AreValues K p → i < length p → IsValue K (get_or p i d).by
+  pub value_at : (K : FieldOps E) (p : Polynomial E) (i : ℕ) (d : Term E) → AreValues K p → i < length p → IsValue K (get_or p i d).by
   value_at K [] i d h l = absurd (omega arith)
   value_at K (t ∷ p) zero d h l = h.0
   value_at K (t ∷ p) (suc i) d h l = value_at K p i d h.1 (omega arith)
 
-  pub named_at : (names : Names) (p : List (Term E)) (i : ℕ) (d : Term E) → AreNamed names p → i < length p → IsNamed names (get_or p i d).at
+  pub named_at : (names : Names) (p : Polynomial E) (i : ℕ) (d : Term E) → AreNamed names p → i < length p → IsNamed names (get_or p i d).at
   named_at names [] i d h l = absurd (omega arith)
   named_at names (t ∷ p) zero d h l = h.0
   named_at names (t ∷ p) (suc i) d h l = named_at names p i d h.1 (omega arith)
 
   -- one more term
-  pub values_last : (K : FieldOps E) (p : List (Term E)) (t : Term E) → AreValues K p → IsValue K t.by → AreValues K (p ++ t ∷ [])
+  pub values_last : (K : FieldOps E) (p : Polynomial E) (t : Term E) → AreValues K p → IsValue K t.by → AreValues K (p ++ t ∷ [])
   values_last K [] t h v = (v, tt)
   values_last K (u ∷ p) t h v = (h.0, values_last K p t h.1 v)
 
-  pub named_last : (names : Names) (p : List (Term E)) (t : Term E) → AreNamed names p → IsNamed names t.at → AreNamed names (p ++ t ∷ [])
+  pub named_last : (names : Names) (p : Polynomial E) (t : Term E) → AreNamed names p → IsNamed names t.at → AreNamed names (p ++ t ∷ [])
   named_last names [] t h v = (v, tt)
   named_last names (u ∷ p) t h v = (h.0, named_last names p t h.1 v)

@@ -1,8 +1,8 @@
 -- Steps of merging two falling lists from their ends.
 use Rattle.std.specs.Prelude.{◌≡◌, ◌≢◌, ◌⊎◌, List, [], ◌∷◌, ◌++◌}
 use Rattle.word_field.specs.Field.{FieldOps}
-use Rattle.monomial_order.specs.declared.Term.{Term}
-use Rattle.poly_core.specs.Poly.{term_of}
+use Rattle.monomial_order.specs.declared.terms.Term.{Term}
+use Rattle.polynomials.specs.Polynomial.{Polynomial, term_of}
 
 -- the last item of one list went to the end of another
 pub record MovesLast {A : Type 0} (from from' to to' : List A) : Type 0 where
@@ -11,7 +11,7 @@ pub record MovesLast {A : Type 0} (from from' to to' : List A) : Type 0 where
   pub put : to' ≡ to ++ (item ∷ [])
 
 -- the last terms of two lists are gone, and their sum, where it is not zero, went to the end of a third
-pub record AddsLast {E : Type 0} (K : FieldOps E) (a a' b b' to to' : List (Term E)) : Type 0 where
+pub record AddsLast {E : Type 0} (K : FieldOps E) (a a' b b' to to' : Polynomial E) : Type 0 where
   pub left : Term E
   pub right : Term E
   pub left_taken : a ≡ a' ++ (left ∷ [])

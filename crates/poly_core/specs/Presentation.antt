@@ -1,33 +1,33 @@
 -- What a presentation of the program presents, and its limits.
 use Rattle.std.specs.Prelude.{◌≡◌, ℕ, ◌≤◌, ◌⊎◌, List, [], ◌∷◌, length, map}
 use Rattle.word_field.specs.Field.{FieldOps}
-use Rattle.monomial_order.specs.declared.Term.{Term}
+use Rattle.monomial_order.specs.declared.terms.Term.{Term}
 use Rattle.monomial_order.specs.declared.weight_order.WeightOrder.{WeightOrder}
 use Rattle.monomial_order.specs.MonomialOrder.{MonomialOrder}
 use Rattle.monomial_order.specs.Orders.{weight_order}
 use Rattle.monomial_order.specs.Ties.{tie_order}
-use Rattle.poly_core.specs.declared.presentation.Presentation.{Presentation}
-use Rattle.poly_core.specs.Poly.{IsKept, IsHomogeneous}
+use Rattle.poly_core.specs.declared.presentations.Presentation.{Presentation}
+use Rattle.polynomials.specs.Polynomial.{Polynomial, IsCanonical, IsHomogeneous}
 use Rattle.poly_core.specs.Names.{AreNames}
-use Rattle.poly_core.specs.Subalgebra.{Presented, IsPresentation}
+use Rattle.polynomials.specs.Subalgebra.{Presented, IsPresentation}
 
 module _ {E : Type 0} (K : FieldOps E) (O : MonomialOrder) where
   -- zero, or homogeneous of a degree from 1 to 30000
-  pub record IsKeptGenerator (f : List (Term E)) : Type 0 where
-    pub kept : IsKept K O f
+  pub record IsCanonicalGenerator (f : Polynomial E) : Type 0 where
+    pub canonical : IsCanonical K O f
     pub homogeneous : (f ≡ []) ⊎ ((d : ℕ) × (1 ≤ d) × (d ≤ 30000) × IsHomogeneous K O d f)
 
-  abbrev pub AreKeptGenerators : List (List (Term E)) → Type 0
-  AreKeptGenerators [] = Unit {0}
-  AreKeptGenerators (f ∷ fs) = IsKeptGenerator f × AreKeptGenerators fs
+  abbrev pub AreCanonicalGenerators : List (Polynomial E) → Type 0
+  AreCanonicalGenerators [] = Unit {0}
+  AreCanonicalGenerators (f ∷ fs) = IsCanonicalGenerator f × AreCanonicalGenerators fs
 
   -- at most 256 of them
-  pub record IsKeptList (fs : List (List (Term E))) : Type 0 where
-    pub each : AreKeptGenerators fs
+  pub record IsCanonicalList (fs : List (Polynomial E)) : Type 0 where
+    pub each : AreCanonicalGenerators fs
     pub few : length fs ≤ 256
 
 -- the degree of a generator, and 1 for zero
-abbrev pub generator_degree : {E : Type 0} → MonomialOrder → List (Term E) → ℕ
+abbrev pub generator_degree : {E : Type 0} → MonomialOrder → Polynomial E → ℕ
 generator_degree O [] = 1
 generator_degree O (t ∷ f) = O.degree t.at
 
@@ -40,14 +40,14 @@ module _ {F O E : Type 0} where
   pub record IsValid (ops : F → FieldOps E) (order : O → MonomialOrder) (p : Presentation F O E) : Type 0 where
     pub presentation : IsPresentation (presented ops order p)
     pub names : AreNames (order p.order).places p.names
-    pub ideal : IsKeptList (ops p.field) (order p.order) p.ideal.items
-    pub generators : IsKeptList (ops p.field) (order p.order) p.generators.items
+    pub ideal : IsCanonicalList (ops p.field) (order p.order) p.ideal.items
+    pub generators : IsCanonicalList (ops p.field) (order p.order) p.generators.items
     pub no_x : p.gen_order.x_degrees.items ≡ []
     pub degrees : p.gen_order.s_degrees.items ≡ map (generator_degree (order p.order)) p.generators.items
 
 -- the meaning of an order by weights
-abbrev pub order_of : WeightOrder → MonomialOrder
-order_of o = weight_order o.weights.items o.rows.items (tie_order o.tie)
+abbrev pub weight_order_of : WeightOrder → MonomialOrder
+weight_order_of o = weight_order o.weights.items o.rows.items (tie_order o.tie)
 
 -- q presents what p presents, with the same names and orders
 pub record IsSame {F E : Type 0} (p q : Presentation F WeightOrder E) : Type 0 where

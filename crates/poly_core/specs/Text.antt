@@ -3,9 +3,10 @@ use Rattle.std.specs.Prelude.{ℕ, zero, suc, List, [], ◌∷◌, ◌++◌, map
 use Rattle.std.specs.Fmt.{decimal}
 use Rattle.std.specs.List.{join_with_byte}
 use Rattle.word_field.specs.Field.{FieldOps, IsValue}
-use Rattle.monomial_order.specs.declared.Term.{Term}
-use Rattle.poly_core.specs.declared.names.Names.{Names}
+use Rattle.monomial_order.specs.declared.terms.Term.{Term}
+use Rattle.poly_core.specs.declared.place_names.Names.{Names}
 use Rattle.poly_core.specs.Names.{name_of, IsNamed}
+use Rattle.polynomials.specs.Polynomial.{Polynomial}
 
 -- the name, and the exponent where it isn't 1
 abbrev pub factor_text : List ℕ → ℕ → List ℕ
@@ -18,13 +19,13 @@ factors names i (zero ∷ m) = factors names (suc i) m
 factors names i (suc e ∷ m) = factor_text (name_of names i) (suc e) ∷ factors names (suc i) m
 
 -- factors joined by `*`; nothing for the monomial 1
-abbrev pub monomial_text : Names → List ℕ → List ℕ
-monomial_text names m = join_with_byte 42 (factors names 0 m)
+abbrev pub factors_text : Names → List ℕ → List ℕ
+factors_text names m = join_with_byte 42 (factors names 0 m)
 
 -- the monomial 1 by itself is `1`
-abbrev pub word_text : Names → List ℕ → List ℕ
-word_text names [] = codes "1"
-word_text names (e ∷ m) = monomial_text names (e ∷ m)
+abbrev pub monomial_text : Names → List ℕ → List ℕ
+monomial_text names [] = codes "1"
+monomial_text names (e ∷ m) = factors_text names (e ∷ m)
 
 -- pieces with a text between them
 abbrev pub join : List ℕ → List (List ℕ) → List ℕ
@@ -39,19 +40,19 @@ module _ {E : Type 0} (K : FieldOps E) (names : Names) where
     where
       coefficient_and : ℕ → List ℕ → List ℕ
       coefficient_and c [] = decimal c
-      coefficient_and c (e ∷ m) = if nat_eq c 1 then monomial_text names (e ∷ m) else decimal c ++ (42 ∷ monomial_text names (e ∷ m))
+      coefficient_and c (e ∷ m) = if nat_eq c 1 then factors_text names (e ∷ m) else decimal c ++ (42 ∷ factors_text names (e ∷ m))
 
   -- the terms as they stand, joined by ` + `; zero is `0`
-  abbrev pub poly_text : List (Term E) → List ℕ
+  abbrev pub poly_text : Polynomial E → List ℕ
   poly_text [] = codes "0"
   poly_text (t ∷ p) = join (codes " + ") (map term_text (t ∷ p))
 
 -- each coefficient is a value of the field
-abbrev pub AreValues : {E : Type 0} → FieldOps E → List (Term E) → Type 0
+abbrev pub AreValues : {E : Type 0} → FieldOps E → Polynomial E → Type 0
 AreValues K [] = Unit {0}
 AreValues K (t ∷ p) = IsValue K t.by × AreValues K p
 
 -- each place that a monomial of the polynomial has is named
-abbrev pub AreNamed : {E : Type 0} → Names → List (Term E) → Type 0
+abbrev pub AreNamed : {E : Type 0} → Names → Polynomial E → Type 0
 AreNamed names [] = Unit {0}
 AreNamed names (t ∷ p) = IsNamed names t.at × AreNamed names p

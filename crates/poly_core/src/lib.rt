@@ -1,13 +1,19 @@
-//! Polynomials over a field, in an order of monomials.
+//! Polynomials over a field, in an order of monomials, with their names, texts and presentations.
 #![tactic(auto)]
 
-pub mod laws;
-pub mod names;
-pub mod poly;
-pub mod presentation;
+mod name_table;
+mod place_names;
+mod polynomial;
+mod presentations;
 mod products;
 mod sums;
 #[cfg(test)]
 mod tests;
-pub mod text;
+mod text;
 mod values;
+
+pub use name_table::NameTable;
+pub use place_names::Names;
+pub use polynomial::Poly;
+pub use presentations::Presentation;
+pub use text::write_monomial;

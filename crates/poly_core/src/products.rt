@@ -1,7 +1,7 @@
 //! Products of falling lists of terms.
 ghost use Rattle.std.specs.Prelude.{◌≡◌, [], IfOk, All};
 ghost use Rattle.word_field.specs.Field.{IsValue};
-ghost use Rattle.poly_core.specs.Poly.{term_of, IsKept, IsTerm, IsSmall, Same, scaled, times};
+ghost use Rattle.polynomials.specs.Polynomial.{term_of, IsCanonical, IsTerm, IsSmall, Same, scaled, times};
 
 use crate::sums::merge;
 use monomial_order::{Memory, Monomial, Order, Term};
@@ -38,7 +38,7 @@ pub(crate) fn times_terms<F: Field, O: Order>(
     m: &Monomial,
     terms: &[Term<F::Elem>],
 ) -> Result<Vec<Term<F::Elem>>, Memory>
-    requires kept { IsKept (F.ops f.now) (O.order o.now) terms.now }
+    requires kept { IsCanonical (F.ops f.now) (O.order o.now) terms.now }
     requires term { IsTerm (F.ops f.now) (O.order o.now).places (term_of m.now c) }
     requires small { IsSmall (O.order o.now) (scaled (F.ops f.now) (term_of m.now c) terms.now) }
     ensures { IfOk result (λ r. r.items ≡ scaled (F.ops f.now) (term_of m.now c) terms.now) }
@@ -61,10 +61,10 @@ pub(crate) fn multiply<F: Field, O: Order>(
     a: &[Term<F::Elem>],
     b: &[Term<F::Elem>],
 ) -> Result<Vec<Term<F::Elem>>, Memory>
-    requires a { IsKept (F.ops f.now) (O.order o.now) a.now }
-    requires b { IsKept (F.ops f.now) (O.order o.now) b.now }
+    requires a { IsCanonical (F.ops f.now) (O.order o.now) a.now }
+    requires b { IsCanonical (F.ops f.now) (O.order o.now) b.now }
     requires small { IsSmall (O.order o.now) (times (F.ops f.now) a.now b.now) }
-    ensures kept { IfOk result (λ r. IsKept (F.ops f.now) (O.order o.now) r.items) }
+    ensures kept { IfOk result (λ r. IsCanonical (F.ops f.now) (O.order o.now) r.items) }
     ensures product { IfOk result (λ r. Same (F.ops f.now) r.items (times (F.ops f.now) a.now b.now)) }
 {
     if a.len() <= b.len() {
@@ -82,10 +82,10 @@ fn multiply_by_halves<F: Field, O: Order>(
     a: &[Term<F::Elem>],
     b: &[Term<F::Elem>],
 ) -> Result<Vec<Term<F::Elem>>, Memory>
-    requires a { IsKept (F.ops f.now) (O.order o.now) a.now }
-    requires b { IsKept (F.ops f.now) (O.order o.now) b.now }
+    requires a { IsCanonical (F.ops f.now) (O.order o.now) a.now }
+    requires b { IsCanonical (F.ops f.now) (O.order o.now) b.now }
     requires small { IsSmall (O.order o.now) (times (F.ops f.now) a.now b.now) }
-    ensures kept { IfOk result (λ r. IsKept (F.ops f.now) (O.order o.now) r.items) }
+    ensures kept { IfOk result (λ r. IsCanonical (F.ops f.now) (O.order o.now) r.items) }
     ensures product { IfOk result (λ r. Same (F.ops f.now) r.items (times (F.ops f.now) a.now b.now)) }
 {
     match a {

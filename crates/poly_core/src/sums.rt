@@ -1,7 +1,7 @@
 //! Sums of falling lists of terms.
 ghost use Rattle.std.specs.Prelude.{◌≡◌, ◌≢◌, ◌++◌, ◌∷◌, [], ◌<◌, vec_len, IfOk, OnOk, All};
 ghost use Rattle.word_field.specs.Field.{IsValue};
-ghost use Rattle.poly_core.specs.Poly.{term_of, IsKept, Same, component, IsMeasured};
+ghost use Rattle.polynomials.specs.Polynomial.{term_of, IsCanonical, Same, component, IsMeasured};
 ghost use Rattle.poly_core.specs.Merging.{MovesLast, AddsLast};
 
 use monomial_order::{Memory, Order, Term};
@@ -88,9 +88,9 @@ pub(crate) fn merge<F: Field, O: Order>(
     mut a: Vec<Term<F::Elem>>,
     mut b: Vec<Term<F::Elem>>,
 ) -> Result<Vec<Term<F::Elem>>, Memory>
-    requires a { IsKept (F.ops f.now) (O.order o.now) a.items }
-    requires b { IsKept (F.ops f.now) (O.order o.now) b.items }
-    ensures kept { IfOk result (λ r. IsKept (F.ops f.now) (O.order o.now) r.items) }
+    requires a { IsCanonical (F.ops f.now) (O.order o.now) a.items }
+    requires b { IsCanonical (F.ops f.now) (O.order o.now) b.items }
+    ensures kept { IfOk result (λ r. IsCanonical (F.ops f.now) (O.order o.now) r.items) }
     ensures sum { IfOk result (λ r. Same (F.ops f.now) r.items (a.items ++ b.items)) }
 {
     // The end of the sum, its least term first.

@@ -2,10 +2,10 @@
 ghost use Rattle.std.specs.Prelude.{◌≡◌, ℕ, ◌≤◌, [], ◌∷◌, IfOk};
 ghost use Rattle.word_field.specs.Residues.{residues};
 ghost use Rattle.monomial_order.specs.Monomial.{IsMonomial};
-ghost use Rattle.poly_core.specs.Poly.{AllAt, IsKept};
-ghost use Rattle.poly_core.specs.Presentation.{order_of};
+ghost use Rattle.polynomials.specs.Polynomial.{AllAt, IsCanonical};
+ghost use Rattle.poly_core.specs.Presentation.{weight_order_of};
 
-use crate::poly::Poly;
+use crate::Poly;
 use monomial_order::{Memory, Monomial, Order, Term, Tie, WeightOrder};
 use std::alloc::Global;
 use std::process::Abort;
@@ -30,8 +30,8 @@ fn monomial(
     y: u16,
 ) -> Result<Monomial, Fail>
     requires { o.now.weights.items ≡ 1 ∷ (1 ∷ []) }
-    ensures monomial { IfOk result (IsMonomial (order_of o.now).places) }
-    ensures small { IfOk result (λ m. (order_of o.now).degree m ≤ 9) }
+    ensures monomial { IfOk result (IsMonomial (weight_order_of o.now).places) }
+    ensures small { IfOk result (λ m. (weight_order_of o.now).degree m ≤ 9) }
 {
     let m = Monomial::from_places(alloc, &[x, y])?;
     assert!(rt; m.places() <= 2);
@@ -49,7 +49,7 @@ fn term<F: Field, O: Order>(
 ) -> Result<Poly<F>, Memory>
     requires monomial { IsMonomial (O.order o.now).places m }
     requires small { (O.order o.now).degree m ≤ 9 }
-    ensures { IfOk result (IsKept (F.ops f.now) (O.order o.now)) }
+    ensures { IfOk result (IsCanonical (F.ops f.now) (O.order o.now)) }
 {
     Poly::term(alloc, f, m, f.from_word(c))
 }
@@ -63,7 +63,7 @@ fn sum_of(
     terms: &[Small],
 ) -> Result<Poly<WordField>, Fail>
     requires { o.now.weights.items ≡ 1 ∷ (1 ∷ []) }
-    ensures { IfOk result (IsKept (residues f.now.modulus) (order_of o.now)) }
+    ensures { IfOk result (IsCanonical (residues f.now.modulus) (weight_order_of o.now)) }
 {
     let mut sum = Poly::zero(alloc);
     for (c, x, y) in terms {
@@ -75,7 +75,7 @@ fn sum_of(
 }
 
 fn check_degrees<F: Field, O: Order>(rt: &impl Abort, f: &F, o: &O, a: &Poly<F>)
-    requires { IsKept (F.ops f.now) (O.order o.now) a.now }
+    requires { IsCanonical (F.ops f.now) (O.order o.now) a.now }
     ensures { AllAt (λ m. (O.order o.now).degree m ≤ 9) a.now }
 {
     if let Some(d) = Poly::degree(o, a) {
@@ -91,8 +91,8 @@ fn product<F: Field, O: Order>(
     a: &Poly<F>,
     b: &Poly<F>,
 ) -> Result<Poly<F>, Memory>
-    requires a { IsKept (F.ops f.now) (O.order o.now) a.now }
-    requires b { IsKept (F.ops f.now) (O.order o.now) b.now }
+    requires a { IsCanonical (F.ops f.now) (O.order o.now) a.now }
+    requires b { IsCanonical (F.ops f.now) (O.order o.now) b.now }
 {
     check_degrees(rt, f, o, a);
     check_degrees(rt, f, o, b);
@@ -108,7 +108,7 @@ fn multiple<F: Field, O: Order>(
     c: u64,
     m: &Monomial,
 ) -> Result<Poly<F>, Memory>
-    requires a { IsKept (F.ops f.now) (O.order o.now) a.now }
+    requires a { IsCanonical (F.ops f.now) (O.order o.now) a.now }
     requires monomial { IsMonomial (O.order o.now).places m.now }
     requires small { (O.order o.now).degree m.now ≤ 9 }
 {
@@ -126,9 +126,9 @@ fn value_at<F: Field, O: Order>(
     p: Poly<F>,
     q: Poly<F>,
 ) -> Result<Poly<F>, Memory>
-    requires h { IsKept (F.ops f.now) (O.order o.now) h.now }
-    requires p { IsKept (F.ops f.now) (O.order o.now) p }
-    requires q { IsKept (F.ops f.now) (O.order o.now) q }
+    requires h { IsCanonical (F.ops f.now) (O.order o.now) h.now }
+    requires p { IsCanonical (F.ops f.now) (O.order o.now) p }
+    requires q { IsCanonical (F.ops f.now) (O.order o.now) q }
 {
     assert!(rt; o.places() == 2);
     check_degrees(rt, f, o, h);

@@ -4,10 +4,10 @@ ghost use Rattle.std.specs.Fmt.{decimal};
 ghost use Rattle.poly_core.specs.Names.{name_at, name_of, IsNamed};
 ghost use Rattle.word_field.specs.Field.{IsValue};
 ghost use Rattle.word_field.specs.Residues.{residues};
-ghost use Rattle.poly_core.specs.Text.{factor_text, monomial_text, word_text, term_text, poly_text, AreValues, AreNamed};
+ghost use Rattle.poly_core.specs.Text.{factor_text, factors_text, monomial_text, term_text, poly_text, AreValues, AreNamed};
 
-use crate::names::Names;
-use crate::poly::Poly;
+use crate::Names;
+use crate::Poly;
 use monomial_order::{Memory, Monomial, Term};
 use std::alloc::Global;
 use word_field::Field;
@@ -80,7 +80,7 @@ fn push_factor(out: &mut Vec<u8>, names: &Names, i: usize, e: u16) -> Result<(),
 
 fn push_monomial(out: &mut Vec<u8>, names: &Names, m: &[u16]) -> Result<(), Memory>
     requires { IsNamed names.now m.now }
-    ensures { OnOk result (out.new.items ≡ out.old.items ++ monomial_text names.now m.now) }
+    ensures { OnOk result (out.new.items ≡ out.old.items ++ factors_text names.now m.now) }
 {
     let mut first = true;
     for (i, e) in m.iter().enumerate() {
@@ -118,9 +118,9 @@ fn push_term<F: Field>(
 }
 
 /// The canonical text of a word.
-pub fn write_word(alloc: Global, m: &Monomial, names: &Names) -> Result<Vec<u8>, Memory>
+pub fn write_monomial(alloc: Global, m: &Monomial, names: &Names) -> Result<Vec<u8>, Memory>
     requires { IsNamed names.now m.now }
-    ensures { IfOk result (λ text. text.items ≡ word_text names.now m.now) }
+    ensures { IfOk result (λ text. text.items ≡ monomial_text names.now m.now) }
 {
     let mut out = Vec::new(alloc);
     if m.places() == 0 {
@@ -156,7 +156,7 @@ impl<F: Field> Poly<F> {
 #[cfg(test)]
 mod tests {
     use super::*;
-    use crate::names::NameTable;
+    use crate::NameTable;
     use std::test::Fail;
     use word_field::WordField;
 
@@ -231,7 +231,7 @@ mod tests {
         let names = x_and_y(rt.alloc())?;
         for (x, y, text) in [(0, 0, "1"), (2, 1, "x^2*y")] {
             let term = term_in_x_and_y(rt.alloc(), &f, &names, 1, x, y)?;
-            let written = write_word(rt.alloc(), &term.at, &names)?;
+            let written = write_monomial(rt.alloc(), &term.at, &names)?;
             assert_eq!(rt; written.as_slice(), text.as_bytes());
         }
         Ok(())

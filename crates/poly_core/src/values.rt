@@ -2,11 +2,11 @@
 ghost use Rattle.std.specs.Prelude.{◌≡◌, ℕ, ◌+◌, ◌*◌, ◌≤◌, [], length, slice_index_or, IfOk, OnOk, All};
 ghost use Rattle.monomial_order.specs.Monomial.{exponent};
 ghost use Rattle.word_field.specs.Field.{IsValue};
-ghost use Rattle.poly_core.specs.Poly.{constant, degree_of, AllAt, IsKept, IsTerm, Same};
-ghost use Rattle.poly_core.specs.Value.{term_value, value, value_degree, HasSmallValue};
+ghost use Rattle.polynomials.specs.Polynomial.{Polynomial, constant, degree_of, AllAt, IsCanonical, IsTerm, Same};
+ghost use Rattle.polynomials.specs.Value.{term_value, value, value_degree, HasSmallValue};
 ghost use Rattle.poly_core.specs.Powers.{ArePowers, IsPowerOf, IsTable, Reaches};
 
-use crate::poly::Poly;
+use crate::Poly;
 use crate::products::multiply;
 use crate::sums::merge;
 use monomial_order::{Memory, Monomial, Order, Term};
@@ -22,9 +22,9 @@ pub(crate) struct Powers<F: Field> {
 
 impl<F: Field> Model for Powers<F> {
     ghost use Rattle.std.specs.Prelude.{List};
-    ghost use Rattle.monomial_order.specs.declared.Term.{Term};
+    ghost use Rattle.polynomials.specs.Polynomial.{Polynomial};
 
-    ghost Value = { List (List (Term F.Elem)) };
+    ghost Value = { List (Polynomial F.Elem) };
 
     ghost view = { λ p. p.from_square.items };
 }
@@ -39,7 +39,7 @@ impl<F: Field> Powers<F> {
         p: &Poly<F>,
         e: usize,
     ) -> Result<(), Memory>
-        requires kept { IsKept (F.ops f.now) (O.order o.now) p.now }
+        requires kept { IsCanonical (F.ops f.now) (O.order o.now) p.now }
         requires powers { ArePowers (F.ops f.now) (O.order o.now) p.now self.old }
         requires small { e * degree_of (O.order o.now) p.now ≤ 65535 }
         ensures powers { OnOk result (ArePowers (F.ops f.now) (O.order o.now) p.now self.new) }
@@ -55,7 +55,7 @@ impl<F: Field> Powers<F> {
 
     /// The next power of p.
     fn next<O: Order>(&self, alloc: Global, f: &F, o: &O, p: &Poly<F>) -> Result<Poly<F>, Memory>
-        requires kept { IsKept (F.ops f.now) (O.order o.now) p.now }
+        requires kept { IsCanonical (F.ops f.now) (O.order o.now) p.now }
         requires powers { ArePowers (F.ops f.now) (O.order o.now) p.now self.now }
         requires small { (length self.now + 2) * degree_of (O.order o.now) p.now ≤ 65535 }
         ensures { IfOk result (IsPowerOf (F.ops f.now) (O.order o.now) p.now (length self.now + 2)) }
@@ -85,7 +85,7 @@ fn powers_at<F: Field, O: Order>(
     place: usize,
     p: &Poly<F>,
 ) -> Result<Powers<F>, Memory>
-    requires kept { IsKept (F.ops f.now) (O.order o.now) p.now }
+    requires kept { IsCanonical (F.ops f.now) (O.order o.now) p.now }
     requires small { All (λ t. exponent t.at place * degree_of (O.order o.now) p.now ≤ 65535) h.now }
     ensures powers { IfOk result (ArePowers (F.ops f.now) (O.order o.now) p.now) }
     ensures reached { IfOk result (λ r. All (λ t. exponent t.at place ≤ length r + 1) h.now) }
@@ -107,7 +107,7 @@ pub(crate) fn power_table<F: Field, O: Order>(
     h: &[Term<F::Elem>],
     at: &[Poly<F>],
 ) -> Result<Vec<Powers<F>>, Memory>
-    requires at { All (IsKept (F.ops f.now) (O.order o.now)) at.now }
+    requires at { All (IsCanonical (F.ops f.now) (O.order o.now)) at.now }
     requires small { HasSmallValue (O.order o.now) at.now h.now }
     ensures table { IfOk result (λ r. IsTable (F.ops f.now) (O.order o.now) at.now r.items) }
     ensures reached { IfOk result (λ r. All (λ t. Reaches r.items t.at) h.now) }
@@ -127,7 +127,7 @@ fn constant_terms<F: Field, O: Order>(
     c: F::Elem,
 ) -> Result<Vec<Term<F::Elem>>, Memory>
     requires { IsValue (F.ops f.now) c }
-    ensures kept { IfOk result (λ r. IsKept (F.ops f.now) (O.order o.now) r.items) }
+    ensures kept { IfOk result (λ r. IsCanonical (F.ops f.now) (O.order o.now) r.items) }
     ensures constant { IfOk result (λ r. Same (F.ops f.now) r.items (constant (F.ops f.now) c)) }
     ensures degree { IfOk result (λ r. AllAt (λ m. (O.order o.now).degree m ≤ 0) r.items) }
 {
@@ -151,11 +151,11 @@ fn value_of_term<F: Field, O: Order>(
     table: &[Powers<F>],
 ) -> Result<Vec<Term<F::Elem>>, Memory>
     requires term { IsTerm (F.ops f.now) (length at.now) t.now }
-    requires at { All (IsKept (F.ops f.now) (O.order o.now)) at.now }
+    requires at { All (IsCanonical (F.ops f.now) (O.order o.now)) at.now }
     requires small { value_degree (O.order o.now) at.now t.now.at ≤ 65535 }
     requires table { IsTable (F.ops f.now) (O.order o.now) at.now table.now }
     requires reached { Reaches table.now t.now.at }
-    ensures kept { IfOk result (λ r. IsKept (F.ops f.now) (O.order o.now) r.items) }
+    ensures kept { IfOk result (λ r. IsCanonical (F.ops f.now) (O.order o.now) r.items) }
     ensures value { IfOk result (λ r. Same (F.ops f.now) r.items (term_value (F.ops f.now) at.now t.now)) }
 {
     let mut product = constant_terms(alloc, f, o, t.by)?;
@@ -184,11 +184,11 @@ pub(crate) fn sum_of_values<F: Field, O: Order>(
     table: &[Powers<F>],
 ) -> Result<Vec<Term<F::Elem>>, Memory>
     requires terms { All (IsTerm (F.ops f.now) (length at.now)) h.now }
-    requires at { All (IsKept (F.ops f.now) (O.order o.now)) at.now }
+    requires at { All (IsCanonical (F.ops f.now) (O.order o.now)) at.now }
     requires small { HasSmallValue (O.order o.now) at.now h.now }
     requires table { IsTable (F.ops f.now) (O.order o.now) at.now table.now }
     requires reached { All (λ t. Reaches table.now t.at) h.now }
-    ensures kept { IfOk result (λ r. IsKept (F.ops f.now) (O.order o.now) r.items) }
+    ensures kept { IfOk result (λ r. IsCanonical (F.ops f.now) (O.order o.now) r.items) }
     ensures value { IfOk result (λ r. Same (F.ops f.now) r.items (value (F.ops f.now) h.now at.now)) }
 {
     match h {

@@ -4,16 +4,16 @@ use Rattle.std.specs.List.{list_all, slice_split}
 use Rattle.std.proofs.lemmas.Bool.{leb-true, cases_eq}
 use Rattle.std.proofs.lemmas.List.Splits.{length-slice_split}
 use Rattle.word_field.specs.Field.{FieldOps, IsField}
-use Rattle.monomial_order.specs.declared.Term.{Term}
+use Rattle.monomial_order.specs.declared.terms.Term.{Term}
 use Rattle.monomial_order.specs.Monomial.{product, exponent}
-use Rattle.monomial_order.specs.MonomialLaws.{exponent-product}
+use Rattle.monomial_order.specs.laws.Monomial.{exponent-product}
 use Rattle.monomial_order.specs.MonomialOrder.{MonomialOrder, IsMonomialOrder}
-use Rattle.poly_core.specs.declared.names.Names.{Names}
+use Rattle.poly_core.specs.declared.place_names.Names.{Names}
 use Rattle.poly_core.specs.Names.{name_at, is_letter, is_name_byte, IsNamed}
-use Rattle.poly_core.specs.Poly.{term_of, term_times, coefficient, AllAt}
+use Rattle.polynomials.specs.Polynomial.{Polynomial, term_of, term_times, coefficient, AllAt}
 use Rattle.poly_core.specs.Text.{poly_text, AreNamed}
-use Rattle.poly_core.specs.FallingLaws.{Falls_unique}
-use Rattle.poly_core.specs.DegreeLaws.{all_found, falls_all}
+use Rattle.polynomials.specs.laws.Decreasing.{IsDecreasing_unique}
+use Rattle.polynomials.specs.laws.Degrees.{all_found, decreasing_all}
 use Rattle.polynomial_text.specs.declared.text_kind.TextKind.{TextKind}
 use Rattle.polynomial_text.specs.declared.text_kind.TextKind.TheVariants.{PolySyntax, DegreeTooLarge}
 use Rattle.polynomial_text.specs.Results.{◌>>=◌, along, each}
@@ -147,7 +147,7 @@ module _ {E : Type 0} (K : FieldOps E) (O : MonomialOrder) (names : Names) where
         small = along_makes (with_factor K O names) (λ u. O.degree u.at ≤ 30000) (λ s x u h. (next_factor s x u h).small) start parts t (omega (arith, length-slice_split (λ b. b == 42) part.1)) e;
       }
 
-  each_readable : (parts : List (Bool × List ℕ)) (ts : List (Term E)) → each (term_at K O names) parts ≡ Ok ts → AllAt IsReadable ts
+  each_readable : (parts : List (Bool × List ℕ)) (ts : Polynomial E) → each (term_at K O names) parts ≡ Ok ts → AllAt IsReadable ts
   unfolding each
   each_readable [] ts e = subst (AllAt IsReadable) (same_ok [] ts e) tt
   each_readable (part ∷ parts) ts e =
@@ -155,44 +155,44 @@ module _ {E : Type 0} (K : FieldOps E) (O : MonomialOrder) (names : Names) where
       let two = step_ok (each (term_at K O names) parts) (λ others. Ok (one.0 ∷ others)) ts one.2 in
       subst (AllAt IsReadable) (same_ok (one.0 ∷ two.0) ts two.2) (term_readable part one.0 one.1, each_readable parts two.0 two.1)
 
-  terms_readable : (line : List ℕ) (ts : List (Term E)) → terms_of K O names line ≡ Ok ts → AllAt IsReadable ts
+  terms_readable : (line : List ℕ) (ts : Polynomial E) → terms_of K O names line ≡ Ok ts → AllAt IsReadable ts
   unfolding terms_of
   terms_readable line ts e = each_readable (behind_sign (signed_parts false line)) ts e
 
-  all_named : (p : List (Term E)) → AllAt IsReadable p → AreNamed names p
+  all_named : (p : Polynomial E) → AllAt IsReadable p → AreNamed names p
   all_named [] h = tt
   all_named (t ∷ p) h = (h.0.named, all_named p h.1)
 
-  all_small : (p : List (Term E)) → AllAt IsReadable p → AllAt (λ m. O.degree m ≤ 30000) p
+  all_small : (p : Polynomial E) → AllAt IsReadable p → AllAt (λ m. O.degree m ≤ 30000) p
   all_small [] h = tt
   all_small (t ∷ p) h = (h.0.small, all_small p h.1)
 
 module _ {E : Type 0} (K : FieldOps E) (F : IsField K) (O : MonomialOrder) (L : IsMonomialOrder O) (names : Names) (line : List ℕ) where
-  readable : (p : List (Term E)) → IsPolyOf K O names line p → AllAt (IsReadable K O names) p
+  readable : (p : Polynomial E) → IsPolyOf K O names line p → AllAt (IsReadable K O names) p
   readable p h =
-      falls_all K F O L (IsReadable K O names) p h.kept.falls
+      decreasing_all K F O L (IsReadable K O names) p h.kept.decreasing
       (λ m ne. all_found K F O L (IsReadable K O names) h.terms (terms_readable K O names line h.terms h.read) m (λ z. ne (h.sum m ∙ z)))
 
-  pub poly_named : (p : List (Term E)) → IsPolyOf K O names line p → AreNamed names p
+  pub poly_named : (p : Polynomial E) → IsPolyOf K O names line p → AreNamed names p
   poly_named p h = all_named K O names p (readable p h)
 
   -- the polynomial of a line that is its text
-  pub canonical_found : (p : List (Term E)) → IsPolyOf K O names line p → line ≡ poly_text K names p → IsCanonical K O names line p
+  pub canonical_found : (p : Polynomial E) → IsPolyOf K O names line p → line ≡ poly_text K names p → IsCanonical K O names line p
   canonical_found p h text = record { kept = h.kept; named = poly_named p h; small = all_small K O names p (readable p h); text = text }
 
   module _ (few : K.size ≤ 2 ^ 32) (D : AreDifferent O.places names) where
     -- a line that is the text of a polynomial has no fault
-    pub canonical_no_fault : (kind : TextKind) → terms_of K O names line ≡ Err kind → (p : List (Term E)) → IsCanonical K O names line p → ⊥
+    pub canonical_no_fault : (kind : TextKind) → terms_of K O names line ≡ Err kind → (p : Polynomial E) → IsCanonical K O names line p → ⊥
     canonical_no_fault kind e p h =
         let read = canonical_terms K F few O L names D p h.kept h.named h.small in
         let is : terms_of K O names line ≡ Ok read.0 = ap (terms_of K O names) h.text ∙ read.1 in
         let clash = sym e ∙ is in cc
 
     -- and no polynomial with another text
-    pub canonical_only : (p : List (Term E)) → IsPolyOf K O names line p → (q : List (Term E)) → IsCanonical K O names line q → line ≡ poly_text K names p
+    pub canonical_only : (p : Polynomial E) → IsPolyOf K O names line p → (q : Polynomial E) → IsCanonical K O names line q → line ≡ poly_text K names p
     canonical_only p h q k =
         let read = canonical_terms K F few O L names D q k.kept k.named k.small in
         let is : terms_of K O names line ≡ Ok read.0 = ap (terms_of K O names) k.text ∙ read.1 in
         let same : h.terms ≡ read.0 = same_ok h.terms read.0 (sym h.read ∙ is) in
-        let one : p ≡ q = Falls_unique K F O L p q h.kept.falls k.kept.falls (λ m. h.sum m ∙ (ap (λ ts. coefficient K ts m) same ∙ sym (read.2 m))) in
+        let one : p ≡ q = IsDecreasing_unique K F O L p q h.kept.decreasing k.kept.decreasing (λ m. h.sum m ∙ (ap (λ ts. coefficient K ts m) same ∙ sym (read.2 m))) in
         k.text ∙ ap (poly_text K names) (sym one)

@@ -2,11 +2,11 @@
 use Rattle.std.proofs.Common.{◌≡◌, ℕ, suc, Bool, false, List, [], ◌∷◌, ◌++◌, length, Option, Some, None, Result, Ok, Err, refl, sym, ap, ◌∙◌, append_assoc}
 use Rattle.std.proofs.lemmas.List.{append-nil}
 use Rattle.word_field.specs.Field.{FieldOps, IsField}
-use Rattle.monomial_order.specs.declared.Term.{Term}
+use Rattle.monomial_order.specs.declared.terms.Term.{Term}
 use Rattle.monomial_order.specs.MonomialOrder.{MonomialOrder}
-use Rattle.poly_core.specs.Poly.{Same, IsKept, coefficient}
-use Rattle.poly_core.specs.SameLaws.{append_same}
-use Rattle.poly_core.specs.declared.names.Names.{Names}
+use Rattle.polynomials.specs.Polynomial.{Polynomial, Same, IsCanonical, coefficient}
+use Rattle.polynomials.specs.laws.Same.{append_same}
+use Rattle.poly_core.specs.declared.place_names.Names.{Names}
 use Rattle.polynomial_text.specs.declared.text_kind.TextKind.{TextKind}
 use Rattle.polynomial_text.specs.declared.line_fault.LineFault.{LineFault}
 use Rattle.polynomial_text.specs.declared.line_fault.LineFault.TheVariants as faults
@@ -34,13 +34,13 @@ front_none (Err kind) = refl
 
 module _ {E : Type 0} (K : FieldOps E) (F : IsField K) (O : MonomialOrder) (names : Names) where
   -- the list sums up the terms that were read, and the parts that are left give the rest of them
-  pub record IsSummed (line : List ℕ) (left : List (Bool × List ℕ)) (stack : List (List (Term E))) : Type 0 where
+  pub record IsSummed (line : List ℕ) (left : List (Bool × List ℕ)) (stack : List (Polynomial E)) : Type 0 where
     pub kept : AreKept K O stack
-    pub seen : List (Term E)
+    pub seen : Polynomial E
     pub same : Same K (terms_together stack) seen
     pub whole : with_front seen (each (term_at K O names) left) ≡ terms_of K O names line
 
-  pub begins : (line : List ℕ) (left : List (Bool × List ℕ)) (stack : List (List (Term E))) → stack ≡ [] → behind_sign (signed_parts false line) ≡ left → IsSummed line left stack
+  pub begins : (line : List ℕ) (left : List (Bool × List ℕ)) (stack : List (Polynomial E)) → stack ≡ [] → behind_sign (signed_parts false line) ≡ left → IsSummed line left stack
   unfolding terms_of
   begins line left stack none split = record {
     kept = rw none tt;
@@ -49,7 +49,7 @@ module _ {E : Type 0} (K : FieldOps E) (F : IsField K) (O : MonomialOrder) (name
     whole = front_none (each (term_at K O names) left) ∙ ap (each (term_at K O names)) (sym split);
   }
 
-  pub goes_on : (line : List ℕ) (parts left : List (Bool × List ℕ)) (part : Bool × List ℕ) (t : Term E) (stack more : List (List (Term E))) → parts ≡ part ∷ left → term_at K O names part ≡ Ok t →
+  pub goes_on : (line : List ℕ) (parts left : List (Bool × List ℕ)) (part : Bool × List ℕ) (t : Term E) (stack more : List (Polynomial E)) → parts ≡ part ∷ left → term_at K O names part ≡ Ok t →
       AreKept K O more → Same K (terms_together more) (terms_together stack ++ t ∷ []) → IsSummed line parts stack → IsSummed line left more
   unfolding each
   goes_on line parts left part t stack more split here kept added h = record {
@@ -61,7 +61,7 @@ module _ {E : Type 0} (K : FieldOps E) (F : IsField K) (O : MonomialOrder) (name
         sym (front_more h.seen t (each (term_at K O names) left)) ∙ (ap (with_front h.seen) (sym (ap (each (term_at K O names)) split ∙ one)) ∙ h.whole);
   }
 
-  pub stops : (line : List ℕ) (parts left : List (Bool × List ℕ)) (part : Bool × List ℕ) (stack : List (List (Term E))) (e : LineFault) → parts ≡ part ∷ left → IsLineFaultOf (term_at K O names part) e →
+  pub stops : (line : List ℕ) (parts left : List (Bool × List ℕ)) (part : Bool × List ℕ) (stack : List (Polynomial E)) (e : LineFault) → parts ≡ part ∷ left → IsLineFaultOf (term_at K O names part) e →
       IsSummed line parts stack → IsLineFaultOf (terms_of K O names line) e
   unfolding each
   stops line parts left part stack faults.Memory split here h = tt
@@ -69,7 +69,7 @@ module _ {E : Type 0} (K : FieldOps E) (F : IsField K) (O : MonomialOrder) (name
       let one : each (term_at K O names) (part ∷ left) ≡ Err kind = rw here refl in
       sym h.whole ∙ ap (with_front h.seen) (ap (each (term_at K O names)) split ∙ one)
 
-  pub ends : (line : List ℕ) (stack : List (List (Term E))) (p : List (Term E)) → IsKept K O p → Same K p (terms_together stack) → IsSummed line [] stack → IsPolyOf K O names line p
+  pub ends : (line : List ℕ) (stack : List (Polynomial E)) (p : Polynomial E) → IsCanonical K O p → Same K p (terms_together stack) → IsSummed line [] stack → IsPolyOf K O names line p
   unfolding each
   ends line stack p kept sum h = record {
     terms = h.seen;

@@ -14,8 +14,8 @@ use Rattle.std.proofs.lemmas.Slice.Eq.{bytes_eq-Decides}
 use Rattle.std.proofs.lemmas.Str.{IsUtf8-from_ascii}
 use Rattle.std.proofs.lemmas.Str.Parse.{parse_plain, digit_at}
 use Rattle.poly_core.specs.Names.{name_at, is_letter, is_name_byte, has_name_form}
-use Rattle.poly_core.specs.declared.names.Names.{Names}
-use Rattle.poly_core.specs.declared.names.Names.TheVariants.{Numbered, Paired}
+use Rattle.poly_core.specs.declared.place_names.Names.{Names}
+use Rattle.poly_core.specs.declared.place_names.Names.TheVariants.{Numbered, Paired}
 use Rattle.polynomial_text.specs.Canonical.{AreDifferent}
 use Rattle.polynomial_text.specs.PolyLine.{place_of, is_named}
 use Rattle.polynomial_text.proofs.LineDigits.{own, both}

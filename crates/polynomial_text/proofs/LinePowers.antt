@@ -4,10 +4,10 @@ use Rattle.std.specs.Result.{IfOk}
 use Rattle.std.proofs.lemmas.Bool.{leb-true, le-leb, lt-leb}
 use Rattle.std.proofs.lemmas.List.{length-append, length-replicate}
 use Rattle.monomial_order.specs.Monomial.{exponent, product, variable, IsTrimmed, IsMonomial}
-use Rattle.monomial_order.specs.MonomialLaws.{product-one, IsMonomial-product, product_fits}
+use Rattle.monomial_order.specs.laws.Monomial.{product-one, IsMonomial-product, product_fits}
 use Rattle.monomial_order.specs.MonomialOrder.{MonomialOrder, IsMonomialOrder}
-use Rattle.monomial_order.specs.Cofactors.{same_exponents}
-use Rattle.poly_core.specs.ReducedBasisLaws.{degree_one}
+use Rattle.monomial_order.specs.laws.Cofactors.{same_exponents}
+use Rattle.polynomials.specs.laws.ReducedBasis.{degree_one}
 use Rattle.polynomial_text.specs.PolyLine.{power}
 use Rattle.polynomial_text.specs.LineReading.{low, IsSmallMonomial}
 

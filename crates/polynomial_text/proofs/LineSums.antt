@@ -4,43 +4,43 @@ use Rattle.std.specs.Result.{OnOk}
 use Rattle.std.proofs.lemmas.Grind.{flat_map-append}
 use Rattle.std.proofs.lemmas.List.{append-nil}
 use Rattle.word_field.specs.Field.{FieldOps, IsField}
-use Rattle.word_field.specs.FieldLaws.{zero-plus-zero}
-use Rattle.monomial_order.specs.declared.Term.{Term}
+use Rattle.word_field.specs.laws.Field.{zero-plus-zero}
+use Rattle.monomial_order.specs.declared.terms.Term.{Term}
 use Rattle.monomial_order.specs.MonomialOrder.{MonomialOrder}
-use Rattle.poly_core.specs.Poly.{term_of, coefficient, Same, IsKept, same_monomial}
-use Rattle.poly_core.specs.SameLaws.{append_same}
+use Rattle.polynomials.specs.Polynomial.{Polynomial, term_of, coefficient, Same, IsCanonical, same_monomial}
+use Rattle.polynomials.specs.laws.Same.{append_same}
 use Rattle.polynomial_text.specs.LineReading.{AreKept, terms_together}
 
-together_last : {E : Type 0} (ps : List (List (Term E))) (p : List (Term E)) → terms_together (ps ++ p ∷ []) ≡ terms_together ps ++ p
+together_last : {E : Type 0} (ps : List (Polynomial E)) (p : Polynomial E) → terms_together (ps ++ p ∷ []) ≡ terms_together ps ++ p
 together_last ps p = flat_map-append (λ q. q) ps (p ∷ []) ∙ ap (λ q. terms_together ps ++ q) (append-nil p)
 
 module _ {E : Type 0} (K : FieldOps E) (O : MonomialOrder) where
-  kept_before : (ps : List (List (Term E))) (p : List (Term E)) → AreKept K O (ps ++ p ∷ []) → AreKept K O ps
+  kept_before : (ps : List (Polynomial E)) (p : Polynomial E) → AreKept K O (ps ++ p ∷ []) → AreKept K O ps
   kept_before [] p h = tt
   kept_before (q ∷ ps) p h = (h.0, kept_before ps p h.1)
 
-  kept_last : (ps : List (List (Term E))) (p : List (Term E)) → AreKept K O (ps ++ p ∷ []) → IsKept K O p
+  kept_last : (ps : List (Polynomial E)) (p : Polynomial E) → AreKept K O (ps ++ p ∷ []) → IsCanonical K O p
   kept_last [] p h = h.0
   kept_last (q ∷ ps) p h = kept_last ps p h.1
 
-  kept_push : (ps : List (List (Term E))) (p : List (Term E)) → AreKept K O ps → IsKept K O p → AreKept K O (ps ++ p ∷ [])
+  kept_push : (ps : List (Polynomial E)) (p : Polynomial E) → AreKept K O ps → IsCanonical K O p → AreKept K O (ps ++ p ∷ [])
   kept_push [] p h k = (k, tt)
   kept_push (q ∷ ps) p h k = (h.0, kept_push ps p h.1 k)
 
   -- a polynomial is put behind a list that was left as it was
-  pub kept_put : (old same new : List (List (Term E))) (p : List (Term E)) → AreKept K O old → IsKept K O p → same ≡ old → new ≡ same ++ p ∷ [] → AreKept K O new
+  pub kept_put : (old same new : List (Polynomial E)) (p : Polynomial E) → AreKept K O old → IsCanonical K O p → same ≡ old → new ≡ same ++ p ∷ [] → AreKept K O new
   kept_put old same new p h k e put = subst (AreKept K O) (sym (put ∙ ap (λ qs. qs ++ p ∷ []) e)) (kept_push old p h k)
 
   -- the last polynomial was taken
-  pub kept_rest : (old new : List (List (Term E))) (p : List (Term E)) → AreKept K O old → old ≡ new ++ p ∷ [] → AreKept K O new
+  pub kept_rest : (old new : List (Polynomial E)) (p : Polynomial E) → AreKept K O old → old ≡ new ++ p ∷ [] → AreKept K O new
   kept_rest old new p h e = kept_before new p (subst (AreKept K O) e h)
 
-  pub kept_taken : (old new : List (List (Term E))) (p : List (Term E)) → AreKept K O old → old ≡ new ++ p ∷ [] → IsKept K O p
+  pub kept_taken : (old new : List (Polynomial E)) (p : Polynomial E) → AreKept K O old → old ≡ new ++ p ∷ [] → IsCanonical K O p
   kept_taken old new p h e = kept_last new p (subst (AreKept K O) e h)
 
 module _ {E : Type 0} (K : FieldOps E) (F : IsField K) where
   -- the last polynomial and a sum are added up
-  pub summed : (old new : List (List (Term E))) (p sum more whole : List (Term E)) → old ≡ new ++ p ∷ [] → Same K more (p ++ sum) → Same K (terms_together old ++ sum) whole → Same K (terms_together new ++ more) whole
+  pub summed : (old new : List (Polynomial E)) (p sum more whole : Polynomial E) → old ≡ new ++ p ∷ [] → Same K more (p ++ sum) → Same K (terms_together old ++ sum) whole → Same K (terms_together new ++ more) whole
   summed old new p sum more whole split added so_far m =
       append_same K F (terms_together new) (terms_together new) more (p ++ sum) (λ k. refl) added m ∙
       (ap (λ q. coefficient K q m) (sym (append_assoc (terms_together new) p sum)) ∙
@@ -56,14 +56,14 @@ module _ {E : Type 0} (K : FieldOps E) (F : IsField K) where
   unfolding coefficient
   zero_term t h m = sym (no_share (same_monomial t.at m) t.by h)
 
-  term_same : (t : Term E) (p : List (Term E)) → (t.by ≡ K.zero → p ≡ []) → (t.by ≢ K.zero → p ≡ term_of t.at t.by ∷ []) → Same K p (t ∷ [])
+  term_same : (t : Term E) (p : Polynomial E) → (t.by ≡ K.zero → p ≡ []) → (t.by ≢ K.zero → p ≡ term_of t.at t.by ∷ []) → Same K p (t ∷ [])
   term_same t p none some =
       ⊎_elim (λ e. subst (λ q. Same K q (t ∷ [])) (sym (none e)) (zero_term t e)) (λ n. subst (λ q. Same K q (t ∷ [])) (sym (some n)) (λ m. refl)) (F.equal_or_not t.by K.zero)
 
-  term_added : (old new : List (List (Term E))) (t : Term E) (p : List (Term E)) → Same K p (t ∷ []) → Same K (terms_together new) (terms_together old ++ p) → Same K (terms_together new) (terms_together old ++ t ∷ [])
+  term_added : (old new : List (Polynomial E)) (t : Term E) (p : Polynomial E) → Same K p (t ∷ []) → Same K (terms_together new) (terms_together old ++ p) → Same K (terms_together new) (terms_together old ++ t ∷ [])
   term_added old new t p is added m = added m ∙ append_same K F (terms_together old) (terms_together old) p (t ∷ []) (λ k. refl) is m
 
-  pub term_pushed : {M : Type 0} (r : Result (Unit {0}) M) (old new : List (List (Term E))) (t : Term E) (p : List (Term E)) → (t.by ≡ K.zero → p ≡ []) → (t.by ≢ K.zero → p ≡ term_of t.at t.by ∷ []) →
+  pub term_pushed : {M : Type 0} (r : Result (Unit {0}) M) (old new : List (Polynomial E)) (t : Term E) (p : Polynomial E) → (t.by ≡ K.zero → p ≡ []) → (t.by ≢ K.zero → p ≡ term_of t.at t.by ∷ []) →
       OnOk r (Same K (terms_together new) (terms_together old ++ p)) → OnOk r (Same K (terms_together new) (terms_together old ++ t ∷ []))
   term_pushed (Ok u) old new t p none some added = term_added old new t p (term_same t p none some) added
   term_pushed (Err e) old new t p none some added = tt

@@ -1,11 +1,11 @@
 -- The term that the loop over the factors begins with.
 use Rattle.std.proofs.Common.{◌≡◌, ℕ, Bool, true, false, cond, List, [], ap, ◌∙◌, arith}
 use Rattle.word_field.specs.Field.{FieldOps, IsField, IsValue}
-use Rattle.monomial_order.specs.declared.Term.{Term}
+use Rattle.monomial_order.specs.declared.terms.Term.{Term}
 use Rattle.monomial_order.specs.MonomialOrder.{MonomialOrder, IsMonomialOrder}
-use Rattle.poly_core.specs.Poly.{term_of}
-use Rattle.poly_core.specs.ReducedBasisLaws.{degree_one}
-use Rattle.poly_core.specs.declared.names.Names.{Names}
+use Rattle.polynomials.specs.Polynomial.{term_of}
+use Rattle.polynomials.specs.laws.ReducedBasis.{degree_one}
+use Rattle.poly_core.specs.declared.place_names.Names.{Names}
 use Rattle.polynomial_text.specs.Results.{along}
 use Rattle.polynomial_text.specs.PolyLine.{with_factor, term_at}
 use Rattle.polynomial_text.specs.LineReading.{IsSmallTerm, factor_parts}

@@ -1,12 +1,12 @@
 -- Lines with canonical polynomials, and the fault of a line.
 use Rattle.std.specs.Prelude.{◌≡◌, ◌<◌, ◌≤◌, ℕ, List, true, Option, Some, None, IsSome, IfSome, Result, Err}
 use Rattle.word_field.specs.Field.{FieldOps}
-use Rattle.monomial_order.specs.declared.Term.{Term}
+use Rattle.monomial_order.specs.declared.terms.Term.{Term}
 use Rattle.monomial_order.specs.MonomialOrder.{MonomialOrder}
-use Rattle.poly_core.specs.Poly.{IsKept, AllAt}
+use Rattle.polynomials.specs.Polynomial.{Polynomial, IsCanonical, AllAt}
 use Rattle.poly_core.specs.Names.{name_at, has_name_form}
 use Rattle.poly_core.specs.Text.{poly_text, AreNamed}
-use Rattle.poly_core.specs.declared.names.Names.{Names}
+use Rattle.poly_core.specs.declared.place_names.Names.{Names}
 use Rattle.polynomial_text.specs.declared.line_fault.LineFault.{LineFault}
 use Rattle.polynomial_text.specs.declared.line_fault.LineFault.TheVariants as line_faults
 use Rattle.polynomial_text.specs.declared.text_kind.TextKind.{TextKind}
@@ -23,13 +23,13 @@ pub record AreDifferent (n : ℕ) (names : Names) : Type 0 where
 
 -- the line is the canonical text of the polynomial, which falls in the order, has a name for each place, and has no
 -- term of a degree above 30000
-pub record IsCanonical {E : Type 0} (K : FieldOps E) (O : MonomialOrder) (names : Names) (line : List ℕ) (p : List (Term E)) : Type 0 where
-  pub kept : IsKept K O p
+pub record IsCanonical {E : Type 0} (K : FieldOps E) (O : MonomialOrder) (names : Names) (line : List ℕ) (p : Polynomial E) : Type 0 where
+  pub kept : IsCanonical K O p
   pub named : AreNamed names p
   pub small : AllAt (λ m. O.degree m ≤ 30000) p
   pub text : line ≡ poly_text K names p
 
 -- the polynomial whose canonical text the line is, or None where it is the text of none
-abbrev pub IsCanonicalReading : {E : Type 0} → FieldOps E → MonomialOrder → Names → List ℕ → Option (List (Term E)) → Type 0
+abbrev pub IsCanonicalReading : {E : Type 0} → FieldOps E → MonomialOrder → Names → List ℕ → Option (Polynomial E) → Type 0
 IsCanonicalReading K O names line (Some p) = IsCanonical K O names line p
-IsCanonicalReading {E} K O names line None = (p : List (Term E)) → IsCanonical K O names line p → ⊥
+IsCanonicalReading {E} K O names line None = (p : Polynomial E) → IsCanonical K O names line p → ⊥

@@ -5,12 +5,12 @@ use Rattle.std.specs.Fmt.{decimal}
 use Rattle.std.proofs.lemmas.Bool.{and_parts, and_from, cases_eq, false_from_ne_true}
 use Rattle.std.proofs.lemmas.Slice.Eq.{bytes_eq-Decides}
 use Rattle.word_field.specs.Field.{FieldOps}
-use Rattle.monomial_order.specs.declared.Term.{Term}
+use Rattle.monomial_order.specs.declared.terms.Term.{Term}
 use Rattle.monomial_order.specs.Monomial.{product}
 use Rattle.monomial_order.specs.MonomialOrder.{MonomialOrder}
-use Rattle.poly_core.specs.declared.names.Names.{Names}
+use Rattle.poly_core.specs.declared.place_names.Names.{Names}
 use Rattle.poly_core.specs.Names.{name_at, is_letter, is_name_byte, has_name_form}
-use Rattle.poly_core.specs.Poly.{term_of, term_times}
+use Rattle.polynomials.specs.Polynomial.{term_of, term_times}
 use Rattle.poly_core.specs.Text.{factor_text}
 use Rattle.polynomial_text.specs.Blanks.{is_blank}
 use Rattle.polynomial_text.specs.Digits.{is_digit}

@@ -4,12 +4,12 @@ use Rattle.std.specs.List.{list_all, AllByRecursion}
 use Rattle.std.specs.Fmt.{decimal}
 use Rattle.std.proofs.lemmas.Fmt.{decimal_digit}
 use Rattle.word_field.specs.Field.{FieldOps, IsField}
-use Rattle.word_field.specs.FieldLaws.{zero-plus-zero}
-use Rattle.monomial_order.specs.declared.Term.{Term}
+use Rattle.word_field.specs.laws.Field.{zero-plus-zero}
+use Rattle.monomial_order.specs.declared.terms.Term.{Term}
 use Rattle.monomial_order.specs.MonomialOrder.{MonomialOrder, IsMonomialOrder}
-use Rattle.poly_core.specs.declared.names.Names.{Names}
+use Rattle.poly_core.specs.declared.place_names.Names.{Names}
 use Rattle.poly_core.specs.Names.{is_name_byte}
-use Rattle.poly_core.specs.Poly.{same_monomial, coefficient, term_of, Same, Falls, IsKept, AllAt}
+use Rattle.polynomials.specs.Polynomial.{Polynomial, same_monomial, coefficient, term_of, Same, IsDecreasing, IsCanonical, AllAt}
 use Rattle.poly_core.specs.Text.{join, term_text, poly_text, AreNamed}
 use Rattle.polynomial_text.specs.Results.{each}
 use Rattle.polynomial_text.specs.Blanks.{is_blank, is_skipped}
@@ -49,24 +49,24 @@ behind_spaced x (y ∷ (z ∷ zs)) h = rw (not_blank x (32 ∷ []) h) refl
 
 module _ {E : Type 0} (K : FieldOps E) (O : MonomialOrder) (names : Names) where
   -- each term has a text that is read as the term
-  abbrev AreTexts : List (Term E) → Type 0
+  abbrev AreTexts : Polynomial E → Type 0
   AreTexts [] = Unit {0}
   AreTexts (t ∷ p) = IsTextOfTerm K O names (term_text K names t) t × AreTexts p
 
-  each_read : (lead : List ℕ) (t : Term E) (p : List (Term E)) → list_all is_blank lead ≡ true → AreTexts (t ∷ p) → each (term_at K O names) (spaced lead (term_text K names t) (map (term_text K names) p)) ≡ Ok (t ∷ p)
+  each_read : (lead : List ℕ) (t : Term E) (p : Polynomial E) → list_all is_blank lead ≡ true → AreTexts (t ∷ p) → each (term_at K O names) (spaced lead (term_text K names t) (map (term_text K names) p)) ≡ Ok (t ∷ p)
   unfolding each
   each_read lead t [] l h = rw (h.0.read lead [] l refl) refl
   each_read lead t (u ∷ p) l h = rw (h.0.read lead (32 ∷ []) l refl, each_read (32 ∷ []) u p refl h.1) refl
 
-  texts_lack : (p : List (Term E)) → AreTexts p → AllByRecursion (Lack is_sign) (map (term_text K names) p)
+  texts_lack : (p : Polynomial E) → AreTexts p → AllByRecursion (Lack is_sign) (map (term_text K names) p)
   texts_lack [] h = tt
   texts_lack (t ∷ p) h = (lack_from is_term_byte is_sign term_no_sign (term_text K names t) h.0.bytes, texts_lack p h.1)
 
-  texts_bytes : (p : List (Term E)) → AreTexts p → AllByRecursion (λ x. list_all is_term_byte x ≡ true) (map (term_text K names) p)
+  texts_bytes : (p : Polynomial E) → AreTexts p → AllByRecursion (λ x. list_all is_term_byte x ≡ true) (map (term_text K names) p)
   texts_bytes [] h = tt
   texts_bytes (t ∷ p) h = (h.0.bytes, texts_bytes p h.1)
 
-  written : (t : Term E) (p : List (Term E)) → AreTexts (t ∷ p) → terms_of K O names (poly_text K names (t ∷ p)) ≡ Ok (t ∷ p)
+  written : (t : Term E) (p : Polynomial E) → AreTexts (t ∷ p) → terms_of K O names (poly_text K names (t ∷ p)) ≡ Ok (t ∷ p)
   unfolding terms_of
   written t p h =
       let parted = parts_joined [] (term_text K names t) (map (term_text K names) p) tt (texts_lack (t ∷ p) h) in
@@ -75,7 +75,7 @@ module _ {E : Type 0} (K : FieldOps E) (O : MonomialOrder) (names : Names) where
       ∙ each_read [] t p refl h
 
 module _ {E : Type 0} (K : FieldOps E) (F : IsField K) (few : K.size ≤ 2 ^ 32) (O : MonomialOrder) (L : IsMonomialOrder O) (names : Names) (D : AreDifferent O.places names) where
-  texts : (p : List (Term E)) → Falls K O p → AreNamed names p → AllAt (λ m. O.degree m ≤ 30000) p → AreTexts K O names p
+  texts : (p : Polynomial E) → IsDecreasing K O p → AreNamed names p → AllAt (λ m. O.degree m ≤ 30000) p → AreTexts K O names p
   texts [] falls named small = tt
   texts (t ∷ p) falls named small =
       (text_of_term K F few O L names D t (record { term = falls.0.term; named = named.0; small = small.0 }), texts p falls.1 named.1 small.1)
@@ -100,19 +100,19 @@ module _ {E : Type 0} (K : FieldOps E) (F : IsField K) (few : K.size ≤ 2 ^ 32)
       by_test false = sym (zero-plus-zero K F)
 
   -- it is read as terms whose sum is the polynomial
-  pub canonical_terms : (p : List (Term E)) → IsKept K O p → AreNamed names p → AllAt (λ m. O.degree m ≤ 30000) p →
-      (ts : List (Term E)) × (terms_of K O names (poly_text K names p) ≡ Ok ts) × Same K p ts
+  pub canonical_terms : (p : Polynomial E) → IsCanonical K O p → AreNamed names p → AllAt (λ m. O.degree m ≤ 30000) p →
+      (ts : Polynomial E) × (terms_of K O names (poly_text K names p) ≡ Ok ts) × Same K p ts
   canonical_terms [] kept named small = (term_of [] K.zero ∷ [], ap (terms_of K O names) (sym zero_is) ∙ written K O names (term_of [] K.zero) [] (zero_text, tt), zero_same)
-  canonical_terms (t ∷ p) kept named small = (t ∷ p, written K O names t p (texts (t ∷ p) kept.falls named small), λ m. refl)
+  canonical_terms (t ∷ p) kept named small = (t ∷ p, written K O names t p (texts (t ∷ p) kept.decreasing named small), λ m. refl)
 
   -- it has no line feed
-  pub canonical_line : (p : List (Term E)) → IsKept K O p → AreNamed names p → AllAt (λ m. O.degree m ≤ 30000) p →
+  pub canonical_line : (p : Polynomial E) → IsCanonical K O p → AreNamed names p → AllAt (λ m. O.degree m ≤ 30000) p →
       list_all (λ b. not (b == 10)) (poly_text K names p) ≡ true
   canonical_line [] kept named small = refl
-  canonical_line (t ∷ p) kept named small = join_bytes (map (term_text K names) (t ∷ p)) (texts_bytes K O names (t ∷ p) (texts (t ∷ p) kept.falls named small))
+  canonical_line (t ∷ p) kept named small = join_bytes (map (term_text K names) (t ∷ p)) (texts_bytes K O names (t ∷ p) (texts (t ∷ p) kept.decreasing named small))
 
   -- it is due
-  pub canonical_due : (p : List (Term E)) → IsKept K O p → AreNamed names p → AllAt (λ m. O.degree m ≤ 30000) p →
+  pub canonical_due : (p : Polynomial E) → IsCanonical K O p → AreNamed names p → AllAt (λ m. O.degree m ≤ 30000) p →
       is_skipped (poly_text K names p) ≡ false
   canonical_due [] kept named small = due (codes "0") refl
-  canonical_due (t ∷ p) kept named small = due (poly_text K names (t ∷ p)) (begins_join (term_text K names t) (map (term_text K names) p) (texts (t ∷ p) kept.falls named small).0.begins)
+  canonical_due (t ∷ p) kept named small = due (poly_text K names (t ∷ p)) (begins_join (term_text K names t) (map (term_text K names) p) (texts (t ∷ p) kept.decreasing named small).0.begins)

@@ -4,15 +4,15 @@ use Rattle.std.specs.List.{list_all, slice_split, join_with_byte, AllByRecursion
 use Rattle.std.specs.Fmt.{decimal}
 use Rattle.std.proofs.lemmas.Bool.{eqb-true, cases_lt}
 use Rattle.word_field.specs.Field.{FieldOps, IsField, IsValue}
-use Rattle.word_field.specs.FieldLaws.{one-times}
-use Rattle.monomial_order.specs.declared.Term.{Term}
+use Rattle.word_field.specs.laws.Field.{one-times}
+use Rattle.monomial_order.specs.declared.terms.Term.{Term}
 use Rattle.monomial_order.specs.Monomial.{product, exponent, IsTrimmed}
-use Rattle.monomial_order.specs.MonomialLaws.{product_assoc, product-one, exponent_past}
+use Rattle.monomial_order.specs.laws.Monomial.{product_assoc, product-one, exponent_past}
 use Rattle.monomial_order.specs.MonomialOrder.{MonomialOrder, IsMonomialOrder}
-use Rattle.poly_core.specs.declared.names.Names.{Names}
+use Rattle.poly_core.specs.declared.place_names.Names.{Names}
 use Rattle.poly_core.specs.Names.{name_at, name_of, is_name_byte, has_name_form, IsNamed}
-use Rattle.poly_core.specs.Poly.{term_of, term_times, IsTerm}
-use Rattle.poly_core.specs.Text.{factors, monomial_text, term_text}
+use Rattle.polynomials.specs.Polynomial.{Polynomial, term_of, term_times, IsTerm}
+use Rattle.poly_core.specs.Text.{factors, factors_text, term_text}
 use Rattle.polynomial_text.specs.Results.{along}
 use Rattle.polynomial_text.specs.Blanks.{is_blank}
 use Rattle.polynomial_text.specs.PolyLine.{power, place_of, with_factor, term_at}
@@ -48,12 +48,12 @@ trimmed_rest e (f ∷ m) h = h
 
 module _ {E : Type 0} (K : FieldOps E) where
   -- the powers from a place on
-  abbrev pub powers : ℕ → List ℕ → List (Term E)
+  abbrev pub powers : ℕ → List ℕ → Polynomial E
   powers i [] = []
   powers i (zero ∷ m) = powers (suc i) m
   powers i (suc e ∷ m) = term_of (power i (suc e)) K.one ∷ powers (suc i) m
 
-  abbrev pub product_of : Term E → List (Term E) → Term E
+  abbrev pub product_of : Term E → Polynomial E → Term E
   product_of t [] = t
   product_of t (f ∷ fs) = product_of (term_times K t f) fs
 
@@ -68,7 +68,7 @@ module _ {E : Type 0} (K : FieldOps E) where
 
 module _ {E : Type 0} (K : FieldOps E) (O : MonomialOrder) (L : IsMonomialOrder O) where
   -- a product has no smaller degree than its first factor
-  pub degree_grows : (t : Term E) (fs : List (Term E)) → O.degree t.at ≤ O.degree (product_of K t fs).at
+  pub degree_grows : (t : Term E) (fs : Polynomial E) → O.degree t.at ≤ O.degree (product_of K t fs).at
   degree_grows t [] = omega arith
   degree_grows t (f ∷ fs) = omega (arith, L.degree_product t.at f.at, degree_grows (term_times K t f) fs)
 
@@ -79,13 +79,13 @@ module _ {E : Type 0} (K : FieldOps E) (O : MonomialOrder) (L : IsMonomialOrder 
 
 module _ {E : Type 0} (K : FieldOps E) (O : MonomialOrder) (names : Names) where
   -- each text is read as its factor
-  abbrev pub ArePieces : List (List ℕ) → List (Term E) → Type 0
+  abbrev pub ArePieces : List (List ℕ) → Polynomial E → Type 0
   ArePieces [] [] = Unit {0}
   ArePieces [] (f ∷ fs) = ⊥
   ArePieces (x ∷ xs) [] = ⊥
   ArePieces (x ∷ xs) (f ∷ fs) = IsPieceOf K O names x f × ArePieces xs fs
 
-  pub along_pieces : (L : IsMonomialOrder O) (t : Term E) (lead back x : List ℕ) (xs : List (List ℕ)) (f : Term E) (fs : List (Term E)) → list_all is_blank lead ≡ true → list_all is_blank back ≡ true →
+  pub along_pieces : (L : IsMonomialOrder O) (t : Term E) (lead back x : List ℕ) (xs : List (List ℕ)) (f : Term E) (fs : Polynomial E) → list_all is_blank lead ≡ true → list_all is_blank back ≡ true →
       ArePieces (x ∷ xs) (f ∷ fs) → O.degree (product_of K t (f ∷ fs)).at ≤ 30000 → along (with_factor K O names) t (between lead back x xs) ≡ Ok (product_of K t (f ∷ fs))
   unfolding along
   along_pieces L t lead back x [] f [] l b h small = rw (with_piece K O names t f lead x back h.0 small l b) refl
@@ -96,19 +96,19 @@ module _ {E : Type 0} (K : FieldOps E) (O : MonomialOrder) (names : Names) where
       let here = ap (λ w. with_factor K O names t (lead ++ w)) (sym (append-nil x)) ∙ with_piece K O names t f lead x [] h.0 low l refl in
       rw here (along_pieces L (term_times K t f) [] back y ys g fs refl b h.1 small)
 
-  pieces_lack : (xs : List (List ℕ)) (fs : List (Term E)) → ArePieces xs fs → AllByRecursion (Lack is_star) xs
+  pieces_lack : (xs : List (List ℕ)) (fs : Polynomial E) → ArePieces xs fs → AllByRecursion (Lack is_star) xs
   pieces_lack [] fs h = tt
   pieces_lack (x ∷ xs) [] h = absurd h
   pieces_lack (x ∷ xs) (f ∷ fs) h = (lack_from is_piece_byte is_star piece_no_star x h.0.bytes, pieces_lack xs fs h.1)
 
-  pub pieces_bytes : (xs : List (List ℕ)) (fs : List (Term E)) → ArePieces xs fs → list_all is_term_byte (join_with_byte 42 xs) ≡ true
+  pub pieces_bytes : (xs : List (List ℕ)) (fs : Polynomial E) → ArePieces xs fs → list_all is_term_byte (join_with_byte 42 xs) ≡ true
   pieces_bytes [] fs h = refl
   pieces_bytes (x ∷ xs) [] h = absurd h
   pieces_bytes (x ∷ []) (f ∷ fs) h = all_weaker is_piece_byte is_term_byte piece_in_term x h.0.bytes
   pieces_bytes (x ∷ (y ∷ ys)) (f ∷ fs) h =
       all_append is_term_byte x (42 ∷ join_with_byte 42 (y ∷ ys)) (all_weaker is_piece_byte is_term_byte piece_in_term x h.0.bytes) (pieces_bytes (y ∷ ys) fs h.1)
 
-  pieces_begin : (x : List ℕ) (xs : List (List ℕ)) (f : Term E) (fs : List (Term E)) → ArePieces (x ∷ xs) (f ∷ fs) → Begins is_name_byte (join_with_byte 42 (x ∷ xs))
+  pieces_begin : (x : List ℕ) (xs : List (List ℕ)) (f : Term E) (fs : Polynomial E) → ArePieces (x ∷ xs) (f ∷ fs) → Begins is_name_byte (join_with_byte 42 (x ∷ xs))
   pieces_begin x [] f fs h = h.0.begins
   pieces_begin x (y ∷ ys) f fs h = begins_append is_name_byte x (42 ∷ join_with_byte 42 (y ∷ ys)) h.0.begins
 
@@ -118,7 +118,7 @@ module _ {E : Type 0} (K : FieldOps E) (O : MonomialOrder) (names : Names) where
     pub bytes : list_all is_term_byte text ≡ true
     pub read : (lead back : List ℕ) → list_all is_blank lead ≡ true → list_all is_blank back ≡ true → term_at K O names (false, lead ++ (text ++ back)) ≡ Ok t
 
-  pub joined_pieces : (L : IsMonomialOrder O) (x : List ℕ) (xs : List (List ℕ)) (f : Term E) (fs : List (Term E)) → ArePieces (x ∷ xs) (f ∷ fs) → O.degree (product_of K (term_of [] K.one) (f ∷ fs)).at ≤ 30000 →
+  pub joined_pieces : (L : IsMonomialOrder O) (x : List ℕ) (xs : List (List ℕ)) (f : Term E) (fs : Polynomial E) → ArePieces (x ∷ xs) (f ∷ fs) → O.degree (product_of K (term_of [] K.one) (f ∷ fs)).at ≤ 30000 →
       IsTextOfTerm (join_with_byte 42 (x ∷ xs)) (product_of K (term_of [] K.one) (f ∷ fs))
   unfolding term_at
   joined_pieces L x xs f fs h small = record {
@@ -150,7 +150,7 @@ module _ {E : Type 0} (K : FieldOps E) (O : MonomialOrder) (names : Names) (D : 
       (power_piece K O names i (suc e) (name_of names i) form place (let s : suc e ≤ 30000 = small 0 in omega arith), factor_pieces (suc i) m (λ j ne. subst (λ k. IsSome (name_at names k)) (omega arith) (named (suc j) ne)) (λ j. small (suc j)) (omega arith))
 
 module _ {E : Type 0} (K : FieldOps E) (O : MonomialOrder) (L : IsMonomialOrder O) (names : Names) where
-  some_pieces : (xs : List (List ℕ)) (fs : List (Term E)) → 1 ≤ length xs → ArePieces K O names xs fs → O.degree (product_of K (term_of [] K.one) fs).at ≤ 30000 →
+  some_pieces : (xs : List (List ℕ)) (fs : Polynomial E) → 1 ≤ length xs → ArePieces K O names xs fs → O.degree (product_of K (term_of [] K.one) fs).at ≤ 30000 →
       IsTextOfTerm K O names (join_with_byte 42 xs) (product_of K (term_of [] K.one) fs)
   some_pieces [] fs some h small = absurd (omega arith)
   some_pieces (x ∷ xs) [] some h small = absurd h
@@ -193,11 +193,11 @@ module _ {E : Type 0} (K : FieldOps E) (F : IsField K) (few : K.size ≤ 2 ^ 32)
       subst (IsTextOfTerm K O names (decimal (K.word c))) is
       (some_pieces K O L names (decimal (K.word c) ∷ []) (term_of [] (K.of_word (K.word c)) ∷ []) (omega arith) (piece, tt) h.small)
   text_of (e ∷ m) c h =
-      elim (eqb (K.word c) 1) as (λ t. eqb (K.word c) 1 ≡ t → IsTextOfTerm K O names (cond t (monomial_text names (e ∷ m)) (decimal (K.word c) ++ (42 ∷ monomial_text names (e ∷ m)))) (term_of (e ∷ m) c)) [
+      elim (eqb (K.word c) 1) as (λ t. eqb (K.word c) 1 ≡ t → IsTextOfTerm K O names (cond t (factors_text names (e ∷ m)) (decimal (K.word c) ++ (42 ∷ factors_text names (e ∷ m)))) (term_of (e ∷ m) c)) [
         | true ↦ λ t.
             let one : c ≡ K.one = sym (F.of_word_word c h.term.value) ∙ (ap K.of_word (eqb-true (K.word c) 1 t ∙ sym F.word_one) ∙ F.of_word_word K.one F.one_value) in
             let is : product_of K (term_of [] K.one) (powers K 0 (e ∷ m)) ≡ term_of (e ∷ m) c = product_powers K F [] K.one 0 (e ∷ m) F.one_value h.term.monomial.trimmed ∙ ap (term_of (e ∷ m)) (sym one) in
-            subst (IsTextOfTerm K O names (monomial_text names (e ∷ m))) is
+            subst (IsTextOfTerm K O names (factors_text names (e ∷ m))) is
             (some_pieces K O L names (factors names 0 (e ∷ m)) (powers K 0 (e ∷ m)) (factors_some names 0 e m h.term.monomial.trimmed) (all_factors (e ∷ m) c h) (low is))
         | false ↦ λ t.
             let piece = number_piece K O names (K.word c) (word_written c h.term.value) in

@@ -2,10 +2,10 @@
 use Rattle.std.specs.Prelude.{◌≡◌, ◌≤◌, ◌<◌, ℕ, List, [], ◌∷◌, Bool, ◌==◌, ◌||◌, Option, Some, None, Result, Ok, Err, nat_le, if◌then◌else◌}
 use Rattle.std.specs.List.{slice_split, flat_map}
 use Rattle.word_field.specs.Field.{FieldOps, IsValue}
-use Rattle.monomial_order.specs.declared.Term.{Term}
+use Rattle.monomial_order.specs.declared.terms.Term.{Term}
 use Rattle.monomial_order.specs.Monomial.{IsMonomial}
 use Rattle.monomial_order.specs.MonomialOrder.{MonomialOrder}
-use Rattle.poly_core.specs.Poly.{term_of, IsKept}
+use Rattle.polynomials.specs.Polynomial.{Polynomial, term_of, IsCanonical}
 use Rattle.polynomial_text.specs.declared.text_kind.TextKind.{TextKind}
 use Rattle.polynomial_text.specs.declared.text_kind.TextKind.TheVariants.{DegreeTooLarge}
 use Rattle.polynomial_text.specs.declared.line_fault.LineFault.{LineFault}
@@ -69,10 +69,10 @@ module _ {E : Type 0} (K : FieldOps E) (O : MonomialOrder) where
     pub value : IsValue K t.by
 
   -- polynomials that are kept one by one
-  abbrev pub AreKept : List (List (Term E)) → Type 0
+  abbrev pub AreKept : List (Polynomial E) → Type 0
   AreKept [] = Unit {0}
-  AreKept (p ∷ ps) = IsKept K O p × AreKept ps
+  AreKept (p ∷ ps) = IsCanonical K O p × AreKept ps
 
 -- all terms of polynomials
-abbrev pub terms_together : {E : Type 0} → List (List (Term E)) → List (Term E)
+abbrev pub terms_together : {E : Type 0} → List (Polynomial E) → Polynomial E
 terms_together ps = flat_map (λ p. p) ps

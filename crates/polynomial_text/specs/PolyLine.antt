@@ -5,10 +5,10 @@ use Rattle.std.specs.List.{list_all, slice_split}
 use Rattle.std.specs.Str.{bytes_eq}
 use Rattle.std.specs.Str.Parse.{digits_value}
 use Rattle.word_field.specs.Field.{FieldOps}
-use Rattle.monomial_order.specs.declared.Term.{Term}
+use Rattle.monomial_order.specs.declared.terms.Term.{Term}
 use Rattle.monomial_order.specs.MonomialOrder.{MonomialOrder}
-use Rattle.poly_core.specs.Poly.{term_of, term_times, Same, IsKept}
-use Rattle.poly_core.specs.declared.names.Names.{Names}
+use Rattle.polynomials.specs.Polynomial.{Polynomial, term_of, term_times, Same, IsCanonical}
+use Rattle.poly_core.specs.declared.place_names.Names.{Names}
 use Rattle.poly_core.specs.Names.{name_at, is_letter, is_name_byte}
 use Rattle.polynomial_text.specs.declared.text_kind.TextKind.{TextKind}
 use Rattle.polynomial_text.specs.declared.text_kind.TextKind.TheVariants.{PolySyntax, UnknownName, NumberTooLong, DegreeTooLarge}
@@ -103,12 +103,12 @@ module _ {E : Type 0} (K : FieldOps E) (O : MonomialOrder) (names : Names) where
   term_at part = along with_factor (term_of [] (sign part.0)) (slice_split (λ b. b == 42) part.1)
 
   -- the terms of a line as they stand in it
-  unfoldable pub terms_of : List ℕ → Result (List (Term E)) TextKind
+  unfoldable pub terms_of : List ℕ → Result (Polynomial E) TextKind
   terms_of line = each term_at (behind_sign (signed_parts false line))
 
   -- p is the polynomial of a line: it is kept in the order, and is the sum of the terms
-  pub record IsPolyOf (line : List ℕ) (p : List (Term E)) : Type 0 where
-    pub terms : List (Term E)
+  pub record IsPolyOf (line : List ℕ) (p : Polynomial E) : Type 0 where
+    pub terms : Polynomial E
     pub read : terms_of line ≡ Ok terms
     pub sum : Same K p terms
-    pub kept : IsKept K O p
+    pub kept : IsCanonical K O p

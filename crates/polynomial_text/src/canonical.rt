@@ -1,14 +1,14 @@
 //! Reading canonical polynomials alone.
 ghost use Rattle.std.specs.Prelude.{◌≡◌, ◌≤◌, ◌^◌, IfOk, List};
-ghost use Rattle.monomial_order.specs.declared.Term.{Term};
-ghost use Rattle.poly_core.specs.Presentation.{order_of};
+ghost use Rattle.monomial_order.specs.declared.terms.Term.{Term};
+ghost use Rattle.poly_core.specs.Presentation.{weight_order_of};
 ghost use Rattle.polynomial_text.specs.Canonical.{AreDifferent, IsCanonicalReading};
 
 use crate::line_fault::LineFault;
 use crate::poly_line::read_poly;
 use monomial_order::{Memory, Order};
-use poly_core::names::Names;
-use poly_core::poly::Poly;
+use poly_core::Names;
+use poly_core::Poly;
 use std::alloc::Global;
 use word_field::Field;
 
@@ -48,7 +48,7 @@ pub fn read_canonical<F: Field, O: Order>(
 mod tests {
     use super::*;
     use monomial_order::{Tie, WeightOrder};
-    use poly_core::names::NameTable;
+    use poly_core::NameTable;
     use std::process::Abort;
     use std::test::Fail;
     use word_field::WordField;
@@ -57,8 +57,8 @@ mod tests {
     type Small = (u32, u16, u16);
 
     fn x_and_y(alloc: Global, o: &WeightOrder) -> Result<Names, Memory>
-        requires { (order_of o.now).places ≡ 2 }
-        ensures { IfOk result (AreDifferent (order_of o.now).places) }
+        requires { (weight_order_of o.now).places ≡ 2 }
+        ensures { IfOk result (AreDifferent (weight_order_of o.now).places) }
     {
         let mut table = NameTable::new(alloc);
         if !table.push("x")? || !table.push("y")? {
@@ -68,7 +68,7 @@ mod tests {
     }
 
     fn lex_in_degree(alloc: Global) -> Result<WeightOrder, Fail>
-        ensures { IfOk result (λ o. (order_of o).places ≡ 2) }
+        ensures { IfOk result (λ o. (weight_order_of o).places ≡ 2) }
     {
         Ok(WeightOrder::new(alloc, &[1, 1], &[], Tie::Lex)?)
     }
@@ -91,7 +91,7 @@ mod tests {
         line: &str,
         want: Option<&[Small]>,
     ) -> Result<(), Fail>
-        requires { AreDifferent (order_of o.now).places names.now }
+        requires { AreDifferent (weight_order_of o.now).places names.now }
     {
         let f = WordField::new(101).ok_or("a listed size")?;
         let found = read_canonical(alloc, &f, o, names, line.as_bytes())?;

@@ -11,7 +11,7 @@ use crate::line_number::{exponent_at, number_at};
 use crate::named_place::place;
 use crate::text_kind::TextKind;
 use monomial_order::Order;
-use poly_core::names::Names;
+use poly_core::Names;
 use word_field::Field;
 
 /// An element of the field times a power of the variable at a place.

@@ -1,11 +1,11 @@
 //! The place of a name.
 ghost use Rattle.std.specs.Prelude.{◌≡◌, ◌≢◌, ◌<◌, ◌≤◌, ◌+◌, ◌-◌, ◌^◌, ◌↔◌, ℕ, ◌∷◌, length, slice_index, IsTrue, IfSome, IsNone};
 ghost use Rattle.std.specs.Fmt.{decimal};
-ghost use Rattle.poly_core.specs.declared.names.Names.TheVariants as ways;
+ghost use Rattle.poly_core.specs.declared.place_names.Names.TheVariants as ways;
 ghost use Rattle.polynomial_text.specs.Canonical.{AreDifferent};
 ghost use Rattle.polynomial_text.specs.PolyLine.{place_of};
 
-use poly_core::names::{NameTable, Names};
+use poly_core::{NameTable, Names};
 
 /// Whether there is neither a sign nor a zero that leads other digits.
 fn is_plain(digits: &[u8]) -> bool

@@ -8,8 +8,8 @@ use crate::line_parts::{first_text, signed_part};
 use crate::term_line::term_at;
 use crate::term_sum::{push_term, total};
 use monomial_order::Order;
-use poly_core::names::Names;
-use poly_core::poly::Poly;
+use poly_core::Names;
+use poly_core::Poly;
 use std::alloc::Global;
 use word_field::Field;
 

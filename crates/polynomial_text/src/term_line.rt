@@ -2,7 +2,7 @@
 ghost use Rattle.std.specs.Prelude.{◌≡◌, ◌≤◌, ◌<◌, ◌+◌, ◌*◌, ◌&&◌, ℕ, [], nat_le, if◌then◌else◌, IfOk};
 ghost use Rattle.word_field.specs.Field.{IsValue};
 ghost use Rattle.monomial_order.specs.Monomial.{IsMonomial, product};
-ghost use Rattle.poly_core.specs.Poly.{term_times};
+ghost use Rattle.polynomials.specs.Polynomial.{term_times};
 ghost use Rattle.polynomial_text.specs.Canonical.{AreDifferent};
 ghost use Rattle.polynomial_text.specs.PolyLine.{power, with_factor, term_at};
 ghost use Rattle.polynomial_text.specs.LineReading.{Gives, factor_term, bounded, low, IsFactor, IsSmallMonomial, IsSmallTerm};
@@ -13,7 +13,7 @@ use crate::line_fault::LineFault;
 use crate::line_parts::{SignedText, factor_part};
 use crate::text_kind::TextKind;
 use monomial_order::{Memory, Monomial, Order, Term};
-use poly_core::names::Names;
+use poly_core::Names;
 use std::alloc::Global;
 use word_field::Field;
 

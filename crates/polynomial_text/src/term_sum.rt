@@ -1,10 +1,10 @@
 //! Sums of many terms.
 ghost use Rattle.std.specs.Prelude.{◌≡◌, ◌++◌, ◌∷◌, ◌≤◌, [], length, IfOk, OnOk, IsNone, IfSome};
-ghost use Rattle.poly_core.specs.Poly.{IsKept, Same};
+ghost use Rattle.polynomials.specs.Polynomial.{IsCanonical, Same};
 ghost use Rattle.polynomial_text.specs.LineReading.{AreKept, IsSmallTerm, terms_together};
 
 use monomial_order::{Memory, Order, Term};
-use poly_core::poly::Poly;
+use poly_core::Poly;
 use std::alloc::Global;
 use word_field::Field;
 
@@ -29,7 +29,7 @@ fn push_poly<F: Field, O: Order>(
     p: Poly<F>,
 ) -> Result<(), Memory>
     requires stack { AreKept (F.ops f.now) (O.order o.now) stack.old.items }
-    requires p { IsKept (F.ops f.now) (O.order o.now) p }
+    requires p { IsCanonical (F.ops f.now) (O.order o.now) p }
     ensures kept { OnOk result (AreKept (F.ops f.now) (O.order o.now) stack.new.items) }
     ensures sum { OnOk result (Same (F.ops f.now) (terms_together stack.new.items) (terms_together stack.old.items ++ p)) }
 {
@@ -66,7 +66,7 @@ pub(crate) fn total<F: Field, O: Order>(
     mut stack: Vec<Poly<F>>,
 ) -> Result<Poly<F>, Memory>
     requires { AreKept (F.ops f.now) (O.order o.now) stack.items }
-    ensures kept { IfOk result (IsKept (F.ops f.now) (O.order o.now)) }
+    ensures kept { IfOk result (IsCanonical (F.ops f.now) (O.order o.now)) }
     ensures sum { IfOk result (λ p. Same (F.ops f.now) p (terms_together stack.items)) }
 {
     let mut sum = Poly::zero(alloc);

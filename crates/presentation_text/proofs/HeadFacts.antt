@@ -10,8 +10,7 @@ use Rattle.presentation_text.specs.Lines.{words}
 use Rattle.presentation_text.specs.Numbers.{number_within}
 use Rattle.presentation_text.specs.Heading.{◌>>=◌, behind_word, is_name, are_different, names_of, vars_line, numbers_within, weights_of, weights_line}
 use Rattle.presentation_text.specs.Reading.{Line, next}
-use Rattle.presentation_text.proofs.NameWords.{and_parts}
-use Rattle.presentation_text.proofs.NameWords.{HaveForm, names_form, are_distinct}
+use Rattle.presentation_text.proofs.NameWords.{and_parts, HaveForm, names_form, are_distinct}
 use Rattle.presentation_text.proofs.NextLines.{next_was}
 use Rattle.presentation_text.proofs.TakenWords.{or_fault_ok}
 

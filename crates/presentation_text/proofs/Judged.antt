@@ -3,13 +3,13 @@ use Rattle.std.proofs.Common.{◌≡◌, ◌≢◌, inl, inr, ℕ, ◌≤◌, Bo
 use Rattle.std.specs.List.{list_all, list_any, AllByRecursion}
 use Rattle.std.proofs.lemmas.Bool.{eqb-true}
 use Rattle.word_field.specs.Residues.{residues, is_listed}
-use Rattle.word_field.specs.ResidueLaws.{residues_field}
-use Rattle.monomial_order.specs.declared.Term.{Term}
+use Rattle.word_field.specs.laws.Residues.{residues_field}
+use Rattle.monomial_order.specs.declared.terms.Term.{Term}
 use Rattle.monomial_order.specs.MonomialOrder.{MonomialOrder, IsMonomialOrder}
-use Rattle.poly_core.specs.Poly.{coefficient, AllAt, IsKept, IsDegree, IsZeroOrHomogeneous}
-use Rattle.poly_core.specs.FallingLaws.{coefficient_first}
-use Rattle.poly_core.specs.DegreeLaws.{all_found}
-use Rattle.poly_core.specs.Presentation.{IsKeptGenerator}
+use Rattle.polynomials.specs.Polynomial.{Polynomial, coefficient, AllAt, IsCanonical, IsDegree, IsZeroOrHomogeneous}
+use Rattle.polynomials.specs.laws.Decreasing.{coefficient_first}
+use Rattle.polynomials.specs.laws.Degrees.{all_found}
+use Rattle.poly_core.specs.Presentation.{IsCanonicalGenerator}
 use Rattle.polynomial_text.specs.declared.text_kind.TextKind.{TextKind}
 use Rattle.polynomial_text.specs.declared.text_kind.TextKind.TheVariants.{NotHomogeneous}
 use Rattle.presentation_text.specs.Judging.{degrees, is_one_degree, judged}
@@ -55,7 +55,7 @@ zero_none (d ∷ ds) h = let k = or_parts (eqb d 0) (list_any (λ e. eqb e 0) ds
     clash : true ≡ false → ⊥
     clash e = absurd cc
 
-module _ (n : ℕ) (listed : is_listed n ≡ true) (O : MonomialOrder) (L : IsMonomialOrder O) (sum : List (Term ℕ)) where
+module _ (n : ℕ) (listed : is_listed n ≡ true) (O : MonomialOrder) (L : IsMonomialOrder O) (sum : Polynomial ℕ) where
   -- the monomial has a coefficient in the sum
   abbrev stands : Term ℕ → Bool
   stands t = not (eqb (coefficient (residues n) sum t.at) 0)
@@ -70,7 +70,7 @@ module _ (n : ℕ) (listed : is_listed n ≡ true) (O : MonomialOrder) (L : IsMo
   every : (Q : ℕ → Type 0) → AllByRecursion Q (degrees n O sum) → (m : List ℕ) → coefficient (residues n) sum m ≢ 0 → Q (O.degree m)
   every Q all m c = all_found (residues n) (residues_field n listed) O L (λ k. coefficient (residues n) sum k ≢ 0 → Q (O.degree k)) sum (each sum all) m c c
     where
-      each : (q : List (Term ℕ)) → AllByRecursion Q (map (λ t. O.degree t.at) (filter stands q)) → AllAt (λ k. coefficient (residues n) sum k ≢ 0 → Q (O.degree k)) q
+      each : (q : Polynomial ℕ) → AllByRecursion Q (map (λ t. O.degree t.at) (filter stands q)) → AllAt (λ k. coefficient (residues n) sum k ≢ 0 → Q (O.degree k)) q
       each [] h = tt
       each (t ∷ q) h = by (stands t) refl (each q) h
         where
@@ -83,7 +83,7 @@ module _ (n : ℕ) (listed : is_listed n ≡ true) (O : MonomialOrder) (L : IsMo
   of_each : (Q : ℕ → Type 0) → ((m : List ℕ) → coefficient (residues n) sum m ≢ 0 → Q (O.degree m)) → AllByRecursion Q (degrees n O sum)
   of_each Q each = along sum
     where
-      along : (q : List (Term ℕ)) → AllByRecursion Q (map (λ t. O.degree t.at) (filter stands q))
+      along : (q : Polynomial ℕ) → AllByRecursion Q (map (λ t. O.degree t.at) (filter stands q))
       along [] = tt
       along (t ∷ q) = by (stands t) refl (along q)
         where
@@ -91,7 +91,7 @@ module _ (n : ℕ) (listed : is_listed n ≡ true) (O : MonomialOrder) (L : IsMo
           by true is rest = (each t.at (stood t is), rest)
           by false is rest = rest
 
-  module _ (p : List (Term ℕ)) (s : IsSumOf (residues n) O p sum) where
+  module _ (p : Polynomial ℕ) (s : IsSumOf (residues n) O p sum) where
     in_poly : (m : List ℕ) → coefficient (residues n) sum m ≢ 0 → coefficient (residues n) p m ≢ 0
     in_poly m c z = c (sym (s.same m) ∙ z)
 
@@ -103,16 +103,16 @@ module _ (n : ℕ) (listed : is_listed n ≡ true) (O : MonomialOrder) (L : IsMo
     one_degree (inl none) = all_one 0 (degrees n O sum) (of_each (λ e. e ≡ 0) (λ m c. absurd (in_poly m c (none m))))
     one_degree (inr (d, same)) = all_one d (degrees n O sum) (of_each (λ e. e ≡ d) (λ m c. same.each m (in_poly m c)))
 
-    is_homogeneous : IsKept (residues n) O p → is_one_degree (degrees n O sum) ≡ true → IsZeroOrHomogeneous (residues n) O p
+    is_homogeneous : IsCanonical (residues n) O p → is_one_degree (degrees n O sum) ≡ true → IsZeroOrHomogeneous (residues n) O p
     is_homogeneous kept e = let one = one_of (degrees n O sum) e in by p kept refl one.0 (λ m c. every (λ k. k ≡ one.0) one.1 m (in_sum m c))
       where
-        by : (q : List (Term ℕ)) → IsKept (residues n) O q → q ≡ p → (d : ℕ) → ((m : List ℕ) → coefficient (residues n) p m ≢ 0 → O.degree m ≡ d) → IsZeroOrHomogeneous (residues n) O p
-        by [] k same d each = inl (λ m. ap (λ (r : List (Term ℕ)). coefficient (residues n) r m) (sym same))
+        by : (q : Polynomial ℕ) → IsCanonical (residues n) O q → q ≡ p → (d : ℕ) → ((m : List ℕ) → coefficient (residues n) p m ≢ 0 → O.degree m ≡ d) → IsZeroOrHomogeneous (residues n) O p
+        by [] k same d each = inl (λ m. ap (λ (r : Polynomial ℕ). coefficient (residues n) r m) (sym same))
         by (t ∷ q) k same d each =
-            let first : coefficient (residues n) (t ∷ q) t.at ≢ 0 = λ z. k.falls.0.nonzero (sym (coefficient_first (residues n) (residues_field n listed) O L t q k.falls.0) ∙ z) in
-            inr (d, record { some = (t.at, subst (λ (r : List (Term ℕ)). coefficient (residues n) r t.at ≢ 0) same first); each = each })
+            let first : coefficient (residues n) (t ∷ q) t.at ≢ 0 = λ z. k.decreasing.0.nonzero (sym (coefficient_first (residues n) (residues_field n listed) O L t q k.decreasing.0) ∙ z) in
+            inr (d, record { some = (t.at, subst (λ (r : Polynomial ℕ). coefficient (residues n) r t.at ≢ 0) same first); each = each })
 
-    pub judged_mixed : (constant : TextKind) → IsKept (residues n) O p → (IsZeroOrHomogeneous (residues n) O p → ⊥) → judged n O constant sum ≡ Err NotHomogeneous
+    pub judged_mixed : (constant : TextKind) → IsCanonical (residues n) O p → (IsZeroOrHomogeneous (residues n) O p → ⊥) → judged n O constant sum ≡ Err NotHomogeneous
     unfolding judged
     judged_mixed constant kept mixed =
         let other : is_one_degree (degrees n O sum) ≡ false =
@@ -126,7 +126,7 @@ module _ (n : ℕ) (listed : is_listed n ≡ true) (O : MonomialOrder) (L : IsMo
     pub judged_zero : (constant : TextKind) → p ≡ [] → judged n O constant sum ≡ Ok sum
     unfolding coefficient
     judged_zero constant zero =
-        let none : (m : List ℕ) → coefficient (residues n) p m ≡ 0 = λ m. ap (λ (r : List (Term ℕ)). coefficient (residues n) r m) zero in
+        let none : (m : List ℕ) → coefficient (residues n) p m ≡ 0 = λ m. ap (λ (r : Polynomial ℕ). coefficient (residues n) r m) zero in
         judged_ok constant (one_degree (inl none)) (of_each (λ e. e ≢ 0) (λ m c. absurd (in_poly m c (none m))))
 
     -- each monomial of a homogeneous polynomial has its greatest degree
@@ -149,10 +149,10 @@ module _ (n : ℕ) (listed : is_listed n ≡ true) (O : MonomialOrder) (L : IsMo
         ] refl in
         rw (one_degree same, there) refl
 
-    pub kept_zero : IsKept (residues n) O p → p ≡ [] → IsKeptGenerator (residues n) O p
+    pub kept_zero : IsCanonical (residues n) O p → p ≡ [] → IsCanonicalGenerator (residues n) O p
     kept_zero kept zero = record { kept = kept; homogeneous = inl zero }
 
-    pub kept_positive : (d : ℕ) → IsKept (residues n) O p → IsZeroOrHomogeneous (residues n) O p → IsDegree (residues n) O d p → d ≢ 0 → IsKeptGenerator (residues n) O p
+    pub kept_positive : (d : ℕ) → IsCanonical (residues n) O p → IsZeroOrHomogeneous (residues n) O p → IsDegree (residues n) O d p → d ≢ 0 → IsCanonicalGenerator (residues n) O p
     kept_positive d kept same greatest positive =
         let low : O.degree greatest.some.0 ≤ 30000 = all_found (residues n) (residues_field n listed) O L (λ m. O.degree m ≤ 30000) sum s.small greatest.some.0 (in_sum greatest.some.0 greatest.some.1) in
         record {

@@ -1,27 +1,27 @@
 -- The degrees of generators.
 use Rattle.std.proofs.Common.{◌≡◌, ◌≢◌, ℕ, zero, suc, ◌<◌, ◌≤◌, inl, inr, true, List, [], ◌∷◌, length, get_or, sym, subst, ◌∙◌, arith}
 use Rattle.word_field.specs.Residues.{residues, is_listed}
-use Rattle.word_field.specs.ResidueLaws.{residues_field}
-use Rattle.monomial_order.specs.declared.Term.{Term}
+use Rattle.word_field.specs.laws.Residues.{residues_field}
+use Rattle.monomial_order.specs.declared.terms.Term.{Term}
 use Rattle.monomial_order.specs.MonomialOrder.{MonomialOrder, IsMonomialOrder}
-use Rattle.poly_core.specs.Poly.{coefficient, IsHomogeneous}
-use Rattle.poly_core.specs.FallingLaws.{coefficient_first}
-use Rattle.poly_core.specs.Presentation.{IsKeptGenerator, AreKeptGenerators}
+use Rattle.polynomials.specs.Polynomial.{Polynomial, coefficient, IsHomogeneous}
+use Rattle.polynomials.specs.laws.Decreasing.{coefficient_first}
+use Rattle.poly_core.specs.Presentation.{IsCanonicalGenerator, AreCanonicalGenerators}
 
-pub kept_at : (n : ℕ) (O : MonomialOrder) (fs : List (List (Term ℕ))) (i : ℕ) (d : List (Term ℕ)) → AreKeptGenerators (residues n) O fs → i < length fs → IsKeptGenerator (residues n) O (get_or fs i d)
+pub kept_at : (n : ℕ) (O : MonomialOrder) (fs : List (Polynomial ℕ)) (i : ℕ) (d : Polynomial ℕ) → AreCanonicalGenerators (residues n) O fs → i < length fs → IsCanonicalGenerator (residues n) O (get_or fs i d)
 kept_at n O [] i d h lt = absurd (omega arith)
 kept_at n O (f ∷ fs) zero d h lt = h.0
 kept_at n O (f ∷ fs) (suc i) d h lt = kept_at n O fs i d h.1 (omega arith)
 
 module _ (n : ℕ) (listed : is_listed n ≡ true) (O : MonomialOrder) (L : IsMonomialOrder O) where
-  pub first_degree : (p rest : List (Term ℕ)) (t : Term ℕ) → p ≡ t ∷ rest → IsKeptGenerator (residues n) O p → (1 ≤ O.degree t.at) × (O.degree t.at ≤ 30000)
+  pub first_degree : (p rest : Polynomial ℕ) (t : Term ℕ) → p ≡ t ∷ rest → IsCanonicalGenerator (residues n) O p → (1 ≤ O.degree t.at) × (O.degree t.at ≤ 30000)
   first_degree [] rest t split h = absurd cc
   first_degree (s ∷ q) rest t split h =
       let same : s ≡ t = cc in
       subst (λ (u : Term ℕ). (1 ≤ O.degree u.at) × (O.degree u.at ≤ 30000)) same (by h.homogeneous)
     where
       nonzero : coefficient (residues n) (s ∷ q) s.at ≢ 0
-      nonzero z = h.kept.falls.0.nonzero (sym (coefficient_first (residues n) (residues_field n listed) O L s q h.kept.falls.0) ∙ z)
+      nonzero z = h.kept.decreasing.0.nonzero (sym (coefficient_first (residues n) (residues_field n listed) O L s q h.kept.decreasing.0) ∙ z)
 
       by : Rattle.std.specs.Prelude.◌⊎◌ ((s ∷ q) ≡ []) ((d : ℕ) × (1 ≤ d) × (d ≤ 30000) × IsHomogeneous (residues n) O d (s ∷ q)) → (1 ≤ O.degree s.at) × (O.degree s.at ≤ 30000)
       by (inl e) = absurd cc

@@ -4,18 +4,19 @@ use Rattle.std.proofs.Math.Bool.{Bool-set}
 use Rattle.word_field.specs.Field.{FieldOps, IsField}
 use Rattle.word_field.specs.Residues.{residues, is_listed}
 use Rattle.word_field.specs.declared.WordField.{WordField}
-use Rattle.monomial_order.specs.declared.Term.{Term}
+use Rattle.monomial_order.specs.declared.terms.Term.{Term}
 use Rattle.monomial_order.specs.declared.weight_order.WeightOrder.{WeightOrder}
 use Rattle.monomial_order.specs.MonomialOrder.{MonomialOrder, IsMonomialOrder}
 use Rattle.monomial_order.specs.Orders.{weight_order}
 use Rattle.monomial_order.specs.Ties.{tie_order}
-use Rattle.poly_core.specs.declared.names.Names.TheVariants.{Listed}
-use Rattle.poly_core.specs.declared.presentation.Presentation.{Presentation}
-use Rattle.poly_core.specs.FallingLaws.{Falls_unique}
-use Rattle.poly_core.specs.Presentation.{IsSame, order_of, generator_degree}
+use Rattle.poly_core.specs.declared.place_names.Names.TheVariants.{Listed}
+use Rattle.poly_core.specs.declared.presentations.Presentation.{Presentation}
+use Rattle.polynomials.specs.laws.Decreasing.{IsDecreasing_unique}
+use Rattle.poly_core.specs.Presentation.{IsSame, weight_order_of, generator_degree}
 use Rattle.polynomial_text.specs.Results.{Fault}
 use Rattle.presentation_text.specs.Reading.{Reading, reading}
 use Rattle.presentation_text.specs.Meaning.{AreSums, IsRead}
+use Rattle.polynomials.specs.Polynomial.{Polynomial}
 
 pub no_outcome : {A F : Type 0} (r : Result A F) (a : A) (e : F) → r ≡ Ok a → r ≡ Err e → ⊥
 no_outcome r a e h k = absurd cc
@@ -24,15 +25,15 @@ one_value : {A F : Type 0} (r : Result A F) (a b : A) → r ≡ Ok a → r ≡ O
 one_value r a b h k = cc
 
 module _ {E : Type 0} (K : FieldOps E) (F : IsField K) (O : MonomialOrder) (L : IsMonomialOrder O) where
-  sums_unique : (sums ps qs : List (List (Term E))) → AreSums K O sums ps → AreSums K O sums qs → ps ≡ qs
+  sums_unique : (sums ps qs : List (Polynomial E)) → AreSums K O sums ps → AreSums K O sums qs → ps ≡ qs
   sums_unique [] [] [] h k = refl
   sums_unique [] [] (q ∷ qs) h k = absurd k
   sums_unique [] (p ∷ ps) qs h k = absurd h
   sums_unique (sum ∷ sums) [] qs h k = absurd h
   sums_unique (sum ∷ sums) (p ∷ ps) [] h k = absurd k
   sums_unique (sum ∷ sums) (p ∷ ps) (q ∷ qs) h k =
-      let first : p ≡ q = Falls_unique K F O L p q h.1.falls k.1.falls (λ m. h.0 m ∙ sym (k.0 m)) in
-      ap (λ (x : List (Term E)). x ∷ ps) first ∙ ap (λ (l : List (List (Term E))). q ∷ l) (sums_unique sums ps qs h.2 k.2)
+      let first : p ≡ q = IsDecreasing_unique K F O L p q h.1.decreasing k.1.decreasing (λ m. h.0 m ∙ sym (k.0 m)) in
+      ap (λ (x : Polynomial E). x ∷ ps) first ∙ ap (λ (l : List (Polynomial E)). q ∷ l) (sums_unique sums ps qs h.2 k.2)
 
 field_of : (m : ℕ) → is_listed m ≡ true → WordField
 field_of m h = record { modulus = m; listed = h }
@@ -45,15 +46,15 @@ one_field : (f g : WordField) → f.modulus ≡ g.modulus → f ≡ g
 unfolding field_of
 one_field f g e = field_same f.modulus g.modulus e f.listed g.listed
 
-order_same : (p q : WeightOrder) → q.weights.items ≡ p.weights.items → q.rows.items ≡ p.rows.items → q.tie ≡ p.tie → order_of q ≡ order_of p
+order_same : (p q : WeightOrder) → q.weights.items ≡ p.weights.items → q.rows.items ≡ p.rows.items → q.tie ≡ p.tie → weight_order_of q ≡ weight_order_of p
 order_same p q w r t =
     ap (λ (x : List ℕ). weight_order x q.rows.items (tie_order q.tie)) w ∙
     (ap (λ (x : List (List ℕ)). weight_order p.weights.items x (tie_order q.tie)) r ∙ ap (λ x. weight_order p.weights.items p.rows.items (tie_order x)) t)
 
 -- sums over an equal field and in an equal order
-sums_moved : {m n : ℕ} {O P : MonomialOrder} {a b : List (List (Term ℕ))} (ps : List (List (Term ℕ))) → m ≡ n → O ≡ P → a ≡ b → AreSums (residues m) O a ps → AreSums (residues n) P b ps
+sums_moved : {m n : ℕ} {O P : MonomialOrder} {a b : List (Polynomial ℕ)} (ps : List (Polynomial ℕ)) → m ≡ n → O ≡ P → a ≡ b → AreSums (residues m) O a ps → AreSums (residues n) P b ps
 sums_moved {m} {n} {O} {P} {a} {b} ps e f g h =
-    subst (λ (x : List (List (Term ℕ))). AreSums (residues n) P x ps) g
+    subst (λ (x : List (Polynomial ℕ)). AreSums (residues n) P x ps) g
     (subst (λ (X : MonomialOrder). AreSums (residues n) X a ps) f (subst (λ (x : ℕ). AreSums (residues x) O a ps) e h))
 
 pub read_once : (p q : Presentation WordField WeightOrder ℕ) (text : List ℕ) → IsRead text p → IsRead text q → IsSame p q
@@ -63,13 +64,13 @@ read_once p q text h k =
     let weights : q.order.weights.items ≡ p.order.weights.items = k.weights ∙ (ap (λ (r : Reading). r.head.weights) same ∙ sym h.weights) in
     let rows : q.order.rows.items ≡ p.order.rows.items = k.rows ∙ (ap (λ (r : Reading). r.head.rows) same ∙ sym h.rows) in
     let tie : q.order.tie ≡ p.order.tie = k.tie ∙ (ap (λ (r : Reading). r.head.tie) same ∙ sym h.tie) in
-    let order : order_of q.order ≡ order_of p.order = order_same p.order q.order weights rows tie in
+    let order : weight_order_of q.order ≡ weight_order_of p.order = order_same p.order q.order weights rows tie in
     let fields = h.valid.presentation.field in
     let orders = h.valid.presentation.order in
-    let ideal_sums : AreSums (residues p.field.modulus) (order_of p.order) h.present.ideal q.ideal.items = sums_moved q.ideal.items size order (ap (λ (r : Reading). r.ideal) same) k.ideal in
-    let generator_sums : AreSums (residues p.field.modulus) (order_of p.order) h.present.generators q.generators.items = sums_moved q.generators.items size order (ap (λ (r : Reading). r.generators) same) k.generators in
-    let ideal : q.ideal.items ≡ p.ideal.items = sums_unique (residues p.field.modulus) fields (order_of p.order) orders h.present.ideal q.ideal.items p.ideal.items ideal_sums h.ideal in
-    let generators : q.generators.items ≡ p.generators.items = sums_unique (residues p.field.modulus) fields (order_of p.order) orders h.present.generators q.generators.items p.generators.items generator_sums h.generators in
+    let ideal_sums : AreSums (residues p.field.modulus) (weight_order_of p.order) h.present.ideal q.ideal.items = sums_moved q.ideal.items size order (ap (λ (r : Reading). r.ideal) same) k.ideal in
+    let generator_sums : AreSums (residues p.field.modulus) (weight_order_of p.order) h.present.generators q.generators.items = sums_moved q.generators.items size order (ap (λ (r : Reading). r.generators) same) k.generators in
+    let ideal : q.ideal.items ≡ p.ideal.items = sums_unique (residues p.field.modulus) fields (weight_order_of p.order) orders h.present.ideal q.ideal.items p.ideal.items ideal_sums h.ideal in
+    let generators : q.generators.items ≡ p.generators.items = sums_unique (residues p.field.modulus) fields (weight_order_of p.order) orders h.present.generators q.generators.items p.generators.items generator_sums h.generators in
     record {
       field = one_field q.field p.field size;
       weights = weights;
@@ -79,7 +80,7 @@ read_once p q text h k =
       ideal = ideal;
       generators = generators;
       x_degrees = k.valid.no_x ∙ sym h.valid.no_x;
-      s_degrees = k.valid.degrees ∙ (ap (λ (O : MonomialOrder). map (generator_degree O) q.generators.items) order ∙ (ap (map (generator_degree (order_of p.order))) generators ∙ sym h.valid.degrees));
+      s_degrees = k.valid.degrees ∙ (ap (λ (O : MonomialOrder). map (generator_degree O) q.generators.items) order ∙ (ap (map (generator_degree (weight_order_of p.order))) generators ∙ sym h.valid.degrees));
     }
 
 pub read_has_no_fault : (p : Presentation WordField WeightOrder ℕ) (text : List ℕ) (fault : Fault) → IsRead text p → reading text ≡ Err fault → ⊥

@@ -3,10 +3,10 @@ use Rattle.std.proofs.Common.{◌≡◌, ℕ, ◌≤◌, Bool, true, false, cond
 use Rattle.std.specs.List.{list_all, slice_split}
 use Rattle.std.proofs.lemmas.Bool.{leb-true}
 use Rattle.word_field.specs.Field.{FieldOps}
-use Rattle.monomial_order.specs.declared.Term.{Term}
+use Rattle.monomial_order.specs.declared.terms.Term.{Term}
 use Rattle.monomial_order.specs.MonomialOrder.{MonomialOrder}
-use Rattle.poly_core.specs.Poly.{AllAt, term_of, term_times}
-use Rattle.poly_core.specs.declared.names.Names.{Names}
+use Rattle.polynomials.specs.Polynomial.{Polynomial, AllAt, term_of, term_times}
+use Rattle.poly_core.specs.declared.place_names.Names.{Names}
 use Rattle.polynomial_text.specs.declared.text_kind.TextKind.TheVariants.{PolySyntax, DegreeTooLarge}
 use Rattle.polynomial_text.specs.Results.{◌>>=◌, along, each}
 use Rattle.polynomial_text.specs.Blanks.{is_blank}
@@ -49,7 +49,7 @@ module _ {E : Type 0} (K : FieldOps E) (O : MonomialOrder) (one : O.degree [] �
   low_term part u e =
       along_keeps IsLow (with_factor K O names) (λ s x t h. low_factor s x t h) (term_of [] (sign K O names part.0)) (slice_split (λ b. eqb b 42) part.1) u (omega (arith, one)) e
 
-  low_each : (parts : List (Bool × List ℕ)) (ts : List (Term E)) → each (term_at K O names) parts ≡ Ok ts → AllAt (λ m. O.degree m ≤ 30000) ts
+  low_each : (parts : List (Bool × List ℕ)) (ts : Polynomial E) → each (term_at K O names) parts ≡ Ok ts → AllAt (λ m. O.degree m ≤ 30000) ts
   unfolding each
   low_each [] ts e = let none : [] ≡ ts = cc in subst (AllAt (λ m. O.degree m ≤ 30000)) none tt
   low_each (part ∷ parts) ts e =
@@ -58,6 +58,6 @@ module _ {E : Type 0} (K : FieldOps E) (O : MonomialOrder) (one : O.degree [] �
       let same : first.0 ∷ others.0 ≡ ts = ok_same (Ok (first.0 ∷ others.0)) (first.0 ∷ others.0) ts refl others.2 in
       subst (AllAt (λ m. O.degree m ≤ 30000)) same (low_term part first.0 first.1, low_each parts others.0 others.1)
 
-  pub low_terms : (line : List ℕ) (ts : List (Term E)) → terms_of K O names line ≡ Ok ts → AllAt (λ m. O.degree m ≤ 30000) ts
+  pub low_terms : (line : List ℕ) (ts : Polynomial E) → terms_of K O names line ≡ Ok ts → AllAt (λ m. O.degree m ≤ 30000) ts
   unfolding terms_of
   low_terms line ts e = low_each _ ts e

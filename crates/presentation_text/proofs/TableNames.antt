@@ -6,8 +6,8 @@ use Rattle.std.specs.Str.{bytes_eq}
 use Rattle.std.proofs.lemmas.List.Elements.{recursion_from_All}
 use Rattle.std.proofs.lemmas.Slice.Eq.{bytes_eq-Decides}
 use Rattle.poly_core.specs.Names.{AreNames, IsName, has_name_form}
-use Rattle.poly_core.specs.declared.names.Names.{Names}
-use Rattle.poly_core.specs.declared.names.Names.TheVariants.{Listed, Numbered, Paired}
+use Rattle.poly_core.specs.declared.place_names.Names.{Names}
+use Rattle.poly_core.specs.declared.place_names.Names.TheVariants.{Listed, Numbered, Paired}
 use Rattle.presentation_text.specs.Giving.{listed}
 use Rattle.polynomial_text.specs.Canonical.{AreDifferent}
 

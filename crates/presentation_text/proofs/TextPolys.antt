@@ -8,17 +8,17 @@ use Rattle.std.proofs.lemmas.Slice.Eq.{bytes_eq-Decides}
 use Rattle.std.proofs.lemmas.List.Elements.{recursion_from_All}
 use Rattle.word_field.specs.Field.{FieldOps, IsField}
 use Rattle.word_field.specs.Residues.{residues, is_listed}
-use Rattle.word_field.specs.ResidueLaws.{residues_field}
-use Rattle.monomial_order.specs.declared.Term.{Term}
+use Rattle.word_field.specs.laws.Residues.{residues_field}
+use Rattle.monomial_order.specs.declared.terms.Term.{Term}
 use Rattle.monomial_order.specs.MonomialOrder.{MonomialOrder, IsMonomialOrder}
 use Rattle.monomial_order.specs.Ranges.{all_between, are_rows}
-use Rattle.poly_core.specs.Poly.{coefficient, Same, IsHomogeneous, AllAt}
-use Rattle.poly_core.specs.DegreeLaws.{falls_all}
+use Rattle.polynomials.specs.Polynomial.{Polynomial, coefficient, Same, IsHomogeneous, AllAt}
+use Rattle.polynomials.specs.laws.Degrees.{decreasing_all}
 use Rattle.poly_core.specs.Names.{IsName, IsNameList, has_name_form}
-use Rattle.poly_core.specs.declared.names.Names.TheVariants.{Listed}
-use Rattle.poly_core.specs.Presentation.{IsKeptGenerator, AreKeptGenerators}
+use Rattle.poly_core.specs.declared.place_names.Names.TheVariants.{Listed}
+use Rattle.poly_core.specs.Presentation.{IsCanonicalGenerator, AreCanonicalGenerators}
 use Rattle.poly_core.specs.Text.{poly_text}
-use Rattle.poly_core.specs.TextLaws.{falling_named}
+use Rattle.poly_core.specs.laws.Text.{decreasing_named}
 use Rattle.polynomial_text.specs.declared.text_kind.TextKind.{TextKind}
 use Rattle.polynomial_text.specs.Blanks.{is_skipped}
 use Rattle.presentation_text.specs.Lines.{lines, due_lines}
@@ -34,10 +34,10 @@ use Rattle.presentation_text.proofs.TextHeading.{listed_small}
 -- ---- judging
 
 -- all monomials of the sum have the degree d
-abbrev pub HasDegree : ℕ → MonomialOrder → List (Term ℕ) → ℕ → Type 0
+abbrev pub HasDegree : ℕ → MonomialOrder → Polynomial ℕ → ℕ → Type 0
 HasDegree p O sum d = (m : List ℕ) → coefficient (residues p) sum m ≢ 0 → O.degree m ≡ d
 
-picked : (g : Term ℕ → ℕ) (q : Term ℕ → Bool) (d : ℕ) (ts : List (Term ℕ)) → ((t : Term ℕ) → q t ≡ true → g t ≡ d) → AllByRecursion (λ e. e ≡ d) (map g (filter q ts))
+picked : (g : Term ℕ → ℕ) (q : Term ℕ → Bool) (d : ℕ) (ts : Polynomial ℕ) → ((t : Term ℕ) → q t ≡ true → g t ≡ d) → AllByRecursion (λ e. e ≡ d) (map g (filter q ts))
 picked g q d [] h = tt
 picked g q d (t ∷ ts) h =
     elim (q t) as (λ b. q t ≡ b → AllByRecursion (λ e. e ≡ d) (map g (cond b (t ∷ filter q ts) (filter q ts)))) [
@@ -65,20 +65,20 @@ no_constant d (e ∷ es) l h = rw (not_zero d e h.0 l, no_constant d es l h.1) r
 is_nonzero : (n : ℕ) → not (eqb n 0) ≡ true → n ≢ 0
 is_nonzero n h e = let f : eqb n 0 ≡ false = not-true (eqb n 0) h in let t : eqb n 0 ≡ true = ap (λ k. eqb k 0) e in absurd cc
 
-pub judges : (p : ℕ) (O : MonomialOrder) (constant : TextKind) (sum : List (Term ℕ)) (d : ℕ) → 1 ≤ d → HasDegree p O sum d → judged p O constant sum ≡ Ok sum
+pub judges : (p : ℕ) (O : MonomialOrder) (constant : TextKind) (sum : Polynomial ℕ) (d : ℕ) → 1 ≤ d → HasDegree p O sum d → judged p O constant sum ≡ Ok sum
 unfolding judged
 judges p O constant sum d l h =
     let all : AllByRecursion (λ e. e ≡ d) (degrees p O sum) =
     picked (λ t. O.degree t.at) (λ t. not (eqb (coefficient (residues p) sum t.at) 0)) d sum (λ t e. h t.at (is_nonzero (coefficient (residues p) sum t.at) e)) in
     rw (one_degree d (degrees p O sum) all, no_constant d (degrees p O sum) l all) refl
 
-zero_there : (p : ℕ) (g : List (Term ℕ)) (m : List ℕ) → g ≡ [] → coefficient (residues p) g m ≡ 0
+zero_there : (p : ℕ) (g : Polynomial ℕ) (m : List ℕ) → g ≡ [] → coefficient (residues p) g m ≡ 0
 unfolding coefficient
 zero_there p [] m e = refl
 zero_there p (t ∷ g) m e = absurd cc
 
 -- the degree of a kept generator, and some degree for zero
-pub generator_has_degree : (p : ℕ) (O : MonomialOrder) (f : List (Term ℕ)) → IsKeptGenerator (residues p) O f → (d : ℕ) × (1 ≤ d) × (d ≤ 30000) × HasDegree p O f d
+pub generator_has_degree : (p : ℕ) (O : MonomialOrder) (f : Polynomial ℕ) → IsCanonicalGenerator (residues p) O f → (d : ℕ) × (1 ≤ d) × (d ≤ 30000) × HasDegree p O f d
 generator_has_degree p O f h = by_form h.homogeneous
   where
     by_form : ((f ≡ []) ⊎ ((d : ℕ) × (1 ≤ d) × (d ≤ 30000) × IsHomogeneous (residues p) O d f)) → (d : ℕ) × (1 ≤ d) × (d ≤ 30000) × HasDegree p O f d
@@ -144,21 +144,21 @@ module _ (h : Head) (S : IsSound h) where
   order = order_of_head h
 
   -- the line of a generator
-  record IsPolyLine (constant : TextKind) (f ts : List (Term ℕ)) : Type 0 where
+  record IsPolyLine (constant : TextKind) (f ts : Polynomial ℕ) : Type 0 where
     read : poly_line h constant (poly_text field (Listed h.names) f) ≡ Ok ts
     sum : Same field f ts
     one : IsOneLine (poly_text field (Listed h.names) f)
     due : is_skipped (poly_text field (Listed h.names) f) ≡ false
 
-  poly_back : (constant : TextKind) (f : List (Term ℕ)) → IsKeptGenerator field order f → (ts : List (Term ℕ)) × IsPolyLine constant f ts
+  poly_back : (constant : TextKind) (f : Polynomial ℕ) → IsCanonicalGenerator field order f → (ts : Polynomial ℕ) × IsPolyLine constant f ts
   unfolding poly_line
   poly_back constant f g =
       let laws : IsField field = residues_field h.size S.listed in
       let d = generator_has_degree h.size order f g in
       let different = listed_differ order.places h.names S.names in
-      let named = falling_named field order (Listed h.names) S.names f g.kept.falls in
+      let named = decreasing_named field order (Listed h.names) S.names f g.kept.decreasing in
       let small : AllAt (λ m. order.degree m ≤ 30000) f =
-      falls_all field laws order S.order (λ m. order.degree m ≤ 30000) f g.kept.falls (λ m n. let e = d.3 m n in let l = d.2 in omega arith) in
+      decreasing_all field laws order S.order (λ m. order.degree m ≤ 30000) f g.kept.decreasing (λ m n. let e = d.3 m n in let l = d.2 in omega arith) in
       let few = listed_few h.size S.listed in
       let ts = canonical_terms field laws few order S.order (Listed h.names) different f g.kept named small in
       let judge : judged h.size order constant ts.0 ≡ Ok ts.0 = judges h.size order constant ts.0 d.0 d.1 (λ m n. d.3 m (λ z. n (sym (ts.2 m) ∙ z))) in (
@@ -172,8 +172,8 @@ module _ (h : Head) (S : IsSound h) where
       )
 
   -- the lines of generators
-  pub polys_back : (constant : TextKind) (last n : ℕ) (fs : List (List (Term ℕ))) (rest : List ℕ) → AreKeptGenerators field order fs →
-      (sums : List (List (Term ℕ))) × (k : ℕ)
+  pub polys_back : (constant : TextKind) (last n : ℕ) (fs : List (Polynomial ℕ)) (rest : List ℕ) → AreCanonicalGenerators field order fs →
+      (sums : List (Polynomial ℕ)) × (k : ℕ)
       × (several last (poly_line h constant) (length fs) (due_lines n (lines (poly_lines field h.names fs ++ rest))) ≡ Ok (sums, due_lines k (lines rest)))
       × AreSums field order sums fs
   unfolding several

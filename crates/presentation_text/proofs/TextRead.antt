@@ -7,15 +7,15 @@ use Rattle.std.proofs.lemmas.Bool.{and_parts, leb-true, not-true}
 use Rattle.std.proofs.lemmas.List.Elements.{recursion_from_All}
 use Rattle.word_field.specs.Residues.{residues, is_listed}
 use Rattle.word_field.specs.declared.WordField.{WordField}
-use Rattle.monomial_order.specs.declared.Term.{Term}
+use Rattle.monomial_order.specs.declared.terms.Term.{Term}
 use Rattle.monomial_order.specs.declared.weight_order.WeightOrder.{WeightOrder}
 use Rattle.monomial_order.specs.declared.tie_break.Tie.{Tie}
 use Rattle.monomial_order.specs.Ranges.{all_between, are_rows}
-use Rattle.monomial_order.specs.TieLaws.{weight_laws}
-use Rattle.poly_core.specs.declared.names.Names.TheVariants.{Listed}
-use Rattle.poly_core.specs.declared.presentation.Presentation.{Presentation}
+use Rattle.monomial_order.specs.laws.Ties.{weight_laws}
+use Rattle.poly_core.specs.declared.place_names.Names.TheVariants.{Listed}
+use Rattle.poly_core.specs.declared.presentations.Presentation.{Presentation}
 use Rattle.poly_core.specs.Names.{AreNames, IsName, IsNameList}
-use Rattle.poly_core.specs.Presentation.{IsKeptList, IsValid, order_of}
+use Rattle.poly_core.specs.Presentation.{IsCanonicalList, IsValid, weight_order_of}
 use Rattle.polynomial_text.specs.declared.text_kind.TextKind.{TextKind}
 use Rattle.polynomial_text.specs.declared.text_kind.TextKind.TheVariants.{UnitIdeal, ConstantGenerator}
 use Rattle.presentation_text.specs.Lines.{lines, due_lines, end_line}
@@ -28,6 +28,7 @@ use Rattle.presentation_text.proofs.TextWords.{IsWord, Begins, next_words}
 use Rattle.presentation_text.proofs.TextNumbers.{decimal_word, between_words}
 use Rattle.presentation_text.proofs.TextHeading.{row_line, listed_small, names_words, row_line_words, reads_header, reads_field, reads_vars, reads_weights, reads_order, reads_count, reads_end}
 use Rattle.presentation_text.proofs.TextPolys.{IsSound, polys_back}
+use Rattle.polynomials.specs.Polynomial.{Polynomial}
 
 -- ---- words that are keys
 
@@ -92,17 +93,17 @@ head_back h s last rest =
 
 -- ---- the lists
 
-counted_steps : (last : ℕ) (h : Head) (word : List ℕ) (constant : TextKind) (l0 l1 l2 : List Line) (k : ℕ) (sums : List (List (Term ℕ))) →
+counted_steps : (last : ℕ) (h : Head) (word : List ℕ) (constant : TextKind) (l0 l1 l2 : List Line) (k : ℕ) (sums : List (Polynomial ℕ)) →
     next last (count_line word) l0 ≡ Ok (k, l1) → several last (poly_line h constant) k l1 ≡ Ok (sums, l2) → counted last h word constant l0 ≡ Ok (sums, l2)
 unfolding counted
 counted_steps last h word constant l0 l1 l2 k sums a b = rw (a, b) refl
 
 -- the lines of a list, and those behind them
-listing : Head → List ℕ → List (List (Term ℕ)) → List ℕ → List ℕ
+listing : Head → List ℕ → List (Polynomial ℕ) → List ℕ → List ℕ
 listing h word fs rest = line word (decimal (length fs) ∷ []) ++ (poly_lines (residues h.size) h.names fs ++ rest)
 
-counted_back : (h : Head) (s : IsSound h) (word : List ℕ) (constant : TextKind) (last n : ℕ) (fs : List (List (Term ℕ))) (rest : List ℕ) → Begins word → IsWord word → IsKeptList (residues h.size) (order_of_head h) fs →
-    (sums : List (List (Term ℕ))) × (k : ℕ)
+counted_back : (h : Head) (s : IsSound h) (word : List ℕ) (constant : TextKind) (last n : ℕ) (fs : List (Polynomial ℕ)) (rest : List ℕ) → Begins word → IsWord word → IsCanonicalList (residues h.size) (order_of_head h) fs →
+    (sums : List (Polynomial ℕ)) × (k : ℕ)
     × (counted last h word constant (due_lines n (lines (listing h word fs rest))) ≡ Ok (sums, due_lines k (lines rest)))
     × AreSums (residues h.size) (order_of_head h) sums fs
 unfolding listing
@@ -129,30 +130,30 @@ ended_back last n =
 
 -- ---- the whole
 
-reading_steps : (last : ℕ) (l0 l1 l2 l3 : List Line) (h : Head) (ideal generators : List (List (Term ℕ))) →
+reading_steps : (last : ℕ) (l0 l1 l2 l3 : List Line) (h : Head) (ideal generators : List (Polynomial ℕ)) →
     head last l0 ≡ Ok (h, l1) → counted last h (codes "ideal") UnitIdeal l1 ≡ Ok (ideal, l2) →
     counted last h (codes "generators") ConstantGenerator l2 ≡ Ok (generators, l3) → ended last l3 ≡ Ok [] →
     reading_of last l0 ≡ Ok record { head = h; ideal = ideal; generators = generators }
 unfolding reading_of
 reading_steps last l0 l1 l2 l3 h ideal generators a b c d = rw (a, b, c, d) refl
 
-text_of : Head → List (List (Term ℕ)) → List (List (Term ℕ)) → List ℕ
+text_of : Head → List (Polynomial ℕ) → List (Polynomial ℕ) → List ℕ
 text_of h ideal generators = heading h (listing h (codes "ideal") ideal (listing h (codes "generators") generators (line (codes "end") [])))
 
-text_is : (h : Head) (ideal generators : List (List (Term ℕ))) → presentation_text (residues h.size) h.names h.weights h.rows h.tie ideal generators ≡ text_of h ideal generators
+text_is : (h : Head) (ideal generators : List (Polynomial ℕ)) → presentation_text (residues h.size) h.names h.weights h.rows h.tie ideal generators ≡ text_of h ideal generators
 unfolding text_of heading listing
 text_is h ideal generators = refl
 
 -- what the text of a sound presentation presents
-pub record IsReadAs (h : Head) (ideal generators : List (List (Term ℕ))) : Type 0 where
-  pub ideal_sums : List (List (Term ℕ))
-  pub generator_sums : List (List (Term ℕ))
+pub record IsReadAs (h : Head) (ideal generators : List (Polynomial ℕ)) : Type 0 where
+  pub ideal_sums : List (Polynomial ℕ)
+  pub generator_sums : List (Polynomial ℕ)
   pub read : reading (presentation_text (residues h.size) h.names h.weights h.rows h.tie ideal generators) ≡ Ok record { head = h; ideal = ideal_sums; generators = generator_sums }
   pub ideal_is : AreSums (residues h.size) (order_of_head h) ideal_sums ideal
   pub generators_are : AreSums (residues h.size) (order_of_head h) generator_sums generators
 
-read_steps : (h : Head) → IsSound h → (last : ℕ) (ideal generators : List (List (Term ℕ))) → IsKeptList (residues h.size) (order_of_head h) ideal → IsKeptList (residues h.size) (order_of_head h) generators →
-    (is : List (List (Term ℕ))) × (gs : List (List (Term ℕ))) × (reading_of last (due_lines 1 (lines (text_of h ideal generators))) ≡ Ok record { head = h; ideal = is; generators = gs })
+read_steps : (h : Head) → IsSound h → (last : ℕ) (ideal generators : List (Polynomial ℕ)) → IsCanonicalList (residues h.size) (order_of_head h) ideal → IsCanonicalList (residues h.size) (order_of_head h) generators →
+    (is : List (Polynomial ℕ)) × (gs : List (Polynomial ℕ)) × (reading_of last (due_lines 1 (lines (text_of h ideal generators))) ≡ Ok record { head = h; ideal = is; generators = gs })
     × AreSums (residues h.size) (order_of_head h) is ideal × AreSums (residues h.size) (order_of_head h) gs generators
 unfolding text_of
 read_steps h s last ideal generators hi hg =
@@ -168,7 +169,7 @@ read_steps h s last ideal generators hi hg =
       second.3,
     )
 
-pub read_as : (h : Head) → IsSound h → (ideal generators : List (List (Term ℕ))) → IsKeptList (residues h.size) (order_of_head h) ideal → IsKeptList (residues h.size) (order_of_head h) generators → IsReadAs h ideal generators
+pub read_as : (h : Head) → IsSound h → (ideal generators : List (Polynomial ℕ)) → IsCanonicalList (residues h.size) (order_of_head h) ideal → IsCanonicalList (residues h.size) (order_of_head h) generators → IsReadAs h ideal generators
 read_as h s ideal generators hi hg =
     let all = read_steps h s (end_line (text_of h ideal generators)) ideal generators hi hg in
     record { ideal_sums = all.0; generator_sums = all.1; read = ap reading (text_is h ideal generators) ∙ all.2; ideal_is = all.3; generators_are = all.4 }
@@ -179,7 +180,7 @@ read_as h s ideal generators hi hg =
 head_of : Presentation WordField WeightOrder ℕ → List (List ℕ) → Head
 head_of p names = record { size = p.field.modulus; names = names; weights = p.order.weights.items; rows = p.order.rows.items; tie = p.order.tie }
 
-sound : (p : Presentation WordField WeightOrder ℕ) (names : List (List ℕ)) → p.names ≡ Listed names → IsValid (λ f. residues f.modulus) order_of p → IsSound (head_of p names)
+sound : (p : Presentation WordField WeightOrder ℕ) (names : List (List ℕ)) → p.names ≡ Listed names → IsValid (λ f. residues f.modulus) weight_order_of p → IsSound (head_of p names)
 unfolding head_of
 sound p names e valid = record {
   listed = p.field.listed;
@@ -187,10 +188,10 @@ sound p names e valid = record {
   few = p.order.few_rows;
   rows = p.order.rows_in_range;
   order = weight_laws p.order.weights.items p.order.rows.items p.order.tie p.order.weights_in_range;
-  names = subst (AreNames (order_of p.order).places) e valid.names;
+  names = subst (AreNames (weight_order_of p.order).places) e valid.names;
 }
 
-pub presentation_read : (p : Presentation WordField WeightOrder ℕ) (text : List ℕ) → IsValid (λ f. residues f.modulus) order_of p → IsTextOf (λ f. residues f.modulus) p text → IsRead text p
+pub presentation_read : (p : Presentation WordField WeightOrder ℕ) (text : List ℕ) → IsValid (λ f. residues f.modulus) weight_order_of p → IsTextOf (λ f. residues f.modulus) p text → IsRead text p
 unfolding head_of
 presentation_read p text valid is =
     let h : Head = head_of p is.0 in

@@ -2,16 +2,16 @@
 use Rattle.std.proofs.Common.{◌≡◌, ℕ, ◌+◌, List, length, Result, Ok, Err, refl, sym, ap, ◌∙◌, arith}
 use Rattle.std.specs.Prelude.{codes}
 use Rattle.word_field.specs.Residues.{residues}
-use Rattle.word_field.specs.ResidueLaws.{residues_field}
+use Rattle.word_field.specs.laws.Residues.{residues_field}
 use Rattle.word_field.specs.declared.WordField.{WordField}
-use Rattle.monomial_order.specs.declared.Term.{Term}
+use Rattle.monomial_order.specs.declared.terms.Term.{Term}
 use Rattle.monomial_order.specs.declared.weight_order.WeightOrder.{WeightOrder}
 use Rattle.monomial_order.specs.MonomialOrder.{IsMonomialOrder}
-use Rattle.monomial_order.specs.TieLaws.{weight_laws}
+use Rattle.monomial_order.specs.laws.Ties.{weight_laws}
 use Rattle.poly_core.specs.Names.{AreNames}
-use Rattle.poly_core.specs.declared.presentation.Presentation.{Presentation}
-use Rattle.poly_core.specs.Presentation.{IsValid, order_of}
-use Rattle.poly_core.specs.PresentationLaws.{kept_presentation}
+use Rattle.poly_core.specs.declared.presentations.Presentation.{Presentation}
+use Rattle.poly_core.specs.Presentation.{IsValid, weight_order_of}
+use Rattle.poly_core.specs.laws.Presentation.{canonical_presentation}
 use Rattle.presentation_text.specs.declared.head.Head.{Head as Kept}
 use Rattle.presentation_text.specs.declared.text_fault.TextFault.{TextFault}
 use Rattle.presentation_text.specs.declared.text_fault.TextFault.TheVariants as faults
@@ -24,6 +24,7 @@ use Rattle.presentation_text.specs.Giving.{head_of}
 use Rattle.presentation_text.specs.Pending.{Pending, pending}
 use Rattle.presentation_text.specs.KeptSums.{AreListsIn, IsMadeOf, lists}
 use Rattle.presentation_text.proofs.TableNames.{is_listed}
+use Rattle.polynomials.specs.Polynomial.{Polynomial}
 
 module _ (last : ℕ) (h : Head) (ls : List Line) where
   pub ideal_err : (e : TextFault) → IsFaultOf (counted last h (codes "ideal") UnitIdeal ls) e → IsFaultOf (lists last h ls) e
@@ -31,13 +32,13 @@ module _ (last : ℕ) (h : Head) (ls : List Line) where
   ideal_err faults.Memory k = tt
   ideal_err (faults.At kind line) k = rw k refl
 
-  module _ (ideal : List (List (Term ℕ))) (behind : List Line) (first : counted last h (codes "ideal") UnitIdeal ls ≡ Ok (ideal, behind)) where
+  module _ (ideal : List (Polynomial ℕ)) (behind : List Line) (first : counted last h (codes "ideal") UnitIdeal ls ≡ Ok (ideal, behind)) where
     pub generators_err : (e : TextFault) → IsFaultOf (counted last h (codes "generators") ConstantGenerator behind) e → IsFaultOf (lists last h ls) e
     unfolding lists
     generators_err faults.Memory k = tt
     generators_err (faults.At kind line) k = rw (first, k) refl
 
-    module _ (generators : List (List (Term ℕ))) (rest : List Line) (second : counted last h (codes "generators") ConstantGenerator behind ≡ Ok (generators, rest)) where
+    module _ (generators : List (Polynomial ℕ)) (rest : List Line) (second : counted last h (codes "generators") ConstantGenerator behind ≡ Ok (generators, rest)) where
       pub end_err : (e : TextFault) → IsFaultOf (ended last rest) e → IsFaultOf (lists last h ls) e
       unfolding lists
       end_err faults.Memory k = tt
@@ -49,7 +50,7 @@ module _ (last : ℕ) (h : Head) (ls : List Line) where
 
 -- ---- the whole
 
-abbrev made : Head → List (List (Term ℕ)) × List (List (Term ℕ)) → Result Reading Fault
+abbrev made : Head → List (Polynomial ℕ) × List (Polynomial ℕ) → Result Reading Fault
 made h x = Ok (record { head = h; ideal = x.0; generators = x.1 })
 
 by_lists : (last : ℕ) (h : Head) (ls : List Line) → (lists last h ls >>= made h)
@@ -57,15 +58,15 @@ by_lists : (last : ℕ) (h : Head) (ls : List Line) → (lists last h ls >>= mad
 unfolding lists
 by_lists last h ls = first (counted last h (codes "ideal") UnitIdeal ls)
   where
-    third : (a b : List (List (Term ℕ))) (r : Result (List Line) Fault) → ((r >>= λ end. Ok (a, b)) >>= made h) ≡ (r >>= λ end. made h (a, b))
+    third : (a b : List (Polynomial ℕ)) (r : Result (List Line) Fault) → ((r >>= λ end. Ok (a, b)) >>= made h) ≡ (r >>= λ end. made h (a, b))
     third a b (Ok end) = refl
     third a b (Err e) = refl
 
-    second : (a : List (List (Term ℕ))) (r : Result (List (List (Term ℕ)) × List Line) Fault) → ((r >>= λ generators. ended last generators.1 >>= λ end. Ok (a, generators.0)) >>= made h) ≡ (r >>= λ generators. ended last generators.1 >>= λ end. made h (a, generators.0))
+    second : (a : List (Polynomial ℕ)) (r : Result (List (Polynomial ℕ) × List Line) Fault) → ((r >>= λ generators. ended last generators.1 >>= λ end. Ok (a, generators.0)) >>= made h) ≡ (r >>= λ generators. ended last generators.1 >>= λ end. made h (a, generators.0))
     second a (Ok x) = third a x.0 (ended last x.1)
     second a (Err e) = refl
 
-    first : (r : Result (List (List (Term ℕ)) × List Line) Fault) → ((r >>= λ ideal. counted last h (codes "generators") ConstantGenerator ideal.1 >>= λ generators. ended last generators.1 >>= λ end. Ok (ideal.0, generators.0)) >>= made h)
+    first : (r : Result (List (Polynomial ℕ) × List Line) Fault) → ((r >>= λ ideal. counted last h (codes "generators") ConstantGenerator ideal.1 >>= λ generators. ended last generators.1 >>= λ end. Ok (ideal.0, generators.0)) >>= made h)
         ≡ (r >>= λ ideal. counted last h (codes "generators") ConstantGenerator ideal.1 >>= λ generators. ended last generators.1 >>= λ end. made h (ideal.0, generators.0))
     first (Ok x) = second x.0 (counted last h (codes "generators") ConstantGenerator x.1)
     first (Err e) = refl
@@ -101,14 +102,14 @@ module _ (text : List ℕ) (l : Pending) (start : l ≡ pending 1 text) (h : Kep
   pub lists_refused : (e : TextFault) → IsFaultOf (lists l.missing (head_of h) rest) e → IsFaultOf (reading text) e
   lists_refused e k = rw whole (lists_err l.missing (head_of h) rest e k)
 
-  module _ (named : AreNames (length h.order.weights.items) h.names) (ideal generators : List (List (Term ℕ)))
-      (are : AreListsIn (residues h.field.modulus) (order_of h.order) (λ sums. lists l.missing (head_of h) rest ≡ Ok sums) ideal generators) (p : Presentation WordField WeightOrder ℕ) (of : IsMadeOf h ideal generators p) where
-    laws : IsMonomialOrder (order_of h.order)
+  module _ (named : AreNames (length h.order.weights.items) h.names) (ideal generators : List (Polynomial ℕ))
+      (are : AreListsIn (residues h.field.modulus) (weight_order_of h.order) (λ sums. lists l.missing (head_of h) rest ≡ Ok sums) ideal generators) (p : Presentation WordField WeightOrder ℕ) (of : IsMadeOf h ideal generators p) where
+    laws : IsMonomialOrder (weight_order_of h.order)
     laws = weight_laws h.order.weights.items h.order.rows.items h.order.tie h.order.weights_in_range
 
-    valid : IsValid (λ f. residues f.modulus) order_of p
+    valid : IsValid (λ f. residues f.modulus) weight_order_of p
     valid = record {
-      presentation = rw (of.field, of.order, of.ideal_is, of.generators_are) (kept_presentation (residues h.field.modulus) (order_of h.order) (residues_field h.field.modulus h.field.listed) laws ideal generators are.ideal_kept are.generators_kept);
+      presentation = rw (of.field, of.order, of.ideal_is, of.generators_are) (canonical_presentation (residues h.field.modulus) (weight_order_of h.order) (residues_field h.field.modulus h.field.listed) laws ideal generators are.ideal_kept are.generators_kept);
       names = rw (of.order, of.names) named;
       ideal = rw (of.field, of.order, of.ideal_is) are.ideal_kept;
       generators = rw (of.field, of.order, of.generators_are) are.generators_kept;

@@ -4,27 +4,28 @@ use Rattle.std.specs.List.{AllByRecursion}
 use Rattle.std.specs.Fmt.{decimal}
 use Rattle.std.proofs.lemmas.List.Elements.{All-from_recursion}
 use Rattle.word_field.specs.Field.{FieldOps}
-use Rattle.monomial_order.specs.declared.Term.{Term}
+use Rattle.monomial_order.specs.declared.terms.Term.{Term}
 use Rattle.monomial_order.specs.declared.tie_break.Tie.{Tie}
 use Rattle.monomial_order.specs.MonomialOrder.{MonomialOrder}
-use Rattle.poly_core.specs.declared.names.Names.{Names}
-use Rattle.poly_core.specs.declared.names.Names.TheVariants.{Listed}
+use Rattle.poly_core.specs.declared.place_names.Names.{Names}
+use Rattle.poly_core.specs.declared.place_names.Names.TheVariants.{Listed}
 use Rattle.poly_core.specs.Names.{AreNames}
-use Rattle.poly_core.specs.Presentation.{AreKeptGenerators}
+use Rattle.poly_core.specs.Presentation.{AreCanonicalGenerators}
 use Rattle.poly_core.specs.Text.{poly_text, AreValues, AreNamed}
-use Rattle.poly_core.specs.TextLaws.{falling_values, falling_named}
+use Rattle.poly_core.specs.laws.Text.{decreasing_values, decreasing_named}
 use Rattle.presentation_text.specs.PresentationText.{line, row_words, tie_word, poly_lines, presentation_text}
+use Rattle.polynomials.specs.Polynomial.{Polynomial}
 
 module _ {E : Type 0} (K : FieldOps E) (O : MonomialOrder) (names : Names) (are : AreNames O.places names) where
-  abbrev HasText : List (Term E) → Type 0
+  abbrev HasText : Polynomial E → Type 0
   HasText p = AreValues K p × AreNamed names p
 
-  have_texts : (ps : List (List (Term E))) → AreKeptGenerators K O ps → AllByRecursion HasText ps
+  have_texts : (ps : List (Polynomial E)) → AreCanonicalGenerators K O ps → AllByRecursion HasText ps
   have_texts [] h = tt
-  have_texts (p ∷ ps) h = ((falling_values K O p h.0.kept.falls, falling_named K O names are p h.0.kept.falls), have_texts ps h.1)
+  have_texts (p ∷ ps) h = ((decreasing_values K O p h.0.kept.decreasing, decreasing_named K O names are p h.0.kept.decreasing), have_texts ps h.1)
 
   -- polynomials that a presentation keeps have texts
-  pub kept_texts : (ps list : List (List (Term E))) → list ≡ ps → AreKeptGenerators K O ps → All (λ p. AreValues K p × AreNamed names p) list
+  pub kept_texts : (ps list : List (Polynomial E)) → list ≡ ps → AreCanonicalGenerators K O ps → All (λ p. AreValues K p × AreNamed names p) list
   kept_texts ps list is h = rw is (All-from_recursion HasText ps (have_texts ps h))
 
 -- parts that were written one behind the other
@@ -34,10 +35,10 @@ joined a b c d e f g h i j o1 o2 o3 o4 o5 o6 o7 o8 h1 h2 h3 h4 h5 h6 h7 h8 = rw 
 
 module _ {E : Type 0} (K : FieldOps E) where
   -- the number of polynomials and their lines
-  abbrev pub list_text : Names → List ℕ → List (List (Term E)) → List ℕ
+  abbrev pub list_text : Names → List ℕ → List (Polynomial E) → List ℕ
   list_text names key ps = line key (decimal (length ps) ∷ []) ++ flat_map (λ p. line (poly_text K names p) []) ps
 
-  pub written_whole : (table : List (List ℕ)) (names : Names) (size : ℕ) (ws weights : List ℕ) (rs rows : List (List ℕ)) (t tie : Tie) (is ideal gs generators : List (List (Term E))) (start o1 o2 o3 o4 o5 o6 o7 o8 : List ℕ) →
+  pub written_whole : (table : List (List ℕ)) (names : Names) (size : ℕ) (ws weights : List ℕ) (rs rows : List (List ℕ)) (t tie : Tie) (is ideal gs generators : List (Polynomial E)) (start o1 o2 o3 o4 o5 o6 o7 o8 : List ℕ) →
       names ≡ Listed table → size ≡ K.size → ws ≡ weights → rs ≡ rows → t ≡ tie → is ≡ ideal → gs ≡ generators →
       start ≡ [] → o1 ≡ start ++ codes "subalgebra 1\n" → o2 ≡ o1 ++ line (codes "field") (decimal size ∷ []) → o3 ≡ o2 ++ line (codes "vars") table → o4 ≡ o3 ++ line (codes "weights") (map decimal ws) →
       o5 ≡ o4 ++ line (codes "order") (flat_map row_words rs ++ (tie_word t ∷ [])) → o6 ≡ o5 ++ list_text names (codes "ideal") is → o7 ≡ o6 ++ list_text names (codes "generators") gs → o8 ≡ o7 ++ codes "end\n" →

@@ -1,11 +1,11 @@
 -- Polynomials that the program keeps for sums that were read.
 use Rattle.std.specs.Prelude.{◌≡◌, ℕ, ◌≤◌, List, [], map, Result, Ok, codes}
 use Rattle.word_field.specs.Field.{FieldOps}
-use Rattle.monomial_order.specs.declared.Term.{Term}
+use Rattle.monomial_order.specs.declared.terms.Term.{Term}
 use Rattle.monomial_order.specs.MonomialOrder.{MonomialOrder}
-use Rattle.poly_core.specs.Poly.{Same, AllAt}
-use Rattle.poly_core.specs.Presentation.{IsKeptGenerator, IsKeptList, generator_degree, order_of}
-use Rattle.poly_core.specs.declared.presentation.Presentation.{Presentation}
+use Rattle.polynomials.specs.Polynomial.{Polynomial, Same, AllAt}
+use Rattle.poly_core.specs.Presentation.{IsCanonicalGenerator, IsCanonicalList, generator_degree, weight_order_of}
+use Rattle.poly_core.specs.declared.presentations.Presentation.{Presentation}
 use Rattle.monomial_order.specs.declared.weight_order.WeightOrder.{WeightOrder}
 use Rattle.word_field.specs.declared.WordField.{WordField}
 use Rattle.presentation_text.specs.declared.head.Head.{Head as Kept}
@@ -16,36 +16,36 @@ use Rattle.presentation_text.specs.Meaning.{AreSums}
 
 module _ {E : Type 0} (K : FieldOps E) (O : MonomialOrder) where
   -- the polynomial is a sum that was read, and no term of it has a degree above 30000
-  pub record IsSumOf (p sum : List (Term E)) : Type 0 where
+  pub record IsSumOf (p sum : Polynomial E) : Type 0 where
     pub same : Same K p sum
     pub small : AllAt (λ m. O.degree m ≤ 30000) sum
 
   -- the polynomial may be a generator, and is such a sum
-  pub record IsSumIn (reads : List (Term E) → Type 0) (p : List (Term E)) : Type 0 where
-    pub sum : List (Term E)
+  pub record IsSumIn (reads : Polynomial E → Type 0) (p : Polynomial E) : Type 0 where
+    pub sum : Polynomial E
     pub is : reads sum
     pub same : Same K p sum
-    pub generator : IsKeptGenerator K O p
+    pub generator : IsCanonicalGenerator K O p
 
   -- at most 256 polynomials that may be generators, and are such sums
-  pub record AreSumsIn (reads : List (List (Term E)) → Type 0) (ps : List (List (Term E))) : Type 0 where
-    pub sums : List (List (Term E))
+  pub record AreSumsIn (reads : List (Polynomial E) → Type 0) (ps : List (Polynomial E)) : Type 0 where
+    pub sums : List (Polynomial E)
     pub is : reads sums
     pub same : AreSums K O sums ps
-    pub kept : IsKeptList K O ps
+    pub kept : IsCanonicalList K O ps
 
   -- two such lists of polynomials, the ideal and the generators
-  pub record AreListsIn (reads : List (List (Term E)) × List (List (Term E)) → Type 0) (ideal generators : List (List (Term E))) : Type 0 where
-    pub ideal_sums : List (List (Term E))
-    pub generator_sums : List (List (Term E))
+  pub record AreListsIn (reads : List (Polynomial E) × List (Polynomial E) → Type 0) (ideal generators : List (Polynomial E)) : Type 0 where
+    pub ideal_sums : List (Polynomial E)
+    pub generator_sums : List (Polynomial E)
     pub is : reads (ideal_sums, generator_sums)
     pub ideal_same : AreSums K O ideal_sums ideal
     pub generators_same : AreSums K O generator_sums generators
-    pub ideal_kept : IsKeptList K O ideal
-    pub generators_kept : IsKeptList K O generators
+    pub ideal_kept : IsCanonicalList K O ideal
+    pub generators_kept : IsCanonicalList K O generators
 
 -- the lines behind the order: the sums of the ideal's lines, and of the generators'
-unfoldable pub lists : ℕ → Head → List Line → Result (List (List (Term ℕ)) × List (List (Term ℕ))) Fault
+unfoldable pub lists : ℕ → Head → List Line → Result (List (Polynomial ℕ) × List (Polynomial ℕ)) Fault
 lists last h ls = do
   ideal ← counted last h (codes "ideal") UnitIdeal ls
   generators ← counted last h (codes "generators") ConstantGenerator ideal.1
@@ -53,11 +53,11 @@ lists last h ls = do
   Ok (ideal.0, generators.0)
 
 -- the presentation is made of a head and the two lists
-pub record IsMadeOf (h : Kept) (ideal generators : List (List (Term ℕ))) (p : Presentation WordField WeightOrder ℕ) : Type 0 where
+pub record IsMadeOf (h : Kept) (ideal generators : List (Polynomial ℕ)) (p : Presentation WordField WeightOrder ℕ) : Type 0 where
   pub field : p.field ≡ h.field
   pub names : p.names ≡ h.names
   pub order : p.order ≡ h.order
   pub ideal_is : p.ideal.items ≡ ideal
   pub generators_are : p.generators.items ≡ generators
   pub no_x : p.gen_order.x_degrees.items ≡ []
-  pub degrees : p.gen_order.s_degrees.items ≡ map (generator_degree (order_of h.order)) generators
+  pub degrees : p.gen_order.s_degrees.items ≡ map (generator_degree (weight_order_of h.order)) generators

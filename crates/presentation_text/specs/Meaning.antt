@@ -3,14 +3,14 @@ use Rattle.std.specs.Prelude.{◌≡◌, ℕ, List, [], ◌∷◌, Result, Ok, E
 use Rattle.word_field.specs.Field.{FieldOps}
 use Rattle.word_field.specs.Residues.{residues}
 use Rattle.word_field.specs.declared.WordField.{WordField}
-use Rattle.monomial_order.specs.declared.Term.{Term}
+use Rattle.monomial_order.specs.declared.terms.Term.{Term}
 use Rattle.monomial_order.specs.declared.weight_order.WeightOrder.{WeightOrder}
 use Rattle.monomial_order.specs.MonomialOrder.{MonomialOrder}
-use Rattle.poly_core.specs.Poly.{Same, IsKept}
-use Rattle.poly_core.specs.Presentation.{IsValid, order_of}
-use Rattle.poly_core.specs.declared.names.Names.{Names}
-use Rattle.poly_core.specs.declared.names.Names.TheVariants.{Listed}
-use Rattle.poly_core.specs.declared.presentation.Presentation.{Presentation}
+use Rattle.polynomials.specs.Polynomial.{Polynomial, Same, IsCanonical}
+use Rattle.poly_core.specs.Presentation.{IsValid, weight_order_of}
+use Rattle.poly_core.specs.declared.place_names.Names.{Names}
+use Rattle.poly_core.specs.declared.place_names.Names.TheVariants.{Listed}
+use Rattle.poly_core.specs.declared.presentations.Presentation.{Presentation}
 use Rattle.presentation_text.specs.declared.text_fault.TextFault.{TextFault}
 use Rattle.presentation_text.specs.declared.text_fault.TextFault.TheVariants as faults
 use Rattle.polynomial_text.specs.Results.{Fault}
@@ -22,11 +22,11 @@ abbrev pub text_max : ℕ
 text_max = 16777216
 
 -- each polynomial is kept in the order, and is the sum of its terms
-abbrev pub AreSums : {E : Type 0} → FieldOps E → MonomialOrder → List (List (Term E)) → List (List (Term E)) → Type 0
+abbrev pub AreSums : {E : Type 0} → FieldOps E → MonomialOrder → List (Polynomial E) → List (Polynomial E) → Type 0
 AreSums K O [] [] = Unit {0}
 AreSums K O [] (p ∷ ps) = ⊥
 AreSums K O (sum ∷ sums) [] = ⊥
-AreSums K O (sum ∷ sums) (p ∷ ps) = Same K p sum × IsKept K O p × AreSums K O sums ps
+AreSums K O (sum ∷ sums) (p ∷ ps) = Same K p sum × IsCanonical K O p × AreSums K O sums ps
 
 -- p is the presentation that the text presents
 pub record IsRead (text : List ℕ) (p : Presentation WordField WeightOrder ℕ) : Type 0 where
@@ -37,9 +37,9 @@ pub record IsRead (text : List ℕ) (p : Presentation WordField WeightOrder ℕ)
   pub weights : p.order.weights.items ≡ present.head.weights
   pub rows : p.order.rows.items ≡ present.head.rows
   pub tie : p.order.tie ≡ present.head.tie
-  pub ideal : AreSums (residues p.field.modulus) (order_of p.order) present.ideal p.ideal.items
-  pub generators : AreSums (residues p.field.modulus) (order_of p.order) present.generators p.generators.items
-  pub valid : IsValid (λ f. residues f.modulus) order_of p
+  pub ideal : AreSums (residues p.field.modulus) (weight_order_of p.order) present.ideal p.ideal.items
+  pub generators : AreSums (residues p.field.modulus) (weight_order_of p.order) present.generators p.generators.items
+  pub valid : IsValid (λ f. residues f.modulus) weight_order_of p
 
 -- the fault that a text has, unless memory runs out
 abbrev pub IsFaultOf : {A : Type 0} → Result A Fault → TextFault → Type 0
@@ -47,8 +47,8 @@ IsFaultOf read faults.Memory = Unit {0}
 IsFaultOf read (faults.At kind line) = read ≡ Err (kind, line)
 
 -- the polynomials are those of the due lines of a query file
-pub record AreQueries {E : Type 0} (K : FieldOps E) (O : MonomialOrder) (names : Names) (text : List ℕ) (ps : List (List (Term E))) : Type 0 where
-  pub sums : List (List (Term E))
+pub record AreQueries {E : Type 0} (K : FieldOps E) (O : MonomialOrder) (names : Names) (text : List ℕ) (ps : List (Polynomial E)) : Type 0 where
+  pub sums : List (Polynomial E)
   pub read : queries K O names text ≡ Ok sums
   pub polys : AreSums K O sums ps
 

@@ -3,11 +3,12 @@ use Rattle.std.specs.Prelude.{ℕ, List, [], ◌∷◌, ◌++◌, map, length, c
 use Rattle.std.specs.List.{flat_map}
 use Rattle.std.specs.Fmt.{decimal}
 use Rattle.word_field.specs.Field.{FieldOps}
-use Rattle.monomial_order.specs.declared.Term.{Term}
+use Rattle.monomial_order.specs.declared.terms.Term.{Term}
 use Rattle.monomial_order.specs.declared.tie_break.Tie.{Tie}
 use Rattle.monomial_order.specs.declared.tie_break.Tie.TheVariants.{Lex, RevLex}
-use Rattle.poly_core.specs.declared.names.Names.TheVariants.{Listed}
+use Rattle.poly_core.specs.declared.place_names.Names.TheVariants.{Listed}
 use Rattle.poly_core.specs.Text.{poly_text}
+use Rattle.polynomials.specs.Polynomial.{Polynomial}
 
 -- words with a space between them, and the end of the line
 abbrev pub line : List ℕ → List (List ℕ) → List ℕ
@@ -22,11 +23,11 @@ tie_word Lex = codes "lex"
 tie_word RevLex = codes "revlex"
 
 module _ {E : Type 0} (K : FieldOps E) (names : List (List ℕ)) where
-  abbrev pub poly_lines : List (List (Term E)) → List ℕ
+  abbrev pub poly_lines : List (Polynomial E) → List ℕ
   poly_lines ps = flat_map (λ p. line (poly_text K (Listed names) p) []) ps
 
   -- the text of the presentation with this field, these names, weights, rows, tie, ideal and generators
-  abbrev pub presentation_text : List ℕ → List (List ℕ) → Tie → List (List (Term E)) → List (List (Term E)) → List ℕ
+  abbrev pub presentation_text : List ℕ → List (List ℕ) → Tie → List (Polynomial E) → List (Polynomial E) → List ℕ
   presentation_text weights rows tie ideal generators =
       line (codes "subalgebra") (codes "1" ∷ []) ++ (line (codes "field") (decimal K.size ∷ []) ++
       (line (codes "vars") names ++ (line (codes "weights") (map decimal weights) ++

@@ -2,13 +2,13 @@
 use Rattle.std.specs.Prelude.{ℕ, zero, suc, List, [], ◌∷◌, length, Result, Ok, Err, codes}
 use Rattle.word_field.specs.Field.{FieldOps}
 use Rattle.word_field.specs.Residues.{residues}
-use Rattle.monomial_order.specs.declared.Term.{Term}
+use Rattle.monomial_order.specs.declared.terms.Term.{Term}
 use Rattle.monomial_order.specs.declared.tie_break.Tie.{Tie}
 use Rattle.monomial_order.specs.MonomialOrder.{MonomialOrder}
 use Rattle.monomial_order.specs.Orders.{weight_order}
 use Rattle.monomial_order.specs.Ties.{tie_order}
-use Rattle.poly_core.specs.declared.names.Names.{Names}
-use Rattle.poly_core.specs.declared.names.Names.TheVariants.{Listed}
+use Rattle.poly_core.specs.declared.place_names.Names.{Names}
+use Rattle.poly_core.specs.declared.place_names.Names.TheVariants.{Listed}
 use Rattle.polynomial_text.specs.declared.text_kind.TextKind.{TextKind}
 use Rattle.polynomial_text.specs.declared.text_kind.TextKind.TheVariants.{UnitIdeal, ConstantGenerator, Truncated, TextAfterEnd}
 use Rattle.polynomial_text.specs.Results.{Fault, ◌>>=◌, each}
@@ -16,6 +16,7 @@ use Rattle.presentation_text.specs.Lines.{due, end_line}
 use Rattle.polynomial_text.specs.PolyLine.{terms_of}
 use Rattle.presentation_text.specs.Judging.{judged}
 use Rattle.presentation_text.specs.Heading.{header_line, field_line, vars_line, weights_line, order_line, count_line, closing_line}
+use Rattle.polynomials.specs.Polynomial.{Polynomial}
 
 -- a numbered line
 abbrev pub Line : Type 0
@@ -63,11 +64,11 @@ head last ls = do
   Ok (record { size = size.0; names = names.0; weights = weights.0; rows = order.0.0; tie = order.0.1 }, order.1)
 
 -- a polynomial that is zero or homogeneous of a positive degree, as the sum of the terms of its line
-unfoldable pub poly_line : Head → TextKind → List ℕ → Result (List (Term ℕ)) TextKind
+unfoldable pub poly_line : Head → TextKind → List ℕ → Result (Polynomial ℕ) TextKind
 poly_line h constant line = terms_of (residues h.size) (order_of_head h) (Listed h.names) line >>= judged h.size (order_of_head h) constant
 
 -- as many polynomials as the number behind the word says
-unfoldable pub counted : ℕ → Head → List ℕ → TextKind → List Line → Result (List (List (Term ℕ)) × List Line) Fault
+unfoldable pub counted : ℕ → Head → List ℕ → TextKind → List Line → Result (List (Polynomial ℕ) × List Line) Fault
 counted last h key constant ls = do
   count ← next last (count_line key) ls
   several last (poly_line h constant) count.0 count.1
@@ -83,8 +84,8 @@ ended last ls = next last closing_line ls >>= λ x. nothing x.1
 -- what a text presents; each polynomial is the sum of the terms of its line
 pub record Reading : Type 0 where
   pub head : Head
-  pub ideal : List (List (Term ℕ))
-  pub generators : List (List (Term ℕ))
+  pub ideal : List (Polynomial ℕ)
+  pub generators : List (Polynomial ℕ)
 
 unfoldable pub reading_of : ℕ → List Line → Result Reading Fault
 reading_of last ls = do
@@ -98,5 +99,5 @@ abbrev pub reading : List ℕ → Result Reading Fault
 reading text = reading_of (end_line text) (due text)
 
 -- the polynomials of a query file, one on each due line, each as the sum of the terms of its line
-abbrev pub queries : {E : Type 0} → FieldOps E → MonomialOrder → Names → List ℕ → Result (List (List (Term E))) Fault
+abbrev pub queries : {E : Type 0} → FieldOps E → MonomialOrder → Names → List ℕ → Result (List (Polynomial E)) Fault
 queries K O names text = each (at_line (terms_of K O names)) (due text)

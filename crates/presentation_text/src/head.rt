@@ -1,6 +1,6 @@
 //! What the first lines of a presentation say.
 use monomial_order::WeightOrder;
-use poly_core::names::Names;
+use poly_core::Names;
 use word_field::WordField;
 
 /// The field, the names and the order.

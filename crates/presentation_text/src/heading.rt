@@ -15,7 +15,7 @@ ghost use Rattle.presentation_text.specs.Taking.{number_first, numbers_first, wi
 use crate::numbers::{number, number_within};
 use crate::words::Words;
 use monomial_order::{Row, Tie};
-use poly_core::names::NameTable;
+use poly_core::NameTable;
 use polynomial_text::line_bytes::{is_letter, is_name_byte};
 use polynomial_text::line_fault::LineFault;
 use polynomial_text::text_kind::TextKind;

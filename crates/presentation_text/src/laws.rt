@@ -1,7 +1,7 @@
 //! Laws of texts and of what they present: contracts of calls that do nothing, and of one that reads what it writes.
 ghost use Rattle.std.specs.Prelude.{◌≡◌, ◌<◌, ℕ, List, length, None, Ok, Err, IfSome, IfOk};
 ghost use Rattle.word_field.specs.Residues.{residues};
-ghost use Rattle.poly_core.specs.Presentation.{IsValid, IsSame, order_of};
+ghost use Rattle.poly_core.specs.Presentation.{IsValid, IsSame, weight_order_of};
 ghost use Rattle.polynomial_text.specs.Results.{Fault};
 ghost use Rattle.presentation_text.specs.Reading.{reading};
 ghost use Rattle.presentation_text.specs.Meaning.{text_max, IsRead, IsTextOf};
@@ -10,7 +10,7 @@ use crate::reading::read;
 use crate::text_fault::TextFault;
 use crate::writing::write;
 use monomial_order::{Memory, WeightOrder};
-use poly_core::presentation::Presentation;
+use poly_core::Presentation;
 use std::alloc::Global;
 use word_field::WordField;
 
@@ -18,7 +18,7 @@ const TEXT_MAX: usize = 16_777_216;
 
 /// The canonical text of a presentation presents it.
 pub fn text_is_read()
-    ensures { (p : Presentation WordField WeightOrder ℕ) (text : List ℕ) → IsValid (λ f. residues f.modulus) order_of p →
+    ensures { (p : Presentation WordField WeightOrder ℕ) (text : List ℕ) → IsValid (λ f. residues f.modulus) weight_order_of p →
         IsTextOf (λ f. residues f.modulus) p text → IsRead text p }
 {}
 
@@ -34,20 +34,20 @@ pub fn one_outcome()
 
 /// What is read of the canonical text of a presentation is that presentation.
 pub fn read_back()
-    ensures { (p q : Presentation WordField WeightOrder ℕ) (text : List ℕ) → IsValid (λ f. residues f.modulus) order_of p →
+    ensures { (p q : Presentation WordField WeightOrder ℕ) (text : List ℕ) → IsValid (λ f. residues f.modulus) weight_order_of p →
         IsTextOf (λ f. residues f.modulus) p text → IsRead text q → IsSame p q }
 {}
 
 /// The canonical text of a presentation has no fault.
 pub fn text_has_no_fault()
-    ensures { (p : Presentation WordField WeightOrder ℕ) (text : List ℕ) (fault : Fault) → IsValid (λ f. residues f.modulus) order_of p →
+    ensures { (p : Presentation WordField WeightOrder ℕ) (text : List ℕ) (fault : Fault) → IsValid (λ f. residues f.modulus) weight_order_of p →
         IsTextOf (λ f. residues f.modulus) p text → reading text ≡ Err fault → ⊥ }
 {}
 
 /// Presentations with the same canonical text are the same.
 pub fn one_text()
-    ensures { (p q : Presentation WordField WeightOrder ℕ) (text : List ℕ) → IsValid (λ f. residues f.modulus) order_of p →
-        IsValid (λ f. residues f.modulus) order_of q → IsTextOf (λ f. residues f.modulus) p text → IsTextOf (λ f. residues f.modulus) q text → IsSame p q }
+    ensures { (p q : Presentation WordField WeightOrder ℕ) (text : List ℕ) → IsValid (λ f. residues f.modulus) weight_order_of p →
+        IsValid (λ f. residues f.modulus) weight_order_of q → IsTextOf (λ f. residues f.modulus) p text → IsTextOf (λ f. residues f.modulus) q text → IsSame p q }
 {}
 
 /// What is read of what is written: the presentation itself, or None where its text is too long to be read.
@@ -55,7 +55,7 @@ pub fn read_written(
     alloc: Global,
     p: &Presentation<WordField, WeightOrder>,
 ) -> Result<Option<Presentation<WordField, WeightOrder>>, Memory>
-    requires { IsValid (λ f. residues f.modulus) order_of p.now }
+    requires { IsValid (λ f. residues f.modulus) weight_order_of p.now }
     ensures same { IfOk result (λ r. IfSome r (IsSame p.now)) }
     ensures none { result ≡ Ok None → (text : List ℕ) → IsTextOf (λ f. residues f.modulus) p.now text → text_max < length text }
 {

@@ -11,7 +11,7 @@ use crate::lines::Lines;
 use crate::located::{due_line, located};
 use crate::text_fault::TextFault;
 use monomial_order::{Memory, Row, Tie, WeightOrder};
-use poly_core::names::{NameTable, Names};
+use poly_core::{NameTable, Names};
 use std::alloc::Global;
 use word_field::WordField;
 

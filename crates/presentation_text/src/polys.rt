@@ -1,10 +1,10 @@
 //! The polynomials of a presentation.
 ghost use Rattle.std.specs.Prelude.{◌≡◌, ℕ, ◌≤◌, List, length, Ok, IfOk, IfErr};
 ghost use Rattle.word_field.specs.Residues.{residues};
-ghost use Rattle.monomial_order.specs.declared.Term.{Term};
+ghost use Rattle.monomial_order.specs.declared.terms.Term.{Term};
 ghost use Rattle.poly_core.specs.Names.{AreNames};
-ghost use Rattle.poly_core.specs.Poly.{IsKept};
-ghost use Rattle.poly_core.specs.Presentation.{IsKeptGenerator, order_of};
+ghost use Rattle.polynomials.specs.Polynomial.{Polynomial, IsCanonical};
+ghost use Rattle.poly_core.specs.Presentation.{IsCanonicalGenerator, weight_order_of};
 ghost use Rattle.presentation_text.specs.Giving.{Gives, head_of};
 ghost use Rattle.presentation_text.specs.Heading.{count_line};
 ghost use Rattle.presentation_text.specs.Judging.{judged};
@@ -18,7 +18,7 @@ use crate::heading::count_line;
 use crate::lines::Lines;
 use crate::located::{due_line, located};
 use crate::text_fault::TextFault;
-use poly_core::poly::Poly;
+use poly_core::Poly;
 use polynomial_text::line_fault::LineFault;
 use polynomial_text::poly_line::read_poly;
 use polynomial_text::text_kind::TextKind;
@@ -27,10 +27,10 @@ use word_field::WordField;
 
 /// Whether a polynomial is zero or homogeneous of a positive degree; else the fault, of which one is for a constant.
 fn judge(h: &Head, constant: TextKind, p: &Poly<WordField>) -> Result<(), LineFault>
-    requires kept { IsKept (residues h.now.field.modulus) (order_of h.now.order) p.now }
-    ensures accepted { IfOk result (λ _. (sum : List (Term ℕ)) → IsSumOf (residues h.now.field.modulus) (order_of h.now.order) p.now sum → judged h.now.field.modulus (order_of h.now.order) constant sum ≡ Ok sum) }
-    ensures generator { IfOk result (λ _. (sum : List (Term ℕ)) → IsSumOf (residues h.now.field.modulus) (order_of h.now.order) p.now sum → IsKeptGenerator (residues h.now.field.modulus) (order_of h.now.order) p.now) }
-    ensures fault { IfErr result (λ e. (sum : List (Term ℕ)) → IsSumOf (residues h.now.field.modulus) (order_of h.now.order) p.now sum → IsLineFaultOf (judged h.now.field.modulus (order_of h.now.order) constant sum) e) }
+    requires kept { IsCanonical (residues h.now.field.modulus) (weight_order_of h.now.order) p.now }
+    ensures accepted { IfOk result (λ _. (sum : Polynomial ℕ) → IsSumOf (residues h.now.field.modulus) (weight_order_of h.now.order) p.now sum → judged h.now.field.modulus (weight_order_of h.now.order) constant sum ≡ Ok sum) }
+    ensures generator { IfOk result (λ _. (sum : Polynomial ℕ) → IsSumOf (residues h.now.field.modulus) (weight_order_of h.now.order) p.now sum → IsCanonicalGenerator (residues h.now.field.modulus) (weight_order_of h.now.order) p.now) }
+    ensures fault { IfErr result (λ e. (sum : Polynomial ℕ) → IsSumOf (residues h.now.field.modulus) (weight_order_of h.now.order) p.now sum → IsLineFaultOf (judged h.now.field.modulus (weight_order_of h.now.order) constant sum) e) }
 {
     if !Poly::is_homogeneous(&h.order, p) {
         return Err(LineFault::Kind(TextKind::NotHomogeneous));
@@ -52,7 +52,7 @@ fn poly_line(
     line: &[u8],
 ) -> Result<Poly<WordField>, LineFault>
     requires { AreNames (length h.now.order.weights.items) h.now.names }
-    ensures read { IfOk result (IsSumIn (residues h.now.field.modulus) (order_of h.now.order) (λ sum. poly_line (head_of h.now) constant line.now ≡ Ok sum)) }
+    ensures read { IfOk result (IsSumIn (residues h.now.field.modulus) (weight_order_of h.now.order) (λ sum. poly_line (head_of h.now) constant line.now ≡ Ok sum)) }
     ensures fault { IfErr result (IsLineFaultOf (poly_line (head_of h.now) constant line.now)) }
 {
     let p = read_poly(alloc, &h.field, &h.order, &h.names, line)?;
@@ -69,7 +69,7 @@ fn next_poly(
 ) -> Result<Poly<WordField>, TextFault>
     requires { AreNames (length h.now.order.weights.items) h.now.names }
     ensures missing { lines.new.missing ≡ lines.old.missing }
-    ensures read { IfOk result (IsSumIn (residues h.now.field.modulus) (order_of h.now.order) (λ sum. next lines.old.missing (poly_line (head_of h.now) constant) lines.old.due ≡ Ok (sum, lines.new.due))) }
+    ensures read { IfOk result (IsSumIn (residues h.now.field.modulus) (weight_order_of h.now.order) (λ sum. next lines.old.missing (poly_line (head_of h.now) constant) lines.old.due ≡ Ok (sum, lines.new.due))) }
     ensures fault { IfErr result (IsFaultOf (next lines.old.missing (poly_line (head_of h.now) constant) lines.old.due)) }
 {
     let line = due_line(lines)?;
@@ -87,7 +87,7 @@ fn several(
     requires named { AreNames (length h.now.order.weights.items) h.now.names }
     requires few { count ≤ 256 }
     ensures missing { lines.new.missing ≡ lines.old.missing }
-    ensures read { IfOk result (λ v. AreSumsIn (residues h.now.field.modulus) (order_of h.now.order) (λ sums. several lines.old.missing (poly_line (head_of h.now) constant) count lines.old.due ≡ Ok (sums, lines.new.due)) v.items) }
+    ensures read { IfOk result (λ v. AreSumsIn (residues h.now.field.modulus) (weight_order_of h.now.order) (λ sums. several lines.old.missing (poly_line (head_of h.now) constant) count lines.old.due ≡ Ok (sums, lines.new.due)) v.items) }
     ensures fault { IfErr result (IsFaultOf (several lines.old.missing (poly_line (head_of h.now) constant) count lines.old.due)) }
 {
     let mut polys = Vec::new(alloc);
@@ -116,7 +116,7 @@ pub(crate) fn counted(
 ) -> Result<Vec<Poly<WordField>>, TextFault>
     requires { AreNames (length h.now.order.weights.items) h.now.names }
     ensures missing { lines.new.missing ≡ lines.old.missing }
-    ensures read { IfOk result (λ v. AreSumsIn (residues h.now.field.modulus) (order_of h.now.order) (λ sums. counted lines.old.missing (head_of h.now) key.now constant lines.old.due ≡ Ok (sums, lines.new.due)) v.items) }
+    ensures read { IfOk result (λ v. AreSumsIn (residues h.now.field.modulus) (weight_order_of h.now.order) (λ sums. counted lines.old.missing (head_of h.now) key.now constant lines.old.due ≡ Ok (sums, lines.new.due)) v.items) }
     ensures fault { IfErr result (IsFaultOf (counted lines.old.missing (head_of h.now) key.now constant lines.old.due)) }
 {
     let n = count(key, lines)?;

@@ -1,6 +1,6 @@
 //! Reading query files.
 ghost use Rattle.std.specs.Prelude.{◌≤◌, IfOk, IfErr, length};
-ghost use Rattle.poly_core.specs.Presentation.{IsValid, order_of};
+ghost use Rattle.poly_core.specs.Presentation.{IsValid, weight_order_of};
 ghost use Rattle.presentation_text.specs.Meaning.{text_max, AreQueries, IsFaultOf};
 ghost use Rattle.presentation_text.specs.Reading.{queries};
 
@@ -8,8 +8,8 @@ use crate::lines::Lines;
 use crate::located::located;
 use crate::text_fault::TextFault;
 use monomial_order::WeightOrder;
-use poly_core::poly::Poly;
-use poly_core::presentation::Presentation;
+use poly_core::Poly;
+use poly_core::Presentation;
 use polynomial_text::poly_line::read_poly;
 use std::alloc::Global;
 use word_field::Field;
@@ -20,10 +20,10 @@ pub fn read_polys<F: Field>(
     p: &Presentation<F, WeightOrder>,
     bytes: &[u8],
 ) -> Result<Vec<Poly<F>>, TextFault>
-    requires valid { IsValid F.ops order_of p.now }
+    requires valid { IsValid F.ops weight_order_of p.now }
     requires short { length bytes.now ≤ text_max }
-    ensures accepted { IfOk result (λ polys. AreQueries (F.ops p.now.field) (order_of p.now.order) p.now.names bytes.now polys.items) }
-    ensures refused { IfErr result (IsFaultOf (queries (F.ops p.now.field) (order_of p.now.order) p.now.names bytes.now)) }
+    ensures accepted { IfOk result (λ polys. AreQueries (F.ops p.now.field) (weight_order_of p.now.order) p.now.names bytes.now polys.items) }
+    ensures refused { IfErr result (IsFaultOf (queries (F.ops p.now.field) (weight_order_of p.now.order) p.now.names bytes.now)) }
 {
     let mut lines = Lines::new(bytes);
     let mut polys = Vec::new(alloc);

@@ -2,7 +2,7 @@
 ghost use Rattle.std.specs.Prelude.{◌≡◌, ◌≤◌, [], length, map, Ok, IfOk, IfErr};
 ghost use Rattle.word_field.specs.Residues.{residues};
 ghost use Rattle.poly_core.specs.Names.{AreNames};
-ghost use Rattle.poly_core.specs.Presentation.{IsKeptGenerator, AreKeptGenerators, generator_degree, order_of};
+ghost use Rattle.poly_core.specs.Presentation.{IsCanonicalGenerator, AreCanonicalGenerators, generator_degree, weight_order_of};
 ghost use Rattle.presentation_text.specs.Giving.{Gives, head_of};
 ghost use Rattle.presentation_text.specs.Heading.{closing_line};
 ghost use Rattle.presentation_text.specs.KeptSums.{AreListsIn, IsMadeOf, lists};
@@ -17,8 +17,8 @@ use crate::opening::read_head;
 use crate::polys::counted;
 use crate::text_fault::TextFault;
 use monomial_order::{Memory, Order, WeightOrder, WordOrder};
-use poly_core::poly::Poly;
-use poly_core::presentation::Presentation;
+use poly_core::Poly;
+use poly_core::Presentation;
 use polynomial_text::text_kind::TextKind;
 use std::alloc::Global;
 use word_field::WordField;
@@ -48,8 +48,8 @@ fn ended(lines: &mut Lines) -> Result<(), TextFault>
 
 /// The degree of the letter of a generator.
 fn generator_degree(h: &Head, p: &Poly<WordField>) -> u32
-    requires { IsKeptGenerator (residues h.now.field.modulus) (order_of h.now.order) p.now }
-    ensures degree { result ≡ generator_degree (order_of h.now.order) p.now }
+    requires { IsCanonicalGenerator (residues h.now.field.modulus) (weight_order_of h.now.order) p.now }
+    ensures degree { result ≡ generator_degree (weight_order_of h.now.order) p.now }
     ensures positive { 1 ≤ result }
     ensures small { result ≤ 30000 }
 {
@@ -61,9 +61,9 @@ fn generator_degree(h: &Head, p: &Poly<WordField>) -> u32
 
 /// The order of the words in the generators.
 fn gen_order(alloc: Global, h: &Head, generators: &[Poly<WordField>]) -> Result<WordOrder, Memory>
-    requires { AreKeptGenerators (residues h.now.field.modulus) (order_of h.now.order) generators.now }
+    requires { AreCanonicalGenerators (residues h.now.field.modulus) (weight_order_of h.now.order) generators.now }
     ensures x { IfOk result (λ o. o.x_degrees.items ≡ []) }
-    ensures s { IfOk result (λ o. o.s_degrees.items ≡ map (generator_degree (order_of h.now.order)) generators.now) }
+    ensures s { IfOk result (λ o. o.s_degrees.items ≡ map (generator_degree (weight_order_of h.now.order)) generators.now) }
 {
     let mut order = WordOrder::new(alloc, &[])?;
     for p in generators {
@@ -79,7 +79,7 @@ fn lists(
     lines: &mut Lines,
 ) -> Result<(Vec<Poly<WordField>>, Vec<Poly<WordField>>), TextFault>
     requires { AreNames (length h.now.order.weights.items) h.now.names }
-    ensures read { IfOk result (λ x. AreListsIn (residues h.now.field.modulus) (order_of h.now.order) (λ sums. lists lines.old.missing (head_of h.now) lines.old.due ≡ Ok sums) x.0.items x.1.items) }
+    ensures read { IfOk result (λ x. AreListsIn (residues h.now.field.modulus) (weight_order_of h.now.order) (λ sums. lists lines.old.missing (head_of h.now) lines.old.due ≡ Ok sums) x.0.items x.1.items) }
     ensures fault { IfErr result (IsFaultOf (lists lines.old.missing (head_of h.now) lines.old.due)) }
 {
     let ideal = counted(alloc, h, b"ideal", TextKind::UnitIdeal, lines)?;
@@ -95,7 +95,7 @@ fn presentation(
     ideal: Vec<Poly<WordField>>,
     generators: Vec<Poly<WordField>>,
 ) -> Result<Presentation<WordField, WeightOrder>, Memory>
-    requires { AreKeptGenerators (residues head.field.modulus) (order_of head.order) generators.items }
+    requires { AreCanonicalGenerators (residues head.field.modulus) (weight_order_of head.order) generators.items }
     ensures { IfOk result (IsMadeOf head ideal.items generators.items) }
 {
     let gen_order = gen_order(alloc, &head, generators.as_slice())?;

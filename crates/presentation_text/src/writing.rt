@@ -1,15 +1,15 @@
 //! Writing presentations.
 ghost use Rattle.std.specs.Prelude.{◌≡◌, ◌++◌, [], ◌∷◌, map, length, flat_map, All, IfOk, OnOk, codes};
 ghost use Rattle.std.specs.Fmt.{decimal};
-ghost use Rattle.poly_core.specs.Presentation.{IsValid, order_of};
+ghost use Rattle.poly_core.specs.Presentation.{IsValid, weight_order_of};
 ghost use Rattle.poly_core.specs.Text.{poly_text, AreValues, AreNamed};
 ghost use Rattle.presentation_text.specs.Meaning.{IsTextOf};
 ghost use Rattle.presentation_text.specs.PresentationText.{line, row_words, tie_word};
 
 use monomial_order::{Memory, Row, Tie, WeightOrder};
-use poly_core::names::{NameTable, Names};
-use poly_core::poly::Poly;
-use poly_core::presentation::Presentation;
+use poly_core::{NameTable, Names};
+use poly_core::Poly;
+use poly_core::Presentation;
 use std::alloc::Global;
 use word_field::Field;
 
@@ -165,7 +165,7 @@ fn push_list<F: Field>(
 
 /// The canonical text of a presentation.
 pub fn write<F: Field>(alloc: Global, p: &Presentation<F, WeightOrder>) -> Result<Vec<u8>, Memory>
-    requires { IsValid F.ops order_of p.now }
+    requires { IsValid F.ops weight_order_of p.now }
     ensures { IfOk result (λ text. IsTextOf F.ops p.now text.items) }
 {
     let Names::Listed(table) = &p.names else {

@@ -3,33 +3,33 @@ use Rattle.std.proofs.Common.{◌≡◌, ◌≢◌, ℕ, zero, suc, ◌+◌, ◌
 use Rattle.std.specs.Prelude.{map, Contains}
 use Rattle.std.specs.declared.cmp.Ordering.TheVariants.{Less, Equal, Greater}
 use Rattle.word_field.specs.Field.{FieldOps, IsField, IsValue}
-use Rattle.monomial_order.specs.declared.Term.{Term}
+use Rattle.monomial_order.specs.declared.terms.Term.{Term}
 use Rattle.monomial_order.specs.Monomial.{product, IsMonomial}
 use Rattle.monomial_order.specs.MonomialOrder.{MonomialOrder, IsMonomialOrder}
-use Rattle.monomial_order.specs.MonomialLaws.{product_assoc, IsMonomial-product}
-use Rattle.poly_core.specs.Poly.{coefficient, Same, term_of, term_times, times, scaled, negated, minus, IsTerm, lead}
-use Rattle.poly_core.specs.Ideal.{InIdeal}
-use Rattle.poly_core.specs.RingLaws.{term_times_assoc}
-use Rattle.poly_core.specs.SameLaws.{times_same, append_same}
-use Rattle.poly_core.specs.FallingLaws.{greater_less}
-use Rattle.poly_core.specs.CongruenceLaws.{negated_is}
-use Rattle.poly_core.specs.IdealLaws.{InIdeal_same, InIdeal_zero, InIdeal_plus, InIdeal_times}
+use Rattle.monomial_order.specs.laws.Monomial.{product_assoc, IsMonomial-product}
+use Rattle.polynomials.specs.Polynomial.{Polynomial, coefficient, Same, term_of, term_times, times, scaled, negated, minus, IsTerm, lead_monomial}
+use Rattle.polynomials.specs.Ideal.{InIdeal}
+use Rattle.polynomials.specs.laws.Ring.{term_times_assoc}
+use Rattle.polynomials.specs.laws.Same.{times_same, append_same}
+use Rattle.polynomials.specs.laws.Decreasing.{greater_less}
+use Rattle.polynomials.specs.laws.Congruence.{negated_is}
+use Rattle.polynomials.specs.laws.Ideal.{InIdeal_same, InIdeal_zero, InIdeal_plus, InIdeal_times}
 use Rattle.quotient_gb.specs.Combinations.{AtMost, Step, sum_of_steps, AreSteps, Combines}
 
 module _ {E : Type 0} (K : FieldOps E) (F : IsField K) where
-  pub scaled-append : (t : Term E) (p q : List (Term E)) → scaled K t (p ++ q) ≡ scaled K t p ++ scaled K t q
+  pub scaled-append : (t : Term E) (p q : Polynomial E) → scaled K t (p ++ q) ≡ scaled K t p ++ scaled K t q
   scaled-append t [] q = refl
   scaled-append t (u ∷ p) q = ap (λ x. term_times K t u ∷ x) (scaled-append t p q)
 
-  pub scaled_scaled : (t u : Term E) (p : List (Term E)) → scaled K t (scaled K u p) ≡ scaled K (term_times K t u) p
+  pub scaled_scaled : (t u : Term E) (p : Polynomial E) → scaled K t (scaled K u p) ≡ scaled K (term_times K t u) p
   scaled_scaled t u [] = refl
   scaled_scaled t u (x ∷ p) = ap (λ y. y ∷ scaled K t (scaled K u p)) (sym (term_times_assoc K F t u x)) ∙ ap (λ y. term_times K (term_times K t u) x ∷ y) (scaled_scaled t u p)
 
   -- a term times a polynomial is a product
-  pub scaled_is : (t : Term E) (p : List (Term E)) → times K (t ∷ []) p ≡ scaled K t p
+  pub scaled_is : (t : Term E) (p : Polynomial E) → times K (t ∷ []) p ≡ scaled K t p
   scaled_is t p = append-nil (scaled K t p)
 
-  pub scaled_same : (t : Term E) (p q : List (Term E)) → Same K p q → Same K (scaled K t p) (scaled K t q)
+  pub scaled_same : (t : Term E) (p q : Polynomial E) → Same K p q → Same K (scaled K t p) (scaled K t q)
   scaled_same t p q h m =
       ap (λ x. coefficient K x m) (sym (scaled_is t p)) ∙ (times_same K F (t ∷ []) (t ∷ []) p q (λ n. refl) h m ∙ ap (λ x. coefficient K x m) (scaled_is t q))
 
@@ -53,8 +53,8 @@ module _ {E : Type 0} (K : FieldOps E) (F : IsField K) where
       scaled-append t (scaled K s.term s.of) (sum_of_steps K ss) ∙
       (ap (λ x. x ++ scaled K t (sum_of_steps K ss)) (scaled_scaled t s.term s.of) ∙ ap (λ x. scaled K (term_times K t s.term) s.of ++ x) (sum_of_steps-scaled t ss))
 
-  module _ (O : MonomialOrder) (L : IsMonomialOrder O) (G : List (List (Term E))) where
-    pub combines_same : (B : List ℕ → Type 0) (a b : List (Term E)) → Same K a b → Combines K O G B a → Combines K O G B b
+  module _ (O : MonomialOrder) (L : IsMonomialOrder O) (G : List (Polynomial E)) where
+    pub combines_same : (B : List ℕ → Type 0) (a b : Polynomial E) → Same K a b → Combines K O G B a → Combines K O G B b
     combines_same B a b e h = record { steps = h.steps; are = h.are; sums = λ m. sym (e m) ∙ h.sums m }
 
     pub combines_zero : (B : List ℕ → Type 0) → Combines K O G B []
@@ -64,7 +64,7 @@ module _ {E : Type 0} (K : FieldOps E) (F : IsField K) where
     are_append B [] w h k = k
     are_append B (s ∷ v) w h k = (h.0, h.1, h.2, are_append B v w h.3 k)
 
-    pub combines_plus : (B : List ℕ → Type 0) (a b : List (Term E)) → Combines K O G B a → Combines K O G B b → Combines K O G B (a ++ b)
+    pub combines_plus : (B : List ℕ → Type 0) (a b : Polynomial E) → Combines K O G B a → Combines K O G B b → Combines K O G B (a ++ b)
     combines_plus B a b h k = record {
       steps = h.steps ++ k.steps;
       are = are_append B h.steps k.steps h.are k.are;
@@ -72,18 +72,18 @@ module _ {E : Type 0} (K : FieldOps E) (F : IsField K) where
     }
 
     -- one term times a member
-    pub combines_one : (B : List ℕ → Type 0) (t : Term E) (g : List (Term E)) → IsTerm K O.places t → Contains G g → B (product t.at (lead g)) → Combines K O G B (scaled K t g)
+    pub combines_one : (B : List ℕ → Type 0) (t : Term E) (g : Polynomial E) → IsTerm K O.places t → Contains G g → B (product t.at (lead_monomial g)) → Combines K O G B (scaled K t g)
     combines_one B t g ht hg b = record { steps = record { term = t; of = g } ∷ []; are = (ht, hg, b, tt); sums = λ m. ap (λ x. coefficient K x m) (sym (append-nil (scaled K t g))) }
 
-    module _ (HG : (g : List (Term E)) → Contains G g → IsMonomial O.places (lead g)) where
-      pub combines_weaken : (B C : List ℕ → Type 0) (a : List (Term E)) → ((m : List ℕ) → IsMonomial O.places m → B m → C m) → Combines K O G B a → Combines K O G C a
+    module _ (HG : (g : Polynomial E) → Contains G g → IsMonomial O.places (lead_monomial g)) where
+      pub combines_weaken : (B C : List ℕ → Type 0) (a : Polynomial E) → ((m : List ℕ) → IsMonomial O.places m → B m → C m) → Combines K O G B a → Combines K O G C a
       combines_weaken B C a w h = record { steps = h.steps; are = all h.steps h.are; sums = h.sums }
         where
           all : (ss : List (Step E)) → AreSteps K O G B ss → AreSteps K O G C ss
           all [] k = tt
-          all (s ∷ ss) k = (k.0, k.1, w (product s.term.at (lead s.of)) (IsMonomial-product O.places s.term.at (lead s.of) k.0.monomial (HG s.of k.1)) k.2, all ss k.3)
+          all (s ∷ ss) k = (k.0, k.1, w (product s.term.at (lead_monomial s.of)) (IsMonomial-product O.places s.term.at (lead_monomial s.of) k.0.monomial (HG s.of k.1)) k.2, all ss k.3)
 
-      pub combines_scaled : (B C : List ℕ → Type 0) (t : Term E) (a : List (Term E)) → IsTerm K O.places t → ((m : List ℕ) → IsMonomial O.places m → B m → C (product t.at m)) →
+      pub combines_scaled : (B C : List ℕ → Type 0) (t : Term E) (a : Polynomial E) → IsTerm K O.places t → ((m : List ℕ) → IsMonomial O.places m → B m → C (product t.at m)) →
           Combines K O G B a → Combines K O G C (scaled K t a)
       combines_scaled B C t a ht w h = record {
         steps = map (step_times t) h.steps;
@@ -96,25 +96,25 @@ module _ {E : Type 0} (K : FieldOps E) (F : IsField K) where
           all (s ∷ ss) k = (
             IsTerm-times O.places t s.term ht k.0,
             k.1,
-            subst C (sym (product_assoc t.at s.term.at (lead s.of)))
-                (w (product s.term.at (lead s.of)) (IsMonomial-product O.places s.term.at (lead s.of) k.0.monomial (HG s.of k.1)) k.2),
+            subst C (sym (product_assoc t.at s.term.at (lead_monomial s.of)))
+                (w (product s.term.at (lead_monomial s.of)) (IsMonomial-product O.places s.term.at (lead_monomial s.of) k.0.monomial (HG s.of k.1)) k.2),
             all ss k.3,
           )
 
-      pub combines_constant : (B : List ℕ → Type 0) (c : E) (a : List (Term E)) → IsValue K c → Combines K O G B a → Combines K O G B (scaled K (term_of [] c) a)
+      pub combines_constant : (B : List ℕ → Type 0) (c : E) (a : Polynomial E) → IsValue K c → Combines K O G B a → Combines K O G B (scaled K (term_of [] c) a)
       combines_constant B c a v h = combines_scaled B B (term_of [] c) a (IsTerm_constant O.places c v) (λ m k b. b) h
 
-      pub combines_negated : (B : List ℕ → Type 0) (a : List (Term E)) → Combines K O G B a → Combines K O G B (negated K a)
+      pub combines_negated : (B : List ℕ → Type 0) (a : Polynomial E) → Combines K O G B a → Combines K O G B (negated K a)
       combines_negated B a h =
           combines_same B (scaled K (term_of [] (K.negate K.one)) a) (negated K a)
           (λ m. ap (λ x. coefficient K x m) (sym (scaled_is (term_of [] (K.negate K.one)) a)) ∙ sym (negated_is K F a m))
           (combines_constant B (K.negate K.one) a (F.negate_value K.one) h)
 
-      pub combines_minus : (B : List ℕ → Type 0) (a b : List (Term E)) → Combines K O G B a → Combines K O G B b → Combines K O G B (minus K a b)
+      pub combines_minus : (B : List ℕ → Type 0) (a b : Polynomial E) → Combines K O G B a → Combines K O G B b → Combines K O G B (minus K a b)
       combines_minus B a b h k = combines_plus B a (negated K b) h (combines_negated B b k)
 
       -- a combination is empty, or one of its products is the greatest
-      pub record HasTop (B : List ℕ → Type 0) (a : List (Term E)) (M : List ℕ) : Type 0 where
+      pub record HasTop (B : List ℕ → Type 0) (a : Polynomial E) (M : List ℕ) : Type 0 where
         pub monomial : IsMonomial O.places M
         pub bound : B M
         pub combines : Combines K O G (AtMost O M) a
@@ -122,7 +122,7 @@ module _ {E : Type 0} (K : FieldOps E) (F : IsField K) where
       at_most_less : (M N m : List ℕ) → O.compare M N ≡ Less → AtMost O M m → AtMost O N m
       at_most_less M N m lt h = inr (⊎_elim (λ e. subst (λ x. O.compare x N ≡ Less) (sym e) lt) (λ l. L.total.trans m M N l lt) h)
 
-      pub top : (B : List ℕ → Type 0) (a : List (Term E)) → Combines K O G B a → Same K a [] ⊎ ((M : List ℕ) × HasTop B a M)
+      pub top : (B : List ℕ → Type 0) (a : Polynomial E) → Combines K O G B a → Same K a [] ⊎ ((M : List ℕ) × HasTop B a M)
       top B a h =
           ⊎_elim (λ e. inl (λ m. h.sums m ∙ ap (λ x. coefficient K x m) e))
           (λ r. inr (r.0, record { monomial = r.1.monomial; bound = r.1.bound; combines = combines_same (AtMost O r.0) (sum_of_steps K h.steps) a (λ m. sym (h.sums m)) r.1.combines }))
@@ -133,13 +133,13 @@ module _ {E : Type 0} (K : FieldOps E) (F : IsField K) where
           go (s ∷ ss) k = inr (⊎_elim alone beside (go ss k.3))
             where
               M : List ℕ
-              M = product s.term.at (lead s.of)
+              M = product s.term.at (lead_monomial s.of)
 
               one : (N : List ℕ) → AtMost O N M → Combines K O G (AtMost O N) (scaled K s.term s.of)
               one N b = combines_one (AtMost O N) s.term s.of k.0 k.1 b
 
               mono : IsMonomial O.places M
-              mono = IsMonomial-product O.places s.term.at (lead s.of) k.0.monomial (HG s.of k.1)
+              mono = IsMonomial-product O.places s.term.at (lead_monomial s.of) k.0.monomial (HG s.of k.1)
 
               alone : sum_of_steps K ss ≡ [] → (N : List ℕ) × HasTop B (scaled K s.term s.of ++ sum_of_steps K ss) N
               alone e = (
@@ -182,7 +182,7 @@ module _ {E : Type 0} (K : FieldOps E) (F : IsField K) where
                   ] refl
 
     -- a combination of members of the ideal is one
-    pub combines_inside : (rs : List (List (Term E))) → ((g : List (Term E)) → Contains G g → InIdeal K O.places rs g) → (B : List ℕ → Type 0) (a : List (Term E)) →
+    pub combines_inside : (rs : List (Polynomial E)) → ((g : Polynomial E) → Contains G g → InIdeal K O.places rs g) → (B : List ℕ → Type 0) (a : Polynomial E) →
         Combines K O G B a → InIdeal K O.places rs a
     combines_inside rs inside B a h = InIdeal_same K F O.places rs (sum_of_steps K h.steps) a (λ m. sym (h.sums m)) (all h.steps h.are)
       where
@@ -195,7 +195,7 @@ module _ {E : Type 0} (K : FieldOps E) (F : IsField K) where
             (all ss k.3)
 
     -- a combination of a list is one of a longer list
-    pub combines_more : (G' : List (List (Term E))) → ((g : List (Term E)) → Contains G g → Contains G' g) → (B : List ℕ → Type 0) (a : List (Term E)) → Combines K O G B a → Combines K O G' B a
+    pub combines_more : (G' : List (Polynomial E)) → ((g : Polynomial E) → Contains G g → Contains G' g) → (B : List ℕ → Type 0) (a : Polynomial E) → Combines K O G B a → Combines K O G' B a
     combines_more G' more B a h = record { steps = h.steps; are = all h.steps h.are; sums = h.sums }
       where
         all : (ss : List (Step E)) → AreSteps K O G B ss → AreSteps K O G' B ss

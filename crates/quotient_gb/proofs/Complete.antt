@@ -1,27 +1,27 @@
--- A list whose leads divide each lead of the ideal of degree at most c reduces each member of the ideal of degree at most c to zero.
+-- A list whose leads divide each lead_monomial of the ideal of degree at most c reduces each member of the ideal of degree at most c to zero.
 use Rattle.std.proofs.Common.{◌≡◌, ◌≢◌, ℕ, ◌≤◌, sym, ◌∙◌, ap, subst, List, [], ◌∷◌, ◌++◌, ⊎_elim, inl, inr, arith, append-nil}
 use Rattle.std.specs.Prelude.{Contains}
 use Rattle.std.specs.declared.cmp.Ordering.TheVariants.{Less}
 use Rattle.word_field.specs.Field.{FieldOps, IsField, IsValue}
-use Rattle.word_field.specs.FieldLaws.{negate-zero}
-use Rattle.monomial_order.specs.declared.Term.{Term}
+use Rattle.word_field.specs.laws.Field.{negate-zero}
+use Rattle.monomial_order.specs.declared.terms.Term.{Term}
 use Rattle.monomial_order.specs.Monomial.{product, least_common_multiple, IsMonomial}
 use Rattle.monomial_order.specs.MonomialOrder.{MonomialOrder, IsMonomialOrder}
-use Rattle.monomial_order.specs.MonomialLaws.{product_comm, IsMonomial-least_common_multiple}
-use Rattle.monomial_order.specs.Cofactors.{cofactor}
-use Rattle.monomial_order.specs.Comparing.{degree_falls}
-use Rattle.monomial_order.specs.Lists.{contains_none, contains_cases}
-use Rattle.monomial_order.specs.Rank.{IsWithin, below_induction}
-use Rattle.poly_core.specs.Poly.{coefficient, Same, term_of, times, scaled, negated, minus, constant, IsTerm, IsPoly, IsLead, IsHomogeneous, lead}
-use Rattle.poly_core.specs.Ideal.{InIdeal}
-use Rattle.poly_core.specs.Subalgebra.{Presented, IsPresentation, IsGenerator, AreGenerators, LeadsIdeal}
-use Rattle.poly_core.specs.RingLaws.{coefficient_value, coefficient-append}
-use Rattle.poly_core.specs.ValueLaws.{one_times}
-use Rattle.poly_core.specs.SubalgebraLaws.{IsPoly-one}
-use Rattle.poly_core.specs.FallingLaws.{Falls_IsPoly}
-use Rattle.poly_core.specs.CanonicalLaws.{zero_or_lead}
-use Rattle.poly_core.specs.CongruenceLaws.{coefficient-minus, minus_zero, InIdeal_negated}
-use Rattle.poly_core.specs.IdealLaws.{IsPoly-append, IsPoly-scaled, IsPoly-negated, InIdeal_plus}
+use Rattle.monomial_order.specs.laws.Monomial.{product_comm, IsMonomial-least_common_multiple}
+use Rattle.monomial_order.specs.laws.Cofactors.{cofactor}
+use Rattle.monomial_order.specs.laws.Comparing.{degree_falls}
+use Rattle.monomial_order.specs.laws.Lists.{contains_none, contains_cases}
+use Rattle.monomial_order.specs.laws.Rank.{IsWithin, below_induction}
+use Rattle.polynomials.specs.Polynomial.{Polynomial, coefficient, Same, term_of, times, scaled, negated, minus, constant, IsTerm, IsPoly, IsLead, IsHomogeneous, lead_monomial}
+use Rattle.polynomials.specs.Ideal.{InIdeal}
+use Rattle.polynomials.specs.Subalgebra.{Presented, IsPresentation, IsGenerator, AreGenerators, LeadsIdeal}
+use Rattle.polynomials.specs.laws.Ring.{coefficient_value, coefficient-append}
+use Rattle.polynomials.specs.laws.Value.{one_times}
+use Rattle.polynomials.specs.laws.Membership.{IsPoly-one}
+use Rattle.polynomials.specs.laws.Decreasing.{IsDecreasing_IsPoly}
+use Rattle.polynomials.specs.laws.Canonical.{zero_or_lead}
+use Rattle.polynomials.specs.laws.Congruence.{coefficient-minus, minus_zero, InIdeal_negated}
+use Rattle.polynomials.specs.laws.Ideal.{IsPoly-append, IsPoly-scaled, IsPoly-negated, InIdeal_plus}
 use Rattle.quotient_gb.specs.Combinations.{AtMost, HasDivisor, Combines, ReducesToZero}
 use Rattle.quotient_gb.specs.Criterion.{critical_pair, JoinsPairs}
 use Rattle.quotient_gb.specs.IdealBasis.{IsMonicMember}
@@ -33,20 +33,20 @@ use Rattle.quotient_gb.proofs.Pairs.{scaled_monic, pair_under, pair_poly, joined
 use Rattle.quotient_gb.proofs.Bases.{reducer, lead_is, scaled_inside, pair_inside}
 
 -- a generator lies in the ideal
-pub generator_inside : {E : Type 0} (K : FieldOps E) (F : IsField K) (n : ℕ) (rs : List (List (Term E))) (r : List (Term E)) → Contains rs r → InIdeal K n rs r
+pub generator_inside : {E : Type 0} (K : FieldOps E) (F : IsField K) (n : ℕ) (rs : List (Polynomial E)) (r : Polynomial E) → Contains rs r → InIdeal K n rs r
 generator_inside K F n rs r h = record {
   parts = record { by = constant K K.one; of = r } ∷ [];
   multiples = (IsPoly-one K F n, h, tt);
   sums = λ m. sym (one_times K F r m) ∙ ap (λ x. coefficient K x m) (sym (append-nil (times K (constant K K.one) r)));
 }
 
-pub generator_of : {E : Type 0} (K : FieldOps E) (O : MonomialOrder) (rs : List (List (Term E))) → AreGenerators K O rs → (r : List (Term E)) → Contains rs r → IsGenerator K O r
+pub generator_of : {E : Type 0} (K : FieldOps E) (O : MonomialOrder) (rs : List (Polynomial E)) → AreGenerators K O rs → (r : Polynomial E) → Contains rs r → IsGenerator K O r
 generator_of K O [] h r k = absurd (contains_none r k)
 generator_of K O (x ∷ rs) h r k = ⊎_elim (λ e. subst (IsGenerator K O) e h.0) (λ i. generator_of K O rs h.1 r i) (contains_cases x rs r k)
 
 module _ {E : Type 0} (K : FieldOps E) (F : IsField K) where
   -- a = (a - s) + s
-  pub put_back : (a s : List (Term E)) → Same K (minus K a s ++ s) a
+  pub put_back : (a s : Polynomial E) → Same K (minus K a s ++ s) a
   put_back a s m =
       coefficient-append K F (minus K a s) s m ∙
       (ap (λ x. K.plus x (coefficient K s m)) (coefficient-minus K F a s m) ∙
@@ -55,8 +55,8 @@ module _ {E : Type 0} (K : FieldOps E) (F : IsField K) where
       (F.plus_zero (coefficient K a m) ∙ coefficient_value K F a m))))
 
 module _ {E : Type 0} (K : FieldOps E) (F : IsField K) (O : MonomialOrder) (L : IsMonomialOrder O) where
-  -- two polynomials with one lead and one coefficient there differ by something below
-  pub difference_below : (a s : List (Term E)) (M : List ℕ) → IsLead K O a M → IsLead K O s M → coefficient K a M ≡ coefficient K s M →
+  -- two polynomials with one lead_monomial and one coefficient there differ by something below
+  pub difference_below : (a s : Polynomial E) (M : List ℕ) → IsLead K O a M → IsLead K O s M → coefficient K a M ≡ coefficient K s M →
       (n : List ℕ) → coefficient K (minus K a s) n ≢ K.zero → O.compare n M ≡ Less
   difference_below a s M la ls e n k =
       ⊎_elim (λ na. la.greatest n na other) (λ ns. ls.greatest n (λ z. ns (ap K.negate z ∙ negate-zero K F)) other)
@@ -65,34 +65,34 @@ module _ {E : Type 0} (K : FieldOps E) (F : IsField K) (O : MonomialOrder) (L : 
       other : n ≢ M
       other q = k (ap (coefficient K (minus K a s)) q ∙ (coefficient-minus K F a s M ∙ (ap (λ x. K.plus x (K.negate (coefficient K s M))) e ∙ F.plus_negate (coefficient K s M))))
 
-module _ {E : Type 0} (P : Presented E) (H : IsPresentation P) (G : List (List (Term E))) (members : (g : List (Term E)) → Contains G g → IsMonicMember P g)
+module _ {E : Type 0} (P : Presented E) (H : IsPresentation P) (G : List (Polynomial E)) (members : (g : Polynomial E) → Contains G g → IsMonicMember P g)
     (c : ℕ) (divides : (m : List ℕ) → LeadsIdeal P m → P.order.degree m ≤ c → HasDivisor G m) where
   abbrev Reduces : List ℕ → Type 0
-  Reduces M = (a : List (Term E)) → IsPoly P.field P.order.places a → InIdeal P.field P.order.places P.ideal a → IsLead P.field P.order a M → Combines P.field P.order G (AtMost P.order M) a
+  Reduces M = (a : Polynomial E) → IsPoly P.field P.order.places a → InIdeal P.field P.order.places P.ideal a → IsLead P.field P.order a M → Combines P.field P.order G (AtMost P.order M) a
 
-  -- a multiple of a member with the lead M and any coefficient there
-  record IsCancelling (M : List ℕ) (d : E) (s : List (Term E)) : Type 0 where
+  -- a multiple of a member with the lead_monomial M and any coefficient there
+  record IsCancelling (M : List ℕ) (d : E) (s : Polynomial E) : Type 0 where
     combines : Combines P.field P.order G (AtMost P.order M) s
     poly : IsPoly P.field P.order.places s
     inside : InIdeal P.field P.order.places P.ideal s
     leads : IsLead P.field P.order s M
     front : coefficient P.field s M ≡ d
 
-  cancelling : (M : List ℕ) → IsMonomial P.order.places M → (d : E) → IsValue P.field d → d ≢ P.field.zero → HasDivisor G M → (s : List (Term E)) × IsCancelling M d s
+  cancelling : (M : List ℕ) → IsMonomial P.order.places M → (d : E) → IsValue P.field d → d ≢ P.field.zero → HasDivisor G M → (s : Polynomial E) × IsCancelling M d s
   cancelling M hM d v nz (g, hg, dv) =
       let lg = lead_is P H G members g hg in
       let r = reducer P H G members g hg in
-      let u = cofactor (lead g) M lg.trimmed hM.trimmed dv in
-      let is : product u.0 (lead g) ≡ M = product_comm u.0 (lead g) ∙ u.2 in
-      let mu = divides_left u.0 (lead g) P.order.places (subst (IsMonomial P.order.places) (sym is) hM) u.1 in
+      let u = cofactor (lead_monomial g) M lg.trimmed hM.trimmed dv in
+      let is : product u.0 (lead_monomial g) ≡ M = product_comm u.0 (lead_monomial g) ∙ u.2 in
+      let mu = divides_left u.0 (lead_monomial g) P.order.places (subst (IsMonomial P.order.places) (sym is) hM) u.1 in
       let ht : IsTerm P.field P.order.places (term_of u.0 d) = record { monomial = mu; value = v } in
       let s = scaled P.field (term_of u.0 d) g in (
         s,
         record {
           combines = combines_one P.field H.field P.order H.order G (AtMost P.order M) (term_of u.0 d) g ht hg (inl is);
-          poly = IsPoly-scaled P.field H.field P.order.places (term_of u.0 d) g ht (Falls_IsPoly P.field P.order g r.falls);
+          poly = IsPoly-scaled P.field H.field P.order.places (term_of u.0 d) g ht (IsDecreasing_IsPoly P.field P.order g r.decreasing);
           inside = scaled_inside P H G members (term_of u.0 d) g ht hg;
-          leads = subst (IsLead P.field P.order s) is (scaled_leads P.field H.field P.order H.order (term_of u.0 d) g ht nz r.falls r.monic);
+          leads = subst (IsLead P.field P.order s) is (scaled_leads P.field H.field P.order H.order (term_of u.0 d) g ht nz r.decreasing r.monic);
           front = coefficient-front P.field H.field u.0 d g M v ∙
               (ap (P.field.times d) (ap (coefficient P.field (scaled P.field (term_of u.0 P.field.one) g)) (sym is) ∙ scaled_monic P.field H.field P.order H.order u.0 g mu r) ∙
               (H.field.times_one d ∙ v));
@@ -105,7 +105,7 @@ module _ {E : Type 0} (P : Presented E) (H : IsPresentation P) (G : List (List (
       let s = cancelling M w.monomial d (coefficient_value P.field H.field a M) la.nonzero (divides M (record { member = a; poly = hp; inside = ha; leads = la }) w.degree) in
       finish s.0 s.1
     where
-      finish : (s : List (Term E)) → IsCancelling M (coefficient P.field a M) s → Combines P.field P.order G (AtMost P.order M) a
+      finish : (s : Polynomial E) → IsCancelling M (coefficient P.field a M) s → Combines P.field P.order G (AtMost P.order M) a
       finish s h =
           ⊎_elim
           (λ z. combines_same P.field H.field P.order H.order G (AtMost P.order M) s a (λ m. sym (minus_zero P.field H.field a s z m)) h.combines)
@@ -125,8 +125,8 @@ module _ {E : Type 0} (P : Presented E) (H : IsPresentation P) (G : List (List (
               (minus P.field a s) poly
               (InIdeal_plus P.field H.field P.order.places P.ideal a (negated P.field s) ha (InIdeal_negated P.field H.field P.order.places P.ideal s h.inside)) l)
 
-  -- a member of the ideal whose lead has a degree of at most c reduces to zero
-  pub complete_reduces : (a : List (Term E)) → IsPoly P.field P.order.places a → InIdeal P.field P.order.places P.ideal a → (M : List ℕ) → IsLead P.field P.order a M →
+  -- a member of the ideal whose lead_monomial has a degree of at most c reduces to zero
+  pub complete_reduces : (a : Polynomial E) → IsPoly P.field P.order.places a → InIdeal P.field P.order.places P.ideal a → (M : List ℕ) → IsLead P.field P.order a M →
       P.order.degree M ≤ c → Combines P.field P.order G (AtMost P.order M) a
   complete_reduces a hp ha M l d =
       below_induction P.order H.order c Reduces step M (record { monomial = found_monomial P.field H.field P.order H.order a hp M l.nonzero; degree = d }) a hp ha l
@@ -136,14 +136,14 @@ module _ {E : Type 0} (P : Presented E) (H : IsPresentation P) (G : List (List (
       joined_reduction P.field H.field P.order H.order G (reducer P H G members) g h hg hh
       (λ u v w M l.
       let lt = pair_under P.field H.field P.order H.order G (reducer P H G members) g h hg hh u v w M l.nonzero in
-      let mM = IsMonomial-least_common_multiple P.order.places (lead g) (lead h) (lead_is P H G members g hg) (lead_is P H G members h hh) in
+      let mM = IsMonomial-least_common_multiple P.order.places (lead_monomial g) (lead_monomial h) (lead_is P H G members g hg) (lead_is P H G members h hh) in
       complete_reduces (critical_pair P.field u g v h) (pair_poly P.field H.field P.order H.order G (reducer P H G members) g h hg hh u v w)
       (pair_inside P H G members u v g h
-      (divides_left u (lead g) P.order.places (subst (IsMonomial P.order.places) (sym w.left) mM) w.left_trimmed)
-      (divides_left v (lead h) P.order.places (subst (IsMonomial P.order.places) (sym w.right) mM) w.right_trimmed) hg hh) M l
-      (let e = degree_falls P.order H.order M (least_common_multiple (lead g) (lead h)) lt in omega arith))
+      (divides_left u (lead_monomial g) P.order.places (subst (IsMonomial P.order.places) (sym w.left) mM) w.left_trimmed)
+      (divides_left v (lead_monomial h) P.order.places (subst (IsMonomial P.order.places) (sym w.right) mM) w.right_trimmed) hg hh) M l
+      (let e = degree_falls P.order H.order M (least_common_multiple (lead_monomial g) (lead_monomial h)) lt in omega arith))
 
-  pub complete_generators : (r : List (Term E)) → Contains P.ideal r → (d : ℕ) → d ≤ c → IsHomogeneous P.field P.order d r → ReducesToZero P.field P.order G r
+  pub complete_generators : (r : Polynomial E) → Contains P.ideal r → (d : ℕ) → d ≤ c → IsHomogeneous P.field P.order d r → ReducesToZero P.field P.order G r
   complete_generators r k d le h M l =
       complete_reduces r (generator_of P.field P.order P.ideal H.ideal r k).poly (generator_inside P.field H.field P.order.places P.ideal r k) M l
       (let e = h.each M l.nonzero in omega arith)

@@ -1,30 +1,30 @@
 -- The criterion to a degree: where the generators and the critical pairs of degree at most c reduce to zero,
--- each monomial of degree at most c that leads a member of the ideal is a multiple of the lead of a member of the list.
+-- each monomial of degree at most c that leads a member of the ideal is a multiple of the lead_monomial of a member of the list.
 use Rattle.std.proofs.Common.{◌≡◌, ◌≢◌, ℕ, ◌+◌, ◌≤◌, refl, sym, ◌∙◌, ap, subst, List, [], ◌∷◌, ◌++◌, ◌⊎◌, inl, inr, ⊎_elim, arith, Bool, true, false, cond}
 use Rattle.std.specs.Prelude.{Contains, nat_eq}
 use Rattle.std.proofs.lemmas.Bool.{eqb-true, eq-eqb, true≢false}
 use Rattle.std.specs.declared.cmp.Ordering.TheVariants.{Less}
 use Rattle.word_field.specs.Field.{FieldOps, IsField, IsValue}
-use Rattle.word_field.specs.FieldLaws.{plus_swap, plus_four, plus-times, times-negate, times-zero, zero-times, zero-plus}
-use Rattle.monomial_order.specs.declared.Term.{Term}
+use Rattle.word_field.specs.laws.Field.{plus_swap, plus_four, plus-times, times-negate, times-zero, zero-times, zero-plus}
+use Rattle.monomial_order.specs.declared.terms.Term.{Term}
 use Rattle.monomial_order.specs.Monomial.{product, least_common_multiple as lcm, IsMonomial, IsTrimmed, Divides}
-use Rattle.monomial_order.specs.MonomialLaws.{IsTrimmed-least_common_multiple}
-use Rattle.monomial_order.specs.Comparing.{degree_falls as less_degree}
+use Rattle.monomial_order.specs.laws.Monomial.{IsTrimmed-least_common_multiple}
+use Rattle.monomial_order.specs.laws.Comparing.{degree_falls as less_degree}
 use Rattle.monomial_order.specs.MonomialOrder.{MonomialOrder, IsMonomialOrder}
-use Rattle.poly_core.specs.Poly.{coefficient, Same, term_of, term_times, times, scaled, negated, minus, component, IsTerm, IsPoly, IsBelow, Falls, IsLead, IsHomogeneous, lead}
-use Rattle.poly_core.specs.Ideal.{InIdeal, Multiple, AreMultiples, sum_of}
-use Rattle.poly_core.specs.Subalgebra.{Presented, IsPresentation, IsGenerator, AreGenerators, LeadsIdeal}
-use Rattle.poly_core.specs.RingLaws.{coefficient_value, coefficient-append}
-use Rattle.poly_core.specs.ValueLaws.{coefficient-scaled}
-use Rattle.poly_core.specs.FallingLaws.{Falls_IsPoly, IsBelow_trans, IsLead_first, IsLead_unique}
-use Rattle.poly_core.specs.CanonicalLaws.{IsLead_same, zero_or_lead}
-use Rattle.poly_core.specs.CongruenceLaws.{coefficient-minus}
-use Rattle.monomial_order.specs.Lists.{contains_cases, contains_none}
-use Rattle.poly_core.specs.KeptLaws.{IsBelow-append, Falls-scaled}
-use Rattle.poly_core.specs.LeadLaws.{below_found}
-use Rattle.poly_core.specs.IdealLaws.{IsPoly-scaled}
-use Rattle.monomial_order.specs.Rank.{IsWithin, below_induction}
-use Rattle.poly_core.specs.DegreeLaws.{component-append, coefficient-component, component_same, IsGraded, graded_component, graded_no_component, graded_times}
+use Rattle.polynomials.specs.Polynomial.{Polynomial, coefficient, Same, term_of, term_times, times, scaled, negated, minus, component, IsTerm, IsPoly, IsBelow, IsDecreasing, IsLead, IsHomogeneous, lead_monomial}
+use Rattle.polynomials.specs.Ideal.{InIdeal, Multiple, AreMultiples, sum_of}
+use Rattle.polynomials.specs.Subalgebra.{Presented, IsPresentation, IsGenerator, AreGenerators, LeadsIdeal}
+use Rattle.polynomials.specs.laws.Ring.{coefficient_value, coefficient-append}
+use Rattle.polynomials.specs.laws.Value.{coefficient-scaled}
+use Rattle.polynomials.specs.laws.Decreasing.{IsDecreasing_IsPoly, IsBelow_trans, IsLead_first, IsLead_unique}
+use Rattle.polynomials.specs.laws.Canonical.{IsLead_same, zero_or_lead}
+use Rattle.polynomials.specs.laws.Congruence.{coefficient-minus}
+use Rattle.monomial_order.specs.laws.Lists.{contains_cases, contains_none}
+use Rattle.polynomials.specs.laws.Terms.{IsBelow-append, IsDecreasing-scaled}
+use Rattle.polynomials.specs.laws.Leads.{below_found}
+use Rattle.polynomials.specs.laws.Ideal.{IsPoly-scaled}
+use Rattle.monomial_order.specs.laws.Rank.{IsWithin, below_induction}
+use Rattle.polynomials.specs.laws.Degrees.{component-append, coefficient-component, component_same, IsGraded, graded_component, graded_no_component, graded_times}
 use Rattle.quotient_gb.specs.Combinations.{AtMost, Under, HasDivisor, Step, sum_of_steps, AreSteps, Combines, ReducesToZero}
 use Rattle.quotient_gb.specs.Criterion.{critical_pair, IsJoined, ReducesGenerators, JoinsPairs}
 use Rattle.quotient_gb.proofs.Basics.{single_term, lead_sum, scaled_below}
@@ -32,23 +32,23 @@ use Rattle.quotient_gb.proofs.Multiples.{common, product_divides}
 use Rattle.quotient_gb.proofs.Combinations.{scaled-append, scaled_scaled, scaled_is, scaled_same, combines_same, combines_zero, combines_plus, combines_one, combines_scaled, combines_constant, top}
 
 module _ {E : Type 0} (K : FieldOps E) (F : IsField K) where
-  pub scaled-negated : (t : Term E) (p : List (Term E)) → scaled K t (negated K p) ≡ negated K (scaled K t p)
+  pub scaled-negated : (t : Term E) (p : Polynomial E) → scaled K t (negated K p) ≡ negated K (scaled K t p)
   scaled-negated t [] = refl
   scaled-negated t (u ∷ p) =
       ap (λ c. term_of (product t.at u.at) c ∷ scaled K t (negated K p)) (times-negate K F t.by u.by) ∙
       ap (λ q. term_of (product t.at u.at) (K.negate (K.times t.by u.by)) ∷ q) (scaled-negated t p)
 
-  pub scaled-minus : (t : Term E) (p q : List (Term E)) → scaled K t (minus K p q) ≡ minus K (scaled K t p) (scaled K t q)
+  pub scaled-minus : (t : Term E) (p q : Polynomial E) → scaled K t (minus K p q) ≡ minus K (scaled K t p) (scaled K t q)
   scaled-minus t p q = scaled-append K F t p (negated K q) ∙ ap (λ x. scaled K t p ++ x) (scaled-negated t q)
 
   -- the product of two monomials
-  pub scaled_product : (a b c : List ℕ) (p : List (Term E)) → product a b ≡ c → scaled K (term_of a K.one) (scaled K (term_of b K.one) p) ≡ scaled K (term_of c K.one) p
+  pub scaled_product : (a b c : List ℕ) (p : Polynomial E) → product a b ≡ c → scaled K (term_of a K.one) (scaled K (term_of b K.one) p) ≡ scaled K (term_of c K.one) p
   scaled_product a b c p e =
       scaled_scaled K F (term_of a K.one) (term_of b K.one) p ∙
       (ap (λ x. scaled K (term_of x (K.times K.one K.one)) p) e ∙ ap (λ x. scaled K (term_of c x) p) (F.times_one K.one ∙ F.one_value))
 
   -- a coefficient in front
-  pub coefficient-front : (a : List ℕ) (d : E) (p : List (Term E)) (m : List ℕ) → IsValue K d →
+  pub coefficient-front : (a : List ℕ) (d : E) (p : Polynomial E) (m : List ℕ) → IsValue K d →
       coefficient K (scaled K (term_of a d) p) m ≡ K.times d (coefficient K (scaled K (term_of a K.one) p) m)
   coefficient-front a d p m v =
       ap (λ x. coefficient K (scaled K (term_of a x) p) m) (sym v ∙ sym (F.times_one d)) ∙
@@ -68,7 +68,7 @@ module _ {E : Type 0} (K : FieldOps E) (F : IsField K) where
           (ap (K.plus (K.times d x)) (sym (F.times_plus d y (K.negate y)) ∙ (ap (K.times d) (F.plus_negate y) ∙ times-zero K F d)) ∙
           (F.plus_zero (K.times d x) ∙ F.times_value d x)))
 
-  sum_swap : (A S T R : List (Term E)) → Same K S (T ++ R) → Same K (A ++ S) (T ++ (A ++ R))
+  sum_swap : (A S T R : Polynomial E) → Same K S (T ++ R) → Same K (A ++ S) (T ++ (A ++ R))
   sum_swap A S T R h m =
       coefficient-append K F A S m ∙
       (ap (K.plus (coefficient K A m)) (h m ∙ coefficient-append K F T R m) ∙
@@ -77,75 +77,75 @@ module _ {E : Type 0} (K : FieldOps E) (F : IsField K) where
 
   module _ (O : MonomialOrder) (L : IsMonomialOrder O) where
     -- a term times a falling list
-    pub below_scaled : (t : Term E) (g : List (Term E)) (M : List ℕ) → IsTerm K O.places t → Falls K O g → O.compare (product t.at (lead g)) M ≡ Less → IsBelow K O M (scaled K t g)
+    pub below_scaled : (t : Term E) (g : Polynomial E) (M : List ℕ) → IsTerm K O.places t → IsDecreasing K O g → O.compare (product t.at (lead_monomial g)) M ≡ Less → IsBelow K O M (scaled K t g)
     below_scaled t [] M ht h lt = tt
     below_scaled t (u ∷ p) M ht h lt =
-        (lt, IsBelow_trans K F O L (product t.at u.at) M (scaled K t p) lt (scaled_below K F O L t u p ht h.0.term (Falls_IsPoly K O p h.1) h.0.above))
+        (lt, IsBelow_trans K F O L (product t.at u.at) M (scaled K t p) lt (scaled_below K F O L t u p ht h.0.term (IsDecreasing_IsPoly K O p h.1) h.0.above))
 
-    pub scaled_leads : (t : Term E) (g : List (Term E)) → IsTerm K O.places t → t.by ≢ K.zero → Falls K O g → coefficient K g (lead g) ≡ K.one → IsLead K O (scaled K t g) (product t.at (lead g))
+    pub scaled_leads : (t : Term E) (g : Polynomial E) → IsTerm K O.places t → t.by ≢ K.zero → IsDecreasing K O g → coefficient K g (lead_monomial g) ≡ K.one → IsLead K O (scaled K t g) (product t.at (lead_monomial g))
     unfolding coefficient
     scaled_leads t [] ht nz h e = absurd (F.one_not_zero (sym e))
-    scaled_leads t (u ∷ p) ht nz h e = IsLead_first K F O L (term_times K t u) (scaled K t p) (Falls-scaled K F O L t (u ∷ p) ht nz h)
+    scaled_leads t (u ∷ p) ht nz h e = IsLead_first K F O L (term_times K t u) (scaled K t p) (IsDecreasing-scaled K F O L t (u ∷ p) ht nz h)
 
-    pub lead_monomial : (g : List (Term E)) → Falls K O g → coefficient K g (lead g) ≡ K.one → IsMonomial O.places (lead g)
+    pub lead_monomial : (g : Polynomial E) → IsDecreasing K O g → coefficient K g (lead_monomial g) ≡ K.one → IsMonomial O.places (lead_monomial g)
     unfolding coefficient
     lead_monomial [] h e = absurd (F.one_not_zero (sym e))
     lead_monomial (u ∷ p) h e = h.0.term.monomial
 
-pub zero_no_lead : {E : Type 0} (K : FieldOps E) (O : MonomialOrder) (a : List (Term E)) (m : List ℕ) → Same K a [] → IsLead K O a m → ⊥
+pub zero_no_lead : {E : Type 0} (K : FieldOps E) (O : MonomialOrder) (a : Polynomial E) (m : List ℕ) → Same K a [] → IsLead K O a m → ⊥
 unfolding coefficient
 zero_no_lead K O a m z h = h.nonzero (z m)
 
 -- a member that serves to reduce: falling and monic
-pub record IsReducer {E : Type 0} (K : FieldOps E) (O : MonomialOrder) (g : List (Term E)) : Type 0 where
-  pub falls : Falls K O g
-  pub monic : coefficient K g (lead g) ≡ K.one
+pub record IsReducer {E : Type 0} (K : FieldOps E) (O : MonomialOrder) (g : Polynomial E) : Type 0 where
+  pub decreasing : IsDecreasing K O g
+  pub monic : coefficient K g (lead_monomial g) ≡ K.one
 
 module _ {E : Type 0} (K : FieldOps E) (F : IsField K) (O : MonomialOrder) (L : IsMonomialOrder O)
-    (G : List (List (Term E))) (HG : (g : List (Term E)) → Contains G g → IsReducer K O g) where
-  pub monomials : (g : List (Term E)) → Contains G g → IsMonomial O.places (lead g)
-  monomials g h = let r = HG g h in lead_monomial K F O L g r.falls r.monic
+    (G : List (Polynomial E)) (HG : (g : Polynomial E) → Contains G g → IsReducer K O g) where
+  pub monomials : (g : Polynomial E) → Contains G g → IsMonomial O.places (lead_monomial g)
+  monomials g h = let r = HG g h in lead_monomial K F O L g r.decreasing r.monic
 
   -- the monomials of a combination below M are below M
-  pub under_found : (M : List ℕ) (a : List (Term E)) → Combines K O G (Under O M) a → (n : List ℕ) → coefficient K a n ≢ K.zero → O.compare n M ≡ Less
+  pub under_found : (M : List ℕ) (a : Polynomial E) → Combines K O G (Under O M) a → (n : List ℕ) → coefficient K a n ≢ K.zero → O.compare n M ≡ Less
   under_found M a h n k = below_found K F O L M (sum_of_steps K h.steps) (all h.steps h.are) n (λ z. k (h.sums n ∙ z))
     where
       all : (ss : List (Step E)) → AreSteps K O G (Under O M) ss → IsBelow K O M (sum_of_steps K ss)
       all [] q = tt
-      all (s ∷ ss) q = IsBelow-append K O M (scaled K s.term s.of) (sum_of_steps K ss) (below_scaled K F O L s.term s.of M q.0 (HG s.of q.1).falls q.2) (all ss q.3)
+      all (s ∷ ss) q = IsBelow-append K O M (scaled K s.term s.of) (sum_of_steps K ss) (below_scaled K F O L s.term s.of M q.0 (HG s.of q.1).decreasing q.2) (all ss q.3)
 
-  module _ (c : ℕ) (pairs : (g h : List (Term E)) → Contains G g → Contains G h → O.degree (lcm (lead g) (lead h)) ≤ c → IsJoined K O G g h) where
-    -- two multiples of members with the same lead
-    pub same_multiple : (M a b : List ℕ) (g h : List (Term E)) → Contains G g → Contains G h → IsMonomial O.places a → IsMonomial O.places b →
-        product a (lead g) ≡ M → product b (lead h) ≡ M → O.degree M ≤ c → Combines K O G (Under O M) (minus K (scaled K (term_of a K.one) g) (scaled K (term_of b K.one) h))
+  module _ (c : ℕ) (pairs : (g h : Polynomial E) → Contains G g → Contains G h → O.degree (lcm (lead_monomial g) (lead_monomial h)) ≤ c → IsJoined K O G g h) where
+    -- two multiples of members with the same lead_monomial
+    pub same_multiple : (M a b : List ℕ) (g h : Polynomial E) → Contains G g → Contains G h → IsMonomial O.places a → IsMonomial O.places b →
+        product a (lead_monomial g) ≡ M → product b (lead_monomial h) ≡ M → O.degree M ≤ c → Combines K O G (Under O M) (minus K (scaled K (term_of a K.one) g) (scaled K (term_of b K.one) h))
     same_multiple M a b g h hg hh ma mb ea eb l =
-        let C = common O.places a (lead g) b (lead h) ma (monomials g hg) mb (monomials h hh) (ea ∙ sym eb) in
-        let whole : product C.by (lcm (lead g) (lead h)) ≡ M = C.common ∙ ea in
-        let small : O.degree (lcm (lead g) (lead h)) ≤ c =
-        let p = L.degree_product C.by (lcm (lead g) (lead h)) in let q : O.degree (product C.by (lcm (lead g) (lead h))) ≡ O.degree M = ap O.degree whole in omega arith in
+        let C = common O.places a (lead_monomial g) b (lead_monomial h) ma (monomials g hg) mb (monomials h hh) (ea ∙ sym eb) in
+        let whole : product C.by (lcm (lead_monomial g) (lead_monomial h)) ≡ M = C.common ∙ ea in
+        let small : O.degree (lcm (lead_monomial g) (lead_monomial h)) ≤ c =
+        let p = L.degree_product C.by (lcm (lead_monomial g) (lead_monomial h)) in let q : O.degree (product C.by (lcm (lead_monomial g) (lead_monomial h))) ≡ O.degree M = ap O.degree whole in omega arith in
         let j = pairs g h hg hh small C.left C.right (record { left_trimmed = C.left_monomial.trimmed; right_trimmed = C.right_monomial.trimmed; left = C.left_is; right = C.right_is }) in
         let is : scaled K (term_of C.by K.one) (critical_pair K C.left g C.right h) ≡ minus K (scaled K (term_of a K.one) g) (scaled K (term_of b K.one) h) =
         scaled-minus K F (term_of C.by K.one) (scaled K (term_of C.left K.one) g) (scaled K (term_of C.right K.one) h) ∙
         (ap (λ x. minus K x (scaled K (term_of C.by K.one) (scaled K (term_of C.right K.one) h))) (scaled_product K F C.by C.left a g C.left_by) ∙
         ap (minus K (scaled K (term_of a K.one) g)) (scaled_product K F C.by C.right b h C.right_by)) in
         subst (Combines K O G (Under O M)) is
-        (combines_scaled K F O L G monomials (Under O (lcm (lead g) (lead h))) (Under O M) (term_of C.by K.one) (critical_pair K C.left g C.right h)
+        (combines_scaled K F O L G monomials (Under O (lcm (lead_monomial g) (lead_monomial h))) (Under O M) (term_of C.by K.one) (critical_pair K C.left g C.right h)
         (record { monomial = C.by_monomial; value = F.one_value })
-        (λ m hm lt. subst (λ x. O.compare (product C.by m) x ≡ Less) whole (L.kept C.by m (lcm (lead g) (lead h)) C.by_monomial.trimmed hm.trimmed (top_trimmed g h hg hh) ∙ lt)) j)
+        (λ m hm lt. subst (λ x. O.compare (product C.by m) x ≡ Less) whole (L.kept C.by m (lcm (lead_monomial g) (lead_monomial h)) C.by_monomial.trimmed hm.trimmed (top_trimmed g h hg hh) ∙ lt)) j)
       where
-        top_trimmed : (g h : List (Term E)) → Contains G g → Contains G h → IsTrimmed (lcm (lead g) (lead h))
-        top_trimmed g h hg hh = IsTrimmed-least_common_multiple (lead g) (lead h) (monomials g hg).trimmed (monomials h hh).trimmed
+        top_trimmed : (g h : Polynomial E) → Contains G g → Contains G h → IsTrimmed (lcm (lead_monomial g) (lead_monomial h))
+        top_trimmed g h hg hh = IsTrimmed-least_common_multiple (lead_monomial g) (lead_monomial h) (monomials g hg).trimmed (monomials h hh).trimmed
 
     -- the terms at M taken together, at one member, and what is below M
-    record IsGathered (M : List ℕ) (a : List (Term E)) : Type 0 where
-      member : List (Term E)
+    record IsGathered (M : List ℕ) (a : Polynomial E) : Type 0 where
+      member : Polynomial E
       contains : Contains G member
       by : List ℕ
       monomial : IsMonomial O.places by
-      is : product by (lead member) ≡ M
+      is : product by (lead_monomial member) ≡ M
       front : E
       value : IsValue K front
-      rest : List (Term E)
+      rest : Polynomial E
       under : Combines K O G (Under O M) rest
       sums : Same K a (scaled K (term_of by front) member ++ rest)
 
@@ -153,10 +153,10 @@ module _ {E : Type 0} (K : FieldOps E) (F : IsField K) (O : MonomialOrder) (L : 
     gather M l [] k = inl (combines_zero K F O L G (Under O M))
     gather M l (s ∷ ss) k = ⊎_elim (λ e. ⊎_elim (λ u. inr (first e u)) (λ r. inr (joined e r)) (gather M l ss k.3)) (λ lt. ⊎_elim (λ u. inl (below lt u)) (λ r. inr (beside lt r)) (gather M l ss k.3)) k.2
       where
-        here : List (Term E)
+        here : Polynomial E
         here = scaled K s.term s.of
 
-        first : product s.term.at (lead s.of) ≡ M → Combines K O G (Under O M) (sum_of_steps K ss) → IsGathered M (scaled K s.term s.of ++ sum_of_steps K ss)
+        first : product s.term.at (lead_monomial s.of) ≡ M → Combines K O G (Under O M) (sum_of_steps K ss) → IsGathered M (scaled K s.term s.of ++ sum_of_steps K ss)
         first e u = record {
           member = s.of;
           contains = k.1;
@@ -170,10 +170,10 @@ module _ {E : Type 0} (K : FieldOps E) (F : IsField K) (O : MonomialOrder) (L : 
           sums = λ m. refl;
         }
 
-        below : O.compare (product s.term.at (lead s.of)) M ≡ Less → Combines K O G (Under O M) (sum_of_steps K ss) → Combines K O G (Under O M) (scaled K s.term s.of ++ sum_of_steps K ss)
+        below : O.compare (product s.term.at (lead_monomial s.of)) M ≡ Less → Combines K O G (Under O M) (sum_of_steps K ss) → Combines K O G (Under O M) (scaled K s.term s.of ++ sum_of_steps K ss)
         below lt u = combines_plus K F O L G (Under O M) (scaled K s.term s.of) (sum_of_steps K ss) (combines_one K F O L G (Under O M) s.term s.of k.0 k.1 lt) u
 
-        beside : O.compare (product s.term.at (lead s.of)) M ≡ Less → IsGathered M (sum_of_steps K ss) → IsGathered M (scaled K s.term s.of ++ sum_of_steps K ss)
+        beside : O.compare (product s.term.at (lead_monomial s.of)) M ≡ Less → IsGathered M (sum_of_steps K ss) → IsGathered M (scaled K s.term s.of ++ sum_of_steps K ss)
         beside lt r = record {
           member = r.member;
           contains = r.contains;
@@ -187,7 +187,7 @@ module _ {E : Type 0} (K : FieldOps E) (F : IsField K) (O : MonomialOrder) (L : 
           sums = sum_swap K F (scaled K s.term s.of) (sum_of_steps K ss) (scaled K (term_of r.by r.front) r.member) r.rest r.sums;
         }
 
-        joined : product s.term.at (lead s.of) ≡ M → IsGathered M (sum_of_steps K ss) → IsGathered M (scaled K s.term s.of ++ sum_of_steps K ss)
+        joined : product s.term.at (lead_monomial s.of) ≡ M → IsGathered M (sum_of_steps K ss) → IsGathered M (scaled K s.term s.of ++ sum_of_steps K ss)
         joined e r = record {
           member = r.member;
           contains = r.contains;
@@ -213,29 +213,29 @@ module _ {E : Type 0} (K : FieldOps E) (F : IsField K) (O : MonomialOrder) (L : 
               sym (coefficient-append K F (scaled K (term_of r.by (K.plus s.term.by r.front)) r.member) (scaled K (term_of [] s.term.by) difference ++ r.rest) m)))))));
         }
           where
-            difference : List (Term E)
+            difference : Polynomial E
             difference = minus K (scaled K (term_of s.term.at K.one) s.of) (scaled K (term_of r.by K.one) r.member)
 
-    -- a combination whose products are at most M reduces to zero: it has its lead as the greatest product, and that is a multiple of a lead
-    pub record IsLed (a : List (Term E)) (m : List ℕ) : Type 0 where
+    -- a combination whose products are at most M reduces to zero: it has its lead_monomial as the greatest product, and that is a multiple of a lead_monomial
+    pub record IsLed (a : Polynomial E) (m : List ℕ) : Type 0 where
       pub combines : Combines K O G (AtMost O m) a
       pub divisor : HasDivisor G m
 
     abbrev AllLed : List ℕ → Type 0
-    AllLed M = (a : List (Term E)) → Combines K O G (AtMost O M) a → (m : List ℕ) → IsLead K O a m → IsLed a m
+    AllLed M = (a : Polynomial E) → Combines K O G (AtMost O M) a → (m : List ℕ) → IsLead K O a m → IsLed a m
 
-    pub led : (M : List ℕ) → IsWithin O L c M → (a : List (Term E)) → Combines K O G (AtMost O M) a → (m : List ℕ) → IsLead K O a m → IsLed a m
+    pub led : (M : List ℕ) → IsWithin O L c M → (a : Polynomial E) → Combines K O G (AtMost O M) a → (m : List ℕ) → IsLead K O a m → IsLed a m
     led = below_induction O L c AllLed step
       where
         lower : (M : List ℕ) → IsWithin O L c M → ((k : List ℕ) → IsWithin O L c k → O.compare k M ≡ Less → AllLed k) →
-            (a : List (Term E)) → Combines K O G (Under O M) a → (m : List ℕ) → IsLead K O a m → IsLed a m
+            (a : Polynomial E) → Combines K O G (Under O M) a → (m : List ℕ) → IsLead K O a m → IsLed a m
         lower M w ih a u m h = ⊎_elim
             (λ z. absurd (zero_no_lead K O a m z h))
             (λ r. ih r.0 (record { monomial = r.1.monomial; degree = let d = less_degree O L r.0 M r.1.bound in let e = w.degree in omega arith }) r.1.bound a r.1.combines m h)
             (top K F O L G monomials (Under O M) a u)
 
         step : (M : List ℕ) → IsWithin O L c M → ((k : List ℕ) → IsWithin O L c k → O.compare k M ≡ Less → AllLed k) →
-            (a : List (Term E)) → Combines K O G (AtMost O M) a → (m : List ℕ) → IsLead K O a m → IsLed a m
+            (a : Polynomial E) → Combines K O G (AtMost O M) a → (m : List ℕ) → IsLead K O a m → IsLed a m
         step M w ih a h m lead_m = ⊎_elim
             (λ u. lower M w ih a (combines_same K F O L G (Under O M) (sum_of_steps K h.steps) a (λ n. sym (h.sums n)) u) m lead_m)
             (λ r. ⊎_elim (none r) (some r) (F.equal_or_not r.front K.zero))
@@ -251,21 +251,21 @@ module _ {E : Type 0} (K : FieldOps E) (F : IsField K) (O : MonomialOrder) (L : 
             some r nz =
                 let g = HG r.member r.contains in
                 let first : IsLead K O (scaled K (term_of r.by r.front) r.member) M =
-                subst (IsLead K O (scaled K (term_of r.by r.front) r.member)) r.is (scaled_leads K F O L (term_of r.by r.front) r.member (record { monomial = r.monomial; value = r.value }) nz g.falls g.monic) in
+                subst (IsLead K O (scaled K (term_of r.by r.front) r.member)) r.is (scaled_leads K F O L (term_of r.by r.front) r.member (record { monomial = r.monomial; value = r.value }) nz g.decreasing g.monic) in
                 let whole : IsLead K O a M = IsLead_same K F O L (scaled K (term_of r.by r.front) r.member ++ r.rest) a M (λ n. sym (h.sums n ∙ r.sums n))
                 (lead_sum K F O L (scaled K (term_of r.by r.front) r.member) r.rest M first (under_found M r.rest r.under)) in
                 let is : M ≡ m = IsLead_unique K F O L a M m whole lead_m in
                 record {
                   combines = subst (λ x. Combines K O G (AtMost O x) a) is h;
-                  divisor = (r.member, r.contains, subst (Divides (lead r.member)) (r.is ∙ is) (product_divides r.by (lead r.member)));
+                  divisor = (r.member, r.contains, subst (Divides (lead_monomial r.member)) (r.is ∙ is) (product_divides r.by (lead_monomial r.member)));
                 }
 
-    module _ (rs : List (List (Term E))) (HR : AreGenerators K O rs)
-        (reduces : (r : List (Term E)) → Contains rs r → (d : ℕ) → d ≤ c → IsHomogeneous K O d r → ReducesToZero K O G r) where
+    module _ (rs : List (Polynomial E)) (HR : AreGenerators K O rs)
+        (reduces : (r : Polynomial E) → Contains rs r → (d : ℕ) → d ≤ c → IsHomogeneous K O d r → ReducesToZero K O G r) where
       abbrev pub Small : List ℕ → Type 0
       Small m = O.degree m ≤ c
 
-      generator_of : (xs : List (List (Term E))) → AreGenerators K O xs → (r : List (Term E)) → Contains xs r → IsGenerator K O r
+      generator_of : (xs : List (Polynomial E)) → AreGenerators K O xs → (r : Polynomial E) → Contains xs r → IsGenerator K O r
       generator_of [] h r k = absurd (contains_none r k)
       generator_of (x ∷ xs) h r k = ⊎_elim (λ e. subst (IsGenerator K O) e h.0) (λ i. generator_of xs h.1 r i) (contains_cases x xs r k)
 
@@ -273,7 +273,7 @@ module _ {E : Type 0} (K : FieldOps E) (F : IsField K) (O : MonomialOrder) (L : 
       at_most_degree M m h = ⊎_elim (λ e. let q : O.degree m ≡ O.degree M = ap O.degree e in omega arith) (λ lt. less_degree O L m M lt) h
 
       -- the part of degree d of a term times a generator
-      term_part : (d : ℕ) → d ≤ c → (t : Term E) (r : List (Term E)) → IsTerm K O.places t → IsGenerator K O r → Contains rs r → Combines K O G Small (component O d (scaled K t r))
+      term_part : (d : ℕ) → d ≤ c → (t : Term E) (r : Polynomial E) → IsTerm K O.places t → IsGenerator K O r → Contains rs r → Combines K O G Small (component O d (scaled K t r))
       unfolding coefficient
       term_part d l t r ht hr k = ⊎_elim none some hr.homogeneous
         where
@@ -310,14 +310,14 @@ module _ {E : Type 0} (K : FieldOps E) (F : IsField K) (O : MonomialOrder) (L : 
                   (λ m hm b. let p = L.degree_product t.at m in let q = at_most_degree M.0 m b in omega arith)
                   (reduces r k h.0 (omega arith) h.2 M.0 M.1))
 
-      times_part : (d : ℕ) → d ≤ c → (q r : List (Term E)) → IsPoly K O.places q → IsGenerator K O r → Contains rs r → Combines K O G Small (component O d (times K q r))
+      times_part : (d : ℕ) → d ≤ c → (q r : Polynomial E) → IsPoly K O.places q → IsGenerator K O r → Contains rs r → Combines K O G Small (component O d (times K q r))
       times_part d l [] r hq hr k = combines_zero K F O L G Small
       times_part d l (t ∷ q) r hq hr k =
           subst (Combines K O G Small) (sym (component-append O d (scaled K t r) (times K q r)))
           (combines_plus K F O L G Small (component O d (scaled K t r)) (component O d (times K q r)) (term_part d l t r hq.0 hr k) (times_part d l q r hq.1 hr k))
 
       -- the part of degree d at most c of a member of the ideal
-      pub member_part : (d : ℕ) → d ≤ c → (a : List (Term E)) → InIdeal K O.places rs a → Combines K O G Small (component O d a)
+      pub member_part : (d : ℕ) → d ≤ c → (a : Polynomial E) → InIdeal K O.places rs a → Combines K O G Small (component O d a)
       member_part d l a h =
           combines_same K F O L G Small (component O d (sum_of K h.parts)) (component O d a) (λ m. sym (component_same K F O L d a (sum_of K h.parts) h.sums m)) (all h.parts h.multiples)
         where
@@ -328,8 +328,8 @@ module _ {E : Type 0} (K : FieldOps E) (F : IsField K) (O : MonomialOrder) (L : 
               (combines_plus K F O L G Small (component O d (times K w.by w.of)) (component O d (sum_of K ws))
               (times_part d l w.by w.of k.0 (generator_of rs HR w.of k.1) k.1) (all ws k.2))
 
-      -- the lead of a member of the ideal, of a degree at most c
-      pub lead_divided : (a : List (Term E)) (m : List ℕ) → InIdeal K O.places rs a → IsLead K O a m → O.degree m ≤ c → HasDivisor G m
+      -- the lead_monomial of a member of the ideal, of a degree at most c
+      pub lead_divided : (a : Polynomial E) (m : List ℕ) → InIdeal K O.places rs a → IsLead K O a m → O.degree m ≤ c → HasDivisor G m
       unfolding coefficient
       lead_divided a m h lm l = ⊎_elim
           (λ z. absurd (part_lead.nonzero (z m)))
@@ -349,16 +349,16 @@ module _ {E : Type 0} (K : FieldOps E) (F : IsField K) (O : MonomialOrder) (L : 
             greatest = λ n k ne. lm.greatest n (λ z. k (coefficient-component K F O L (O.degree m) a n ∙ (ap (λ x. cond (nat_eq (O.degree n) (O.degree m)) x K.zero) z ∙ if_zero (nat_eq (O.degree n) (O.degree m))))) ne;
           }
 
-module _ {E : Type 0} (P : Presented E) (H : IsPresentation P) (c : ℕ) (G : List (List (Term E))) (HG : ReducesGenerators P c G) (HP : JoinsPairs P c G) where
-  pub reducers : (g : List (Term E)) → Contains G g → IsReducer P.field P.order g
-  reducers g h = let m = HG.members g h in record { falls = m.falls; monic = m.monic }
+module _ {E : Type 0} (P : Presented E) (H : IsPresentation P) (c : ℕ) (G : List (Polynomial E)) (HG : ReducesGenerators P c G) (HP : JoinsPairs P c G) where
+  pub reducers : (g : Polynomial E) → Contains G g → IsReducer P.field P.order g
+  reducers g h = let m = HG.members g h in record { decreasing = m.decreasing; monic = m.monic }
 
   pub criterion : (m : List ℕ) → LeadsIdeal P m → P.order.degree m ≤ c → HasDivisor G m
   criterion m h l =
       lead_divided P.field H.field P.order H.order G reducers c HP P.ideal H.ideal HG.generators h.member m h.inside h.leads l
 
   -- a homogeneous member of the ideal of degree at most c reduces to zero
-  pub member_reduces : (d : ℕ) → d ≤ c → (a : List (Term E)) → IsPoly P.field P.order.places a → IsHomogeneous P.field P.order d a → InIdeal P.field P.order.places P.ideal a → ReducesToZero P.field P.order G a
+  pub member_reduces : (d : ℕ) → d ≤ c → (a : Polynomial E) → IsPoly P.field P.order.places a → IsHomogeneous P.field P.order d a → InIdeal P.field P.order.places P.ideal a → ReducesToZero P.field P.order G a
   member_reduces d l a hp hd h M lm =
       ⊎_elim
       (λ z. absurd (zero_no_lead P.field P.order a M (λ m. sym (whole m) ∙ z m) lm))

@@ -1,13 +1,13 @@
 -- The next degree: from a basis to the degree c to one to the degree c + 1.
 use Rattle.std.proofs.Common.{◌≡◌, ℕ, zero, suc, ◌+◌, ◌<◌, ◌≤◌, refl, sym, ◌∙◌, ap, subst, List, [], ◌∷◌, ◌++◌, length, arith, ◌⊎◌, inl, inr, ⊎_elim, get_or, slice_index_or, take, drop}
 use Rattle.std.specs.Prelude.{Contains, map}
-use Rattle.monomial_order.specs.declared.Term.{Term}
+use Rattle.monomial_order.specs.declared.terms.Term.{Term}
 use Rattle.monomial_order.specs.Monomial.{Divides, least_common_multiple}
-use Rattle.monomial_order.specs.Comparing.{le_or_not}
-use Rattle.monomial_order.specs.Lists.{contains_map}
-use Rattle.poly_core.specs.Poly.{IsHomogeneous, lead}
-use Rattle.poly_core.specs.Subalgebra.{Presented, IsPresentation, LeadsIdeal}
-use Rattle.poly_core.specs.ReducedBasisLaws.{map_contains}
+use Rattle.monomial_order.specs.laws.Comparing.{le_or_not}
+use Rattle.monomial_order.specs.laws.Lists.{contains_map}
+use Rattle.polynomials.specs.Polynomial.{Polynomial, IsHomogeneous, lead_monomial}
+use Rattle.polynomials.specs.Subalgebra.{Presented, IsPresentation, LeadsIdeal}
+use Rattle.polynomials.specs.laws.ReducedBasis.{map_contains}
 use Rattle.quotient_gb.specs.declared.basis.Basis.{Basis}
 use Rattle.quotient_gb.specs.declared.basis.Turn.{Turn}
 use Rattle.quotient_gb.specs.declared.meeting.Meeting.{Meeting}
@@ -45,8 +45,8 @@ module _ {F E : Type 0} (P : Presented E) (H : IsPresentation P) (c : ℕ) (b : 
   before_is : take turn.start b.members.items ≡ b.members.items
   before_is = take_all turn.start b.members.items start
 
-  lead_has : (g : List (Term E)) → Contains b.members.items g → Contains (map lead b.members.items) (lead g)
-  lead_has g k = contains_map lead b.members.items g k
+  lead_has : (g : Polynomial E) → Contains b.members.items g → Contains (map lead_monomial b.members.items) (lead_monomial g)
+  lead_has g k = contains_map lead_monomial b.members.items g k
 
   pub start_grows : Grows P turn b
   start_grows = record {
@@ -56,17 +56,17 @@ module _ {F E : Type 0} (P : Presented E) (H : IsPresentation P) (c : ℕ) (b : 
     growing = subst (λ xs. IsGrowing P turn.degree xs b.members.items) (sym before_is) (record {
       members = h.basis.members;
       tails = h.basis.tails;
-      rise = h.basis.leads.rise;
-      degrees = λ g k. let l = h.basis.leads.degrees (lead g) (lead_has g k) in omega arith;
-      minimal = λ x y hx hy d. h.basis.leads.minimal (lead x) (lead y) (lead_has x hx) (lead_has y hy) d;
+      increasing = h.basis.leads.increasing;
+      degrees = λ g k. let l = h.basis.leads.degrees (lead_monomial g) (lead_has g k) in omega arith;
+      minimal = λ x y hx hy d. h.basis.leads.minimal (lead_monomial x) (lead_monomial y) (lead_has x hx) (lead_has y hy) d;
       divides = λ m k l. h.basis.leads.divides m k (omega arith);
       older = λ g k l. k;
-      lower = λ g k. let l = h.basis.leads.degrees (lead g) (lead_has g k) in omega arith;
+      lower = λ g k. let l = h.basis.leads.degrees (lead_monomial g) (lead_has g k) in omega arith;
     });
   }
 
   pub lead_count : turn.start ≡ length b.leads.items
-  lead_count = let e : length b.leads.items ≡ length (map lead b.members.items) = ap length h.leads in let f = length_map lead b.members.items in omega arith
+  lead_count = let e : length b.leads.items ≡ length (map lead_monomial b.members.items) = ap length h.leads in let f = length_map lead_monomial b.members.items in omega arith
 
   -- the meetings stay as they are while the front does
   pub meeting_kept : (ls : List (List ℕ)) → take turn.start ls ≡ take turn.start b.leads.items → turn.start ≤ length ls → (w : Meeting) → Contains ws w → IsMeeting P.order ls w × (w.second < turn.start)
@@ -85,11 +85,11 @@ module _ {F E : Type 0} (P : Presented E) (H : IsPresentation P) (c : ℕ) (b : 
       )
 
   pub meetings_kept : (s : Basis F E) → Grows P turn s → KeepsFront turn.start b s → (w : Meeting) → Contains ws w → IsMeeting P.order s.leads.items w × (w.second < turn.start)
-  meetings_kept s g f = meeting_kept s.leads.items f.leads (let e : length s.leads.items ≡ length (map lead s.members.items) = ap length g.leads in let q = length_map lead s.members.items in let t = g.start in omega arith)
+  meetings_kept s g f = meeting_kept s.leads.items f.leads (let e : length s.leads.items ≡ length (map lead_monomial s.members.items) = ap length g.leads in let q = length_map lead_monomial s.members.items in let t = g.start in omega arith)
 
   module _ (s1 s2 : Basis F E) (g2 : Grows P turn s2) (f1 : KeepsFront turn.start b s1) (f2 : KeepsFront turn.start s1 s2)
       (p1 : IsPart b.members.items s1.members.items) (p2 : IsPart s1.members.items s2.members.items)
-      (generators : (r : List (Term E)) → Contains P.ideal r → IsHomogeneous P.field P.order turn.degree r → ReducesToZero P.field P.order s1.members.items r)
+      (generators : (r : Polynomial E) → Contains P.ideal r → IsHomogeneous P.field P.order turn.degree r → ReducesToZero P.field P.order s1.members.items r)
       (reduced : (w : Meeting) → Contains ws w → w.degree ≡ turn.degree → IsReduced P.field P.order s2.members.items (slice_index_or s1.members.items w.first []) (slice_index_or s1.members.items w.second [])) where
     front_is : take turn.start s2.members.items ≡ b.members.items
     front_is = f2.members ∙ (f1.members ∙ before_is)
@@ -98,15 +98,15 @@ module _ {F E : Type 0} (P : Presented E) (H : IsPresentation P) (c : ℕ) (b : 
     growing = subst (λ xs. IsGrowing P turn.degree xs s2.members.items) front_is g2.growing
 
     pairs : (i j : ℕ) → i < j → j < length b.members.items →
-        P.order.degree (least_common_multiple (lead (get_or b.members.items i [])) (lead (get_or b.members.items j []))) ≡ turn.degree →
-        AreCoprime (lead (get_or b.members.items i [])) (lead (get_or b.members.items j [])) ⊎ IsReduced P.field P.order s2.members.items (get_or b.members.items i []) (get_or b.members.items j [])
+        P.order.degree (least_common_multiple (lead_monomial (get_or b.members.items i [])) (lead_monomial (get_or b.members.items j []))) ≡ turn.degree →
+        AreCoprime (lead_monomial (get_or b.members.items i [])) (lead_monomial (get_or b.members.items j [])) ⊎ IsReduced P.field P.order s2.members.items (get_or b.members.items i []) (get_or b.members.items j [])
     pairs i j lt l e =
         let n = lead_count in
         let at : meeting_degree P.order b.leads.items i j ≡ turn.degree = ap (λ ms. meeting_degree P.order ms i j) h.leads ∙ (meeting_is P.order b.members.items i j ∙ e) in
-        let is_i : get_or b.leads.items i [] ≡ lead (get_or b.members.items i []) = ap (λ ms. get_or ms i []) h.leads ∙ lead_at b.members.items i in
-        let is_j : get_or b.leads.items j [] ≡ lead (get_or b.members.items j []) = ap (λ ms. get_or ms j []) h.leads ∙ lead_at b.members.items j in
+        let is_i : get_or b.leads.items i [] ≡ lead_monomial (get_or b.members.items i []) = ap (λ ms. get_or ms i []) h.leads ∙ lead_at b.members.items i in
+        let is_j : get_or b.leads.items j [] ≡ lead_monomial (get_or b.members.items j []) = ap (λ ms. get_or ms j []) h.leads ∙ lead_at b.members.items j in
         ⊎_elim
-        (λ co. inl (subst (λ m. AreCoprime m (lead (get_or b.members.items j []))) is_i (subst (AreCoprime (get_or b.leads.items i [])) is_j co)))
+        (λ co. inl (subst (λ m. AreCoprime m (lead_monomial (get_or b.members.items j []))) is_i (subst (AreCoprime (get_or b.leads.items i [])) is_j co)))
         (λ k. inr (subst (λ x. IsReduced P.field P.order s2.members.items x (get_or b.members.items j [])) (front_at turn.start b.members.items s1.members.items i [] f1.members (omega arith))
         (subst (IsReduced P.field P.order s2.members.items (get_or s1.members.items i [])) (front_at turn.start b.members.items s1.members.items j [] f1.members (omega arith))
         (reduced (record { first = i; second = j; degree = meeting_degree P.order b.leads.items i j }) k at))))
@@ -118,13 +118,13 @@ module _ {F E : Type 0} (P : Presented E) (H : IsPresentation P) (c : ℕ) (b : 
       leads = g2.leads;
       members = g2.growing.members;
       ideal = subst (AreIdealLeads P turn.degree) (sym g2.leads) (record {
-        rise = g2.growing.rise;
-        leads = λ m k. let r = map_contains lead s2.members.items m k in subst (LeadsIdeal P) r.2 (member_leads P H r.0 (g2.growing.members r.0 r.1));
-        degrees = λ m k. let r = map_contains lead s2.members.items m k in subst (λ z. P.order.degree z ≤ turn.degree) r.2 (g2.growing.degrees r.0 r.1);
+        increasing = g2.growing.increasing;
+        leads = λ m k. let r = map_contains lead_monomial s2.members.items m k in subst (LeadsIdeal P) r.2 (member_leads P H r.0 (g2.growing.members r.0 r.1));
+        degrees = λ m k. let r = map_contains lead_monomial s2.members.items m k in subst (λ z. P.order.degree z ≤ turn.degree) r.2 (g2.growing.degrees r.0 r.1);
         minimal = λ m n hm hn d.
-            let r = map_contains lead s2.members.items m hm in
-            let q = map_contains lead s2.members.items n hn in
-            sym r.2 ∙ (g2.growing.minimal r.0 q.0 r.1 q.1 (subst (λ z. Divides z (lead q.0)) (sym r.2) (subst (Divides m) (sym q.2) d)) ∙ q.2);
+            let r = map_contains lead_monomial s2.members.items m hm in
+            let q = map_contains lead_monomial s2.members.items n hn in
+            sym r.2 ∙ (g2.growing.minimal r.0 q.0 r.1 q.1 (subst (λ z. Divides z (lead_monomial q.0)) (sym r.2) (subst (Divides m) (sym q.2) d)) ∙ q.2);
         divides = closed P H c turn.degree (next ∙ omega arith) b.members.items s2.members.items growing
             (λ r k hr. reduces_more P H s1.members.items s2.members.items p2 r (generators r k hr)) pairs (λ x k. p2 x (p1 x k));
       });
@@ -147,8 +147,8 @@ module _ {F E : Type 0} (P : Presented E) (H : IsPresentation P) (c : ℕ) (b : 
       enough : turn.start ≤ length s3.leads.items
       enough =
           let e : length s3.leads.items ≡ length s2.leads.items = ap length l3 in
-          let f : length s2.leads.items ≡ length (map lead s2.members.items) = ap length g2.leads in
-          let q = length_map lead s2.members.items in let t = g2.start in omega arith
+          let f : length s2.leads.items ≡ length (map lead_monomial s2.members.items) = ap length g2.leads in
+          let q = length_map lead_monomial s2.members.items in let t = g2.start in omega arith
 
       pub next_ready : (vs : List Meeting) → Begins ws vs → ((w : Meeting) → Contains vs w → Contains ws w ⊎ IsMeeting P.order s3.leads.items w) →
           ((i j : ℕ) → i < j → turn.start ≤ j → j < length s3.leads.items → IsNoted P.order s3.leads.items vs i j) → IsReady P turn.degree s3 vs

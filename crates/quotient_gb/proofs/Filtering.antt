@@ -2,8 +2,8 @@
 use Rattle.std.proofs.Common.{◌≡◌, ℕ, ◌<◌, refl, sym, ◌∙◌, ap, subst, List, [], ◌∷◌, Bool, true, false, cond, inl, inr, ⊎_elim, arith}
 use Rattle.std.specs.Prelude.{Contains, filter, nat_lt}
 use Rattle.std.proofs.lemmas.Bool.{ltb-false}
-use Rattle.monomial_order.specs.Lists.{contains_here, contains_there, contains_cases}
-use Rattle.poly_core.specs.Subalgebra.{Presented}
+use Rattle.monomial_order.specs.laws.Lists.{contains_here, contains_there, contains_cases}
+use Rattle.polynomials.specs.Subalgebra.{Presented}
 use Rattle.quotient_gb.specs.declared.basis.Basis.{Basis}
 use Rattle.quotient_gb.specs.declared.meeting.Meeting.{Meeting}
 use Rattle.quotient_gb.specs.Quotient.{IsReady}

@@ -3,8 +3,9 @@ use Rattle.std.proofs.Common.{◌≡◌, ℕ, zero, suc, ◌<◌, ◌≤◌, ref
 use Rattle.std.specs.Prelude.{Contains, map}
 use Rattle.std.specs.List.{insert}
 use Rattle.std.specs.declared.cmp.Ordering.TheVariants.{Less}
-use Rattle.monomial_order.specs.Lists.{contains_here, contains_there, contains_none, contains_cases, contains_at}
-use Rattle.poly_core.specs.Subalgebra.{Presented, Rise}
+use Rattle.monomial_order.specs.laws.Lists.{contains_here, contains_there, contains_none, contains_cases, contains_at}
+use Rattle.polynomials.specs.Subalgebra.{Presented}
+use Rattle.monomial_order.specs.MonomialOrder.{IsIncreasing}
 
 module _ {A : Type 0} where
   pub insert_here : (xs : List A) (k : ℕ) (x : A) → Contains (insert xs k x) x
@@ -67,8 +68,8 @@ map_insert f (y ∷ xs) (suc k) x = ap (λ ys. f y ∷ ys) (map_insert f xs k x)
 
 module _ {E : Type 0} (P : Presented E) where
   -- a rising list with a member put between the smaller and the greater ones
-  pub rise_insert : (ms : List (List ℕ)) (k : ℕ) (m : List ℕ) → Rise P ms → k ≤ length ms →
-      ((i : ℕ) → i < k → P.order.compare (get_or ms i []) m ≡ Less) → (k < length ms → P.order.compare m (get_or ms k []) ≡ Less) → Rise P (insert ms k m)
+  pub rise_insert : (ms : List (List ℕ)) (k : ℕ) (m : List ℕ) → IsIncreasing P.order ms → k ≤ length ms →
+      ((i : ℕ) → i < k → P.order.compare (get_or ms i []) m ≡ Less) → (k < length ms → P.order.compare m (get_or ms k []) ≡ Less) → IsIncreasing P.order (insert ms k m)
   rise_insert [] zero m h l before after = tt
   rise_insert (n ∷ ms) zero m h l before after = (after (omega arith), h)
   rise_insert [] (suc k) m h l before after = tt

@@ -2,8 +2,8 @@
 use Rattle.std.proofs.Common.{◌≡◌, ℕ, ◌+◌, ◌≤◌, sym, ◌∙◌, ap, subst, List, arith, ⊎_elim}
 use Rattle.monomial_order.specs.Monomial.{exponent, product, least_common_multiple as lcm, IsTrimmed, IsMonomial, Divides}
 use Rattle.monomial_order.specs.MonomialOrder.{MonomialOrder, IsMonomialOrder}
-use Rattle.monomial_order.specs.MonomialLaws.{exponent-product, IsTrimmed-product, IsMonomial-product, product_assoc, product_comm, length-product, exponent-least_common_multiple as exponent-lcm, IsTrimmed-least_common_multiple as IsTrimmed-lcm, IsMonomial-least_common_multiple as IsMonomial-lcm}
-use Rattle.monomial_order.specs.Cofactors.{cofactor, same_exponents}
+use Rattle.monomial_order.specs.laws.Monomial.{exponent-product, IsTrimmed-product, IsMonomial-product, product_assoc, product_comm, length-product, exponent-least_common_multiple as exponent-lcm, IsTrimmed-least_common_multiple as IsTrimmed-lcm, IsMonomial-least_common_multiple as IsMonomial-lcm}
+use Rattle.monomial_order.specs.laws.Cofactors.{cofactor, same_exponents}
 use Rattle.quotient_gb.specs.Waiting.{AreCoprime}
 
 pub product_divides : (k m : List ℕ) → Divides m (product k m)

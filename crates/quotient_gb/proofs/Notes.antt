@@ -1,7 +1,7 @@
 -- Lists that grow at their ends, and the meetings that they note.
 use Rattle.std.proofs.Common.{◌≡◌, ℕ, ◌<◌, sym, ◌∙◌, ap, subst, List, [], ◌∷◌, ◌++◌, ◌⊎◌, inl, inr, ⊎_elim, append_assoc, append-nil, take}
 use Rattle.std.specs.Prelude.{Contains, slice_index_or}
-use Rattle.monomial_order.specs.Lists.{contains_here, contains_there, contains_none, contains_cases, contains_left, contains_right}
+use Rattle.monomial_order.specs.laws.Lists.{contains_here, contains_there, contains_none, contains_cases, contains_left, contains_right}
 use Rattle.monomial_order.specs.Monomial.{least_common_multiple}
 use Rattle.monomial_order.specs.MonomialOrder.{MonomialOrder}
 use Rattle.quotient_gb.specs.declared.meeting.Meeting.{Meeting}

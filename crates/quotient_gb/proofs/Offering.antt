@@ -2,18 +2,18 @@
 use Rattle.std.proofs.Common.{◌≡◌, ◌≢◌, ℕ, ◌≤◌, refl, sym, ◌∙◌, ap, subst, List, [], ◌∷◌, ◌++◌, ⊎_elim, arith, append-nil}
 use Rattle.std.specs.Prelude.{Contains, map}
 use Rattle.word_field.specs.Field.{IsValue}
-use Rattle.word_field.specs.FieldLaws.{reduce-times, one-times}
-use Rattle.monomial_order.specs.declared.Term.{Term}
-use Rattle.monomial_order.specs.Comparing.{degree_falls}
-use Rattle.monomial_order.specs.ReducibleLaws.{IsMultiple}
-use Rattle.poly_core.specs.Poly.{coefficient, term_of, times, scaled, minus, constant, first_coefficient, Falls, lead, degree_of}
-use Rattle.poly_core.specs.Ideal.{InIdeal}
-use Rattle.poly_core.specs.Subalgebra.{Presented, IsPresentation}
-use Rattle.poly_core.specs.RingLaws.{coefficient_value}
-use Rattle.poly_core.specs.ValueLaws.{coefficient-scaled, coefficient-constant_times}
-use Rattle.poly_core.specs.FallingLaws.{coefficient_first}
-use Rattle.poly_core.specs.CongruenceLaws.{congruent_sym, congruent_trans, congruent_member, member_congruent}
-use Rattle.poly_core.specs.IdealLaws.{InIdeal_same, InIdeal_times}
+use Rattle.word_field.specs.laws.Field.{reduce-times, one-times}
+use Rattle.monomial_order.specs.declared.terms.Term.{Term}
+use Rattle.monomial_order.specs.laws.Comparing.{degree_falls}
+use Rattle.monomial_order.specs.Monomial.{IsMultiple}
+use Rattle.polynomials.specs.Polynomial.{Polynomial, coefficient, term_of, times, scaled, minus, constant, first_coefficient, IsDecreasing, lead_monomial, degree_of}
+use Rattle.polynomials.specs.Ideal.{InIdeal}
+use Rattle.polynomials.specs.Subalgebra.{Presented, IsPresentation}
+use Rattle.polynomials.specs.laws.Ring.{coefficient_value}
+use Rattle.polynomials.specs.laws.Value.{coefficient-scaled, coefficient-constant_times}
+use Rattle.polynomials.specs.laws.Decreasing.{coefficient_first}
+use Rattle.polynomials.specs.laws.Congruence.{congruent_sym, congruent_trans, congruent_member, member_congruent}
+use Rattle.polynomials.specs.laws.Ideal.{InIdeal_same, InIdeal_times}
 use Rattle.quotient_gb.specs.Combinations.{AtMost, Combines, ReducesToZero}
 use Rattle.quotient_gb.specs.Remainder.{IsRemainder}
 use Rattle.quotient_gb.specs.IdealBasis.{IsMonicMember}
@@ -22,42 +22,42 @@ use Rattle.quotient_gb.proofs.Combinations.{IsTerm_constant, combines_same, comb
 use Rattle.quotient_gb.proofs.Complete.{put_back}
 use Rattle.quotient_gb.proofs.Growing.{has_divisor}
 
-module _ {E : Type 0} (P : Presented E) (H : IsPresentation P) (G : List (List (Term E))) (members : (g : List (Term E)) → Contains G g → IsMonicMember P g)
-    (a rest : List (Term E)) (fa : Falls P.field P.order a) (ha : InIdeal P.field P.order.places P.ideal a) (rem : IsRemainder P.field P.order G (AtMost P.order (lead a)) a rest) where
+module _ {E : Type 0} (P : Presented E) (H : IsPresentation P) (G : List (Polynomial E)) (members : (g : Polynomial E) → Contains G g → IsMonicMember P g)
+    (a rest : Polynomial E) (fa : IsDecreasing P.field P.order a) (ha : InIdeal P.field P.order.places P.ideal a) (rem : IsRemainder P.field P.order G (AtMost P.order (lead_monomial a)) a rest) where
   pub rest_inside : InIdeal P.field P.order.places P.ideal rest
   rest_inside = member_congruent P.field H.field P.order.places P.ideal rest
       (congruent_trans P.field H.field P.order.places P.ideal rest a []
-      (congruent_sym P.field H.field P.order.places P.ideal a rest (combines_inside P.field H.field P.order H.order G P.ideal (λ g h. (members g h).inside) (AtMost P.order (lead a)) (minus P.field a rest) rem.combines))
+      (congruent_sym P.field H.field P.order.places P.ideal a rest (combines_inside P.field H.field P.order H.order G P.ideal (λ g h. (members g h).inside) (AtMost P.order (lead_monomial a)) (minus P.field a rest) rem.combines))
       (congruent_member P.field H.field P.order.places P.ideal a ha))
 
   pub nothing_left : rest ≡ [] → ReducesToZero P.field P.order G a
   nothing_left e M l =
       subst (λ m. Combines P.field P.order G (AtMost P.order m) a) (leads_is P.field H.field P.order H.order a fa M l)
-      (subst (Combines P.field P.order G (AtMost P.order (lead a))) (append-nil a) (subst (λ r. Combines P.field P.order G (AtMost P.order (lead a)) (minus P.field a r)) e rem.combines))
+      (subst (Combines P.field P.order G (AtMost P.order (lead_monomial a))) (append-nil a) (subst (λ r. Combines P.field P.order G (AtMost P.order (lead_monomial a)) (minus P.field a r)) e rem.combines))
 
-  module _ (fr : Falls P.field P.order rest) (some : rest ≢ []) where
-    pub rest_at_most : AtMost P.order (lead a) (lead rest)
-    rest_at_most = rem.has (lead rest) (falls_leads P.field H.field P.order H.order rest fr some).nonzero
+  module _ (fr : IsDecreasing P.field P.order rest) (some : rest ≢ []) where
+    pub rest_at_most : AtMost P.order (lead_monomial a) (lead_monomial rest)
+    rest_at_most = rem.has (lead_monomial rest) (falls_leads P.field H.field P.order H.order rest fr some).nonzero
 
-    pub rest_degree : (d : ℕ) → degree_of P.order a ≤ d → P.order.degree (lead rest) ≤ d
-    rest_degree d l = ⊎_elim (λ e. subst (λ m. P.order.degree m ≤ d) (sym e) l) (λ lt. let q = degree_falls P.order H.order (lead rest) (lead a) lt in omega arith) rest_at_most
+    pub rest_degree : (d : ℕ) → degree_of P.order a ≤ d → P.order.degree (lead_monomial rest) ≤ d
+    rest_degree d l = ⊎_elim (λ e. subst (λ m. P.order.degree m ≤ d) (sym e) l) (λ lt. let q = degree_falls P.order H.order (lead_monomial rest) (lead_monomial a) lt in omega arith) rest_at_most
 
-    pub rest_fresh : IsMultiple (map lead G) (lead rest) → ⊥
-    rest_fresh h = rem.reduced (lead rest) (falls_leads P.field H.field P.order H.order rest fr some).nonzero (has_divisor G (lead rest) h)
+    pub rest_fresh : IsMultiple (map lead_monomial G) (lead_monomial rest) → ⊥
+    rest_fresh h = rem.reduced (lead_monomial rest) (falls_leads P.field H.field P.order H.order rest fr some).nonzero (has_divisor G (lead_monomial rest) h)
 
-    front_value : (q : List (Term E)) → Falls P.field P.order q → q ≢ [] → IsValue P.field (first_coefficient P.field q)
+    front_value : (q : Polynomial E) → IsDecreasing P.field P.order q → q ≢ [] → IsValue P.field (first_coefficient P.field q)
     front_value [] f n = absurd (n refl)
     front_value (t ∷ q) f n = f.0.term.value
 
-    front_nonzero : (q : List (Term E)) → Falls P.field P.order q → q ≢ [] → first_coefficient P.field q ≢ P.field.zero
+    front_nonzero : (q : Polynomial E) → IsDecreasing P.field P.order q → q ≢ [] → first_coefficient P.field q ≢ P.field.zero
     front_nonzero [] f n = absurd (n refl)
     front_nonzero (t ∷ q) f n = f.0.nonzero
 
-    front_is : (q : List (Term E)) → Falls P.field P.order q → q ≢ [] → coefficient P.field q (lead q) ≡ first_coefficient P.field q
+    front_is : (q : Polynomial E) → IsDecreasing P.field P.order q → q ≢ [] → coefficient P.field q (lead_monomial q) ≡ first_coefficient P.field q
     front_is [] f n = absurd (n refl)
     front_is (t ∷ q) f n = coefficient_first P.field H.field P.order H.order t q f.0
 
-    module _ (n : List (Term E)) (fn : Falls P.field P.order n) (same_lead : lead n ≡ lead rest) (one : first_coefficient P.field n ≡ P.field.one)
+    module _ (n : Polynomial E) (fn : IsDecreasing P.field P.order n) (same_lead : lead_monomial n ≡ lead_monomial rest) (one : first_coefficient P.field n ≡ P.field.one)
         (multiple : (m : List ℕ) → coefficient P.field rest m ≡ P.field.times (first_coefficient P.field rest) (coefficient P.field n m)) where
       n_some : n ≢ []
       n_some e = H.field.one_not_zero (sym one ∙ ap (first_coefficient P.field) e)
@@ -81,18 +81,18 @@ module _ {E : Type 0} (P : Presented E) (H : IsPresentation P) (G : List (List (
 
       pub new_member : IsMonicMember P n
       new_member = record {
-        falls = fn;
+        decreasing = fn;
         monic = front_is n fn n_some ∙ one;
         inside = n_inside (H.field.inverse (first_coefficient P.field rest) (λ z. front_nonzero rest fr some (sym (front_value rest fr some) ∙ z)));
       }
 
-      pub then_reduces : (G' : List (List (Term E))) → ((g : List (Term E)) → Contains G g → Contains G' g) → Contains G' n → ReducesToZero P.field P.order G' a
+      pub then_reduces : (G' : List (Polynomial E)) → ((g : Polynomial E) → Contains G g → Contains G' g) → Contains G' n → ReducesToZero P.field P.order G' a
       then_reduces G' more has M l =
           let f = first_coefficient P.field rest in
           subst (λ m. Combines P.field P.order G' (AtMost P.order m) a) (leads_is P.field H.field P.order H.order a fa M l)
-          (combines_same P.field H.field P.order H.order G' (AtMost P.order (lead a)) (minus P.field a rest ++ rest) a (put_back P.field H.field a rest)
-          (combines_plus P.field H.field P.order H.order G' (AtMost P.order (lead a)) (minus P.field a rest) rest
-          (combines_more P.field H.field P.order H.order G G' more (AtMost P.order (lead a)) (minus P.field a rest) rem.combines)
-          (combines_same P.field H.field P.order H.order G' (AtMost P.order (lead a)) (scaled P.field (term_of [] f) n) rest (λ m. coefficient-scaled P.field H.field f n m ∙ sym (multiple m))
-          (combines_one P.field H.field P.order H.order G' (AtMost P.order (lead a)) (term_of [] f) n (IsTerm_constant P.field H.field P.order.places f (front_value rest fr some)) has
-          (subst (AtMost P.order (lead a)) (sym same_lead) rest_at_most)))))
+          (combines_same P.field H.field P.order H.order G' (AtMost P.order (lead_monomial a)) (minus P.field a rest ++ rest) a (put_back P.field H.field a rest)
+          (combines_plus P.field H.field P.order H.order G' (AtMost P.order (lead_monomial a)) (minus P.field a rest) rest
+          (combines_more P.field H.field P.order H.order G G' more (AtMost P.order (lead_monomial a)) (minus P.field a rest) rem.combines)
+          (combines_same P.field H.field P.order H.order G' (AtMost P.order (lead_monomial a)) (scaled P.field (term_of [] f) n) rest (λ m. coefficient-scaled P.field H.field f n m ∙ sym (multiple m))
+          (combines_one P.field H.field P.order H.order G' (AtMost P.order (lead_monomial a)) (term_of [] f) n (IsTerm_constant P.field H.field P.order.places f (front_value rest fr some)) has
+          (subst (AtMost P.order (lead_monomial a)) (sym same_lead) rest_at_most)))))

@@ -5,19 +5,19 @@ use Rattle.std.specs.Prelude.{Contains, nat_lt}
 use Rattle.std.proofs.lemmas.Bool.{ltb-true, ltb-false}
 use Rattle.std.specs.declared.cmp.Ordering.TheVariants.{Less}
 use Rattle.word_field.specs.Field.{FieldOps, IsField}
-use Rattle.word_field.specs.FieldLaws.{reduce-plus, zero-plus-zero, negate-zero}
-use Rattle.monomial_order.specs.declared.Term.{Term}
+use Rattle.word_field.specs.laws.Field.{reduce-plus, zero-plus-zero, negate-zero}
+use Rattle.monomial_order.specs.declared.terms.Term.{Term}
 use Rattle.monomial_order.specs.Monomial.{product, least_common_multiple as lcm, IsMonomial}
 use Rattle.monomial_order.specs.MonomialOrder.{MonomialOrder, IsMonomialOrder}
-use Rattle.monomial_order.specs.MonomialLaws.{product_comm, IsMonomial-least_common_multiple as IsMonomial-lcm, least_common_multiple_comm as lcm_comm}
-use Rattle.poly_core.specs.Poly.{coefficient, Same, term_of, term_times, times, scaled, negated, minus, IsPoly, IsBelow, Falls, IsLead, lead}
-use Rattle.poly_core.specs.RingLaws.{coefficient-append, times_comm}
-use Rattle.poly_core.specs.SameLaws.{minus_self}
-use Rattle.poly_core.specs.FallingLaws.{Falls_IsPoly, coefficient_first}
-use Rattle.poly_core.specs.CanonicalLaws.{zero_or_lead}
-use Rattle.poly_core.specs.CongruenceLaws.{coefficient-minus, negated-minus}
-use Rattle.poly_core.specs.IdealLaws.{IsPoly-append, IsPoly-scaled, IsPoly-negated}
-use Rattle.poly_core.specs.KeptLaws.{Falls-scaled}
+use Rattle.monomial_order.specs.laws.Monomial.{product_comm, IsMonomial-least_common_multiple as IsMonomial-lcm, least_common_multiple_comm as lcm_comm}
+use Rattle.polynomials.specs.Polynomial.{Polynomial, coefficient, Same, term_of, term_times, times, scaled, negated, minus, IsPoly, IsBelow, IsDecreasing, IsLead, lead_monomial}
+use Rattle.polynomials.specs.laws.Ring.{coefficient-append, times_comm}
+use Rattle.polynomials.specs.laws.Same.{minus_self}
+use Rattle.polynomials.specs.laws.Decreasing.{IsDecreasing_IsPoly, coefficient_first}
+use Rattle.polynomials.specs.laws.Canonical.{zero_or_lead}
+use Rattle.polynomials.specs.laws.Congruence.{coefficient-minus, negated-minus}
+use Rattle.polynomials.specs.laws.Ideal.{IsPoly-append, IsPoly-scaled, IsPoly-negated}
+use Rattle.polynomials.specs.laws.Terms.{IsDecreasing-scaled}
 use Rattle.quotient_gb.specs.Combinations.{AtMost, Under, Combines}
 use Rattle.quotient_gb.specs.Waiting.{AreCoprime}
 use Rattle.quotient_gb.specs.Criterion.{AreCofactors, critical_pair, IsReduced, IsJoined}
@@ -38,66 +38,66 @@ module _ {E : Type 0} (K : FieldOps E) (F : IsField K) where
       (F.plus_zero (K.plus d (K.negate b)) ∙ F.plus_value d (K.negate b)))))
 
   -- a member in two parts
-  pub record IsParted (O : MonomialOrder) (g : List (Term E)) : Type 0 where
-    pub rest : List (Term E)
+  pub record IsParted (O : MonomialOrder) (g : Polynomial E) : Type 0 where
+    pub rest : Polynomial E
     pub poly : IsPoly K O.places rest
-    pub below : IsBelow K O (lead g) rest
-    pub is : g ≡ term_of (lead g) K.one ∷ rest
+    pub below : IsBelow K O (lead_monomial g) rest
+    pub is : g ≡ term_of (lead_monomial g) K.one ∷ rest
 
   module _ (O : MonomialOrder) (L : IsMonomialOrder O) where
-    pub parted : (g : List (Term E)) → IsReducer K O g → IsParted O g
-    parted g h = cases g h.falls h.monic
+    pub parted : (g : Polynomial E) → IsReducer K O g → IsParted O g
+    parted g h = cases g h.decreasing h.monic
       where
-        cases : (g : List (Term E)) → Falls K O g → coefficient K g (lead g) ≡ K.one → IsParted O g
+        cases : (g : Polynomial E) → IsDecreasing K O g → coefficient K g (lead_monomial g) ≡ K.one → IsParted O g
         cases [] f e = absurd (F.one_not_zero (sym e ∙ sym (nothing_at K [])))
         cases (u ∷ p) f e = record {
           rest = p;
-          poly = Falls_IsPoly K O p f.1;
+          poly = IsDecreasing_IsPoly K O p f.1;
           below = f.0.above;
           is = ap (λ c. term_of u.at c ∷ p) (sym (coefficient_first K F O L u p f.0) ∙ e);
         }
 
     -- a monomial times a monic list is monic
-    pub scaled_monic : (u : List ℕ) (g : List (Term E)) → IsMonomial O.places u → IsReducer K O g → coefficient K (scaled K (term_of u K.one) g) (product u (lead g)) ≡ K.one
-    scaled_monic u g hu h = cases g h.falls h.monic
+    pub scaled_monic : (u : List ℕ) (g : Polynomial E) → IsMonomial O.places u → IsReducer K O g → coefficient K (scaled K (term_of u K.one) g) (product u (lead_monomial g)) ≡ K.one
+    scaled_monic u g hu h = cases g h.decreasing h.monic
       where
-        cases : (g : List (Term E)) → Falls K O g → coefficient K g (lead g) ≡ K.one → coefficient K (scaled K (term_of u K.one) g) (product u (lead g)) ≡ K.one
+        cases : (g : Polynomial E) → IsDecreasing K O g → coefficient K g (lead_monomial g) ≡ K.one → coefficient K (scaled K (term_of u K.one) g) (product u (lead_monomial g)) ≡ K.one
         cases [] f e = absurd (F.one_not_zero (sym e ∙ sym (nothing_at K [])))
         cases (x ∷ p) f e =
             coefficient_first K F O L (term_times K (term_of u K.one) x) (scaled K (term_of u K.one) p)
-            (Falls-scaled K F O L (term_of u K.one) (x ∷ p) (record { monomial = hu; value = F.one_value }) F.one_not_zero f).0 ∙
+            (IsDecreasing-scaled K F O L (term_of u K.one) (x ∷ p) (record { monomial = hu; value = F.one_value }) F.one_not_zero f).0 ∙
             (ap (K.times K.one) (sym (coefficient_first K F O L x p f.0) ∙ e) ∙ (F.times_one K.one ∙ F.one_value))
 
 module _ {E : Type 0} (K : FieldOps E) (F : IsField K) (O : MonomialOrder) (L : IsMonomialOrder O)
-    (G : List (List (Term E))) (HG : (g : List (Term E)) → Contains G g → IsReducer K O g) where
-  mono : (g : List (Term E)) → Contains G g → IsMonomial O.places (lead g)
+    (G : List (Polynomial E)) (HG : (g : Polynomial E) → Contains G g → IsReducer K O g) where
+  mono : (g : Polynomial E) → Contains G g → IsMonomial O.places (lead_monomial g)
   mono g h = monomials K F O L G HG g h
 
-  pub joined_sym : (g h : List (Term E)) → IsJoined K O G g h → IsJoined K O G h g
+  pub joined_sym : (g h : Polynomial E) → IsJoined K O G g h → IsJoined K O G h g
   joined_sym g h j u v k =
-      let e = lcm_comm (lead h) (lead g) in
+      let e = lcm_comm (lead_monomial h) (lead_monomial g) in
       subst (λ x. Combines K O G (Under O x) (critical_pair K u h v g)) (sym e)
-      (combines_same K F O L G (Under O (lcm (lead g) (lead h))) (negated K (critical_pair K v g u h)) (critical_pair K u h v g)
+      (combines_same K F O L G (Under O (lcm (lead_monomial g) (lead_monomial h))) (negated K (critical_pair K v g u h)) (critical_pair K u h v g)
       (negated-minus K F (scaled K (term_of v K.one) g) (scaled K (term_of u K.one) h))
-      (combines_negated K F O L G mono (Under O (lcm (lead g) (lead h))) (critical_pair K v g u h) (j v u (record { left_trimmed = k.right_trimmed; right_trimmed = k.left_trimmed; left = k.right ∙ e; right = k.left ∙ e }))))
+      (combines_negated K F O L G mono (Under O (lcm (lead_monomial g) (lead_monomial h))) (critical_pair K v g u h) (j v u (record { left_trimmed = k.right_trimmed; right_trimmed = k.left_trimmed; left = k.right ∙ e; right = k.left ∙ e }))))
 
-  pub joined_self : (g : List (Term E)) → IsJoined K O G g g
+  pub joined_self : (g : Polynomial E) → IsJoined K O G g g
   joined_self g u v k =
-      let same : u ≡ v = product_cancel u v (lead g) k.left_trimmed k.right_trimmed (k.left ∙ sym k.right) in
-      combines_same K F O L G (Under O (lcm (lead g) (lead g))) [] (critical_pair K u g v g)
+      let same : u ≡ v = product_cancel u v (lead_monomial g) k.left_trimmed k.right_trimmed (k.left ∙ sym k.right) in
+      combines_same K F O L G (Under O (lcm (lead_monomial g) (lead_monomial g))) [] (critical_pair K u g v g)
       (λ m. sym (ap (λ x. coefficient K (critical_pair K x g v g) m) same ∙ minus_self K F (scaled K (term_of v K.one) g) m))
-      (combines_zero K F O L G (Under O (lcm (lead g) (lead g))))
+      (combines_zero K F O L G (Under O (lcm (lead_monomial g) (lead_monomial g))))
 
   -- it is enough to look at each pair of two places once
   pub joined_all : (c : ℕ) →
-      ((i j : ℕ) → i < j → j < length G → O.degree (lcm (lead (get_or G i [])) (lead (get_or G j []))) ≤ c → IsJoined K O G (get_or G i []) (get_or G j [])) →
-      (g h : List (Term E)) → Contains G g → Contains G h → O.degree (lcm (lead g) (lead h)) ≤ c → IsJoined K O G g h
+      ((i j : ℕ) → i < j → j < length G → O.degree (lcm (lead_monomial (get_or G i [])) (lead_monomial (get_or G j []))) ≤ c → IsJoined K O G (get_or G i []) (get_or G j [])) →
+      (g h : Polynomial E) → Contains G g → Contains G h → O.degree (lcm (lead_monomial g) (lead_monomial h)) ≤ c → IsJoined K O G g h
   joined_all c some g h hg hh l =
       elim (nat_lt hg.0 hh.0) as (λ b. nat_lt hg.0 hh.0 ≡ b → IsJoined K O G g h) [
         | true ↦ λ e. at hg.0 hh.0 g h (ltb-true hg.0 hh.0 e) hh.1 (found hg.0 g hg.1 hg.2) (found hh.0 h hh.1 hh.2) l
         | false ↦ λ e. elim (nat_lt hh.0 hg.0) as (λ b. nat_lt hh.0 hg.0 ≡ b → IsJoined K O G g h) [
           | true ↦ λ e2. joined_sym h g (at hh.0 hg.0 h g (ltb-true hh.0 hg.0 e2) hg.1 (found hh.0 h hh.1 hh.2) (found hg.0 g hg.1 hg.2)
-              (let q : O.degree (lcm (lead h) (lead g)) ≡ O.degree (lcm (lead g) (lead h)) = ap O.degree (lcm_comm (lead h) (lead g)) in omega arith))
+              (let q : O.degree (lcm (lead_monomial h) (lead_monomial g)) ≡ O.degree (lcm (lead_monomial g) (lead_monomial h)) = ap O.degree (lcm_comm (lead_monomial h) (lead_monomial g)) in omega arith))
           | false ↦ λ e2.
               let a : hh.0 ≤ hg.0 = ltb-false hg.0 hh.0 e in
               let b : hg.0 ≤ hh.0 = ltb-false hh.0 hg.0 e2 in
@@ -106,99 +106,99 @@ module _ {E : Type 0} (K : FieldOps E) (F : IsField K) (O : MonomialOrder) (L : 
         ] refl
       ] refl
     where
-      found_in : (xs : List (List (Term E))) (i : ℕ) (x : List (Term E)) → i < length xs → get_or xs i x ≡ x → get_or xs i [] ≡ x
+      found_in : (xs : List (Polynomial E)) (i : ℕ) (x : Polynomial E) → i < length xs → get_or xs i x ≡ x → get_or xs i [] ≡ x
       found_in [] i x l e = absurd (omega arith)
       found_in (y ∷ xs) zero x l e = e
       found_in (y ∷ xs) (suc i) x l e = found_in xs i x (omega arith) e
 
-      found : (i : ℕ) (x : List (Term E)) → i < length G → get_or G i x ≡ x → get_or G i [] ≡ x
+      found : (i : ℕ) (x : Polynomial E) → i < length G → get_or G i x ≡ x → get_or G i [] ≡ x
       found i x l e = found_in G i x l e
 
-      at : (i j : ℕ) (g h : List (Term E)) → i < j → j < length G → get_or G i [] ≡ g → get_or G j [] ≡ h → O.degree (lcm (lead g) (lead h)) ≤ c → IsJoined K O G g h
+      at : (i j : ℕ) (g h : Polynomial E) → i < j → j < length G → get_or G i [] ≡ g → get_or G j [] ≡ h → O.degree (lcm (lead_monomial g) (lead_monomial h)) ≤ c → IsJoined K O G g h
       at i j g h lt l eg eh d =
           subst (λ x. IsJoined K O G x h) eg (subst (IsJoined K O G (get_or G i [])) eh
-          (some i j lt l (subst (λ x. O.degree (lcm (lead x) (lead (get_or G j []))) ≤ c) (sym eg) (subst (λ x. O.degree (lcm (lead g) (lead x)) ≤ c) (sym eh) d))))
+          (some i j lt l (subst (λ x. O.degree (lcm (lead_monomial x) (lead_monomial (get_or G j []))) ≤ c) (sym eg) (subst (λ x. O.degree (lcm (lead_monomial g) (lead_monomial x)) ≤ c) (sym eh) d))))
 
-  module _ (g h : List (Term E)) (hg : Contains G g) (hh : Contains G h) where
+  module _ (g h : Polynomial E) (hg : Contains G g) (hh : Contains G h) where
     -- the monomials of a critical pair are below the least common multiple
-    pub pair_under : (u v : List ℕ) → AreCofactors u (lead g) v (lead h) → (n : List ℕ) → coefficient K (critical_pair K u g v h) n ≢ K.zero → O.compare n (lcm (lead g) (lead h)) ≡ Less
+    pub pair_under : (u v : List ℕ) → AreCofactors u (lead_monomial g) v (lead_monomial h) → (n : List ℕ) → coefficient K (critical_pair K u g v h) n ≢ K.zero → O.compare n (lcm (lead_monomial g) (lead_monomial h)) ≡ Less
     pair_under u v w n k =
         let tu = w.left_trimmed in
         let tv = w.right_trimmed in
         let eu = w.left in
         let ev = w.right in
-        let M = lcm (lead g) (lead h) in
+        let M = lcm (lead_monomial g) (lead_monomial h) in
         let A = scaled K (term_of u K.one) g in
         let B = scaled K (term_of v K.one) h in
-        let mM = IsMonomial-lcm O.places (lead g) (lead h) (mono g hg) (mono h hh) in
-        let mu = divides_left u (lead g) O.places (subst (IsMonomial O.places) (sym eu) mM) tu in
-        let mv = divides_left v (lead h) O.places (subst (IsMonomial O.places) (sym ev) mM) tv in
+        let mM = IsMonomial-lcm O.places (lead_monomial g) (lead_monomial h) (mono g hg) (mono h hh) in
+        let mu = divides_left u (lead_monomial g) O.places (subst (IsMonomial O.places) (sym eu) mM) tu in
+        let mv = divides_left v (lead_monomial h) O.places (subst (IsMonomial O.places) (sym ev) mM) tv in
         let rg = HG g hg in
         let rh = HG h hh in
         let a : coefficient K A M ≡ K.one = ap (coefficient K A) (sym eu) ∙ scaled_monic K F O L u g mu rg in
         let b : coefficient K B M ≡ K.one = ap (coefficient K B) (sym ev) ∙ scaled_monic K F O L v h mv rh in
-        let la : IsLead K O A M = subst (IsLead K O A) eu (scaled_leads K F O L (term_of u K.one) g (record { monomial = mu; value = F.one_value }) F.one_not_zero rg.falls rg.monic) in
-        let lb : IsLead K O B M = subst (IsLead K O B) ev (scaled_leads K F O L (term_of v K.one) h (record { monomial = mv; value = F.one_value }) F.one_not_zero rh.falls rh.monic) in
+        let la : IsLead K O A M = subst (IsLead K O A) eu (scaled_leads K F O L (term_of u K.one) g (record { monomial = mu; value = F.one_value }) F.one_not_zero rg.decreasing rg.monic) in
+        let lb : IsLead K O B M = subst (IsLead K O B) ev (scaled_leads K F O L (term_of v K.one) h (record { monomial = mv; value = F.one_value }) F.one_not_zero rh.decreasing rh.monic) in
         let ne : n ≢ M = λ e. k (ap (coefficient K (critical_pair K u g v h)) e ∙ (coefficient-minus K F A B M ∙ (ap (λ x. K.plus x (K.negate (coefficient K B M))) a ∙ (ap (λ x. K.plus K.one (K.negate x)) b ∙ F.plus_negate K.one)))) in
         ⊎_elim
         (λ z. lb.greatest n (λ y. k (coefficient-minus K F A B n ∙ (ap (λ x. K.plus x (K.negate (coefficient K B n))) z ∙ (ap (λ x. K.plus K.zero (K.negate x)) y ∙ (ap (K.plus K.zero) (negate-zero K F) ∙ zero-plus-zero K F))))) ne)
         (λ nz. la.greatest n nz ne)
         (F.equal_or_not (coefficient K A n) K.zero)
 
-    pub pair_poly : (u v : List ℕ) → AreCofactors u (lead g) v (lead h) → IsPoly K O.places (critical_pair K u g v h)
+    pub pair_poly : (u v : List ℕ) → AreCofactors u (lead_monomial g) v (lead_monomial h) → IsPoly K O.places (critical_pair K u g v h)
     pair_poly u v w =
-        let mM = IsMonomial-lcm O.places (lead g) (lead h) (mono g hg) (mono h hh) in
+        let mM = IsMonomial-lcm O.places (lead_monomial g) (lead_monomial h) (mono g hg) (mono h hh) in
         IsPoly-append K F O.places (scaled K (term_of u K.one) g) (negated K (scaled K (term_of v K.one) h))
-        (IsPoly-scaled K F O.places (term_of u K.one) g (record { monomial = divides_left u (lead g) O.places (subst (IsMonomial O.places) (sym w.left) mM) w.left_trimmed; value = F.one_value }) (Falls_IsPoly K O g (HG g hg).falls))
+        (IsPoly-scaled K F O.places (term_of u K.one) g (record { monomial = divides_left u (lead_monomial g) O.places (subst (IsMonomial O.places) (sym w.left) mM) w.left_trimmed; value = F.one_value }) (IsDecreasing_IsPoly K O g (HG g hg).decreasing))
         (IsPoly-negated K F O.places (scaled K (term_of v K.one) h)
-        (IsPoly-scaled K F O.places (term_of v K.one) h (record { monomial = divides_left v (lead h) O.places (subst (IsMonomial O.places) (sym w.right) mM) w.right_trimmed; value = F.one_value }) (Falls_IsPoly K O h (HG h hh).falls)))
+        (IsPoly-scaled K F O.places (term_of v K.one) h (record { monomial = divides_left v (lead_monomial h) O.places (subst (IsMonomial O.places) (sym w.right) mM) w.right_trimmed; value = F.one_value }) (IsDecreasing_IsPoly K O h (HG h hh).decreasing)))
 
     -- a pair that reduces to zero is joined
     pub joined_reduction : IsReduced K O G g h → IsJoined K O G g h
     joined_reduction r u v w =
         ⊎_elim
-        (λ z. combines_same K F O L G (Under O (lcm (lead g) (lead h))) [] (critical_pair K u g v h) (λ m. sym (z m)) (combines_zero K F O L G (Under O (lcm (lead g) (lead h)))))
+        (λ z. combines_same K F O L G (Under O (lcm (lead_monomial g) (lead_monomial h))) [] (critical_pair K u g v h) (λ m. sym (z m)) (combines_zero K F O L G (Under O (lcm (lead_monomial g) (lead_monomial h)))))
         (λ M. let lt = pair_under u v w M.0 M.1.nonzero in
-        combines_weaken K F O L G mono (AtMost O M.0) (Under O (lcm (lead g) (lead h))) (critical_pair K u g v h)
-        (λ m hm b. ⊎_elim (λ e. subst (λ x. O.compare x (lcm (lead g) (lead h)) ≡ Less) (sym e) lt) (λ less. L.total.trans m M.0 (lcm (lead g) (lead h)) less lt) b)
+        combines_weaken K F O L G mono (AtMost O M.0) (Under O (lcm (lead_monomial g) (lead_monomial h))) (critical_pair K u g v h)
+        (λ m hm b. ⊎_elim (λ e. subst (λ x. O.compare x (lcm (lead_monomial g) (lead_monomial h)) ≡ Less) (sym e) lt) (λ less. L.total.trans m M.0 (lcm (lead_monomial g) (lead_monomial h)) less lt) b)
         (r u v w M.0 M.1))
         (zero_or_lead K F O L (critical_pair K u g v h) (pair_poly u v w))
 
     -- the cofactors of a pair are determined
-    pub same_cofactors : (Q : List (Term E) → Type 0) (u v : List ℕ) → AreCofactors u (lead g) v (lead h) → Q (critical_pair K u g v h) →
-        (x y : List ℕ) → AreCofactors x (lead g) y (lead h) → Q (critical_pair K x g y h)
+    pub same_cofactors : (Q : Polynomial E → Type 0) (u v : List ℕ) → AreCofactors u (lead_monomial g) v (lead_monomial h) → Q (critical_pair K u g v h) →
+        (x y : List ℕ) → AreCofactors x (lead_monomial g) y (lead_monomial h) → Q (critical_pair K x g y h)
     same_cofactors Q u v w q x y k =
-        subst (λ z. Q (critical_pair K z g y h)) (product_cancel u x (lead g) w.left_trimmed k.left_trimmed (w.left ∙ sym k.left))
-        (subst (λ z. Q (critical_pair K u g z h)) (product_cancel v y (lead h) w.right_trimmed k.right_trimmed (w.right ∙ sym k.right)) q)
+        subst (λ z. Q (critical_pair K z g y h)) (product_cancel u x (lead_monomial g) w.left_trimmed k.left_trimmed (w.left ∙ sym k.left))
+        (subst (λ z. Q (critical_pair K u g z h)) (product_cancel v y (lead_monomial h) w.right_trimmed k.right_trimmed (w.right ∙ sym k.right)) q)
 
   -- terms below m times a member
-  tail_combines : (M m : List ℕ) (p h : List (Term E)) → Contains G h → IsMonomial O.places m → product m (lead h) ≡ M → IsPoly K O.places p → IsBelow K O m p → Combines K O G (Under O M) (times K p h)
+  tail_combines : (M m : List ℕ) (p h : Polynomial E) → Contains G h → IsMonomial O.places m → product m (lead_monomial h) ≡ M → IsPoly K O.places p → IsBelow K O m p → Combines K O G (Under O M) (times K p h)
   tail_combines M m [] h hh hm e hp b = combines_zero K F O L G (Under O M)
   tail_combines M m (t ∷ p) h hh hm e hp b =
       combines_plus K F O L G (Under O M) (scaled K t h) (times K p h)
       (combines_one K F O L G (Under O M) t h hp.0 hh
-      (ap (λ x. O.compare x M) (product_comm t.at (lead h)) ∙ (ap (O.compare (product (lead h) t.at)) (sym e ∙ product_comm m (lead h)) ∙
-      (L.kept (lead h) t.at m (mono h hh).trimmed hp.0.monomial.trimmed hm.trimmed ∙ b.0))))
+      (ap (λ x. O.compare x M) (product_comm t.at (lead_monomial h)) ∙ (ap (O.compare (product (lead_monomial h) t.at)) (sym e ∙ product_comm m (lead_monomial h)) ∙
+      (L.kept (lead_monomial h) t.at m (mono h hh).trimmed hp.0.monomial.trimmed hm.trimmed ∙ b.0))))
       (tail_combines M m p h hh hm e hp.1 b.1)
 
   -- a pair with coprime leads is joined
-  pub joined_coprime : (g h : List (Term E)) → Contains G g → Contains G h → AreCoprime (lead g) (lead h) → IsJoined K O G g h
+  pub joined_coprime : (g h : Polynomial E) → Contains G g → Contains G h → AreCoprime (lead_monomial g) (lead_monomial h) → IsJoined K O G g h
   joined_coprime g h hg hh co u v w =
-      subst (λ x. Combines K O G (Under O (lcm (lead g) (lead h))) (critical_pair K x g v h)) (sym is_u)
-      (subst (λ x. Combines K O G (Under O (lcm (lead g) (lead h))) (critical_pair K (lead h) g x h)) (sym is_v)
-      (combines_same K F O L G (Under O (lcm (lead g) (lead h))) (minus K (times K p h) (times K q g)) (critical_pair K (lead h) g (lead g) h) (λ m. sym (moved m))
-      (combines_minus K F O L G mono (Under O (lcm (lead g) (lead h))) (times K p h) (times K q g)
-      (tail_combines (lcm (lead g) (lead h)) (lead g) p h hh (mono g hg) (sym whole) pg.poly pg.below)
-      (tail_combines (lcm (lead g) (lead h)) (lead h) q g hg (mono h hh) (product_comm (lead h) (lead g) ∙ sym whole) ph.poly ph.below))))
+      subst (λ x. Combines K O G (Under O (lcm (lead_monomial g) (lead_monomial h))) (critical_pair K x g v h)) (sym is_u)
+      (subst (λ x. Combines K O G (Under O (lcm (lead_monomial g) (lead_monomial h))) (critical_pair K (lead_monomial h) g x h)) (sym is_v)
+      (combines_same K F O L G (Under O (lcm (lead_monomial g) (lead_monomial h))) (minus K (times K p h) (times K q g)) (critical_pair K (lead_monomial h) g (lead_monomial g) h) (λ m. sym (moved m))
+      (combines_minus K F O L G mono (Under O (lcm (lead_monomial g) (lead_monomial h))) (times K p h) (times K q g)
+      (tail_combines (lcm (lead_monomial g) (lead_monomial h)) (lead_monomial g) p h hh (mono g hg) (sym whole) pg.poly pg.below)
+      (tail_combines (lcm (lead_monomial g) (lead_monomial h)) (lead_monomial h) q g hg (mono h hh) (product_comm (lead_monomial h) (lead_monomial g) ∙ sym whole) ph.poly ph.below))))
     where
-      whole : lcm (lead g) (lead h) ≡ product (lead g) (lead h)
-      whole = lcm_coprime (lead g) (lead h) (mono g hg).trimmed (mono h hh).trimmed co
+      whole : lcm (lead_monomial g) (lead_monomial h) ≡ product (lead_monomial g) (lead_monomial h)
+      whole = lcm_coprime (lead_monomial g) (lead_monomial h) (mono g hg).trimmed (mono h hh).trimmed co
 
-      is_u : u ≡ lead h
-      is_u = product_cancel u (lead h) (lead g) w.left_trimmed (mono h hh).trimmed (w.left ∙ (whole ∙ product_comm (lead g) (lead h)))
+      is_u : u ≡ lead_monomial h
+      is_u = product_cancel u (lead_monomial h) (lead_monomial g) w.left_trimmed (mono h hh).trimmed (w.left ∙ (whole ∙ product_comm (lead_monomial g) (lead_monomial h)))
 
-      is_v : v ≡ lead g
-      is_v = product_cancel v (lead g) (lead h) w.right_trimmed (mono g hg).trimmed (w.right ∙ whole)
+      is_v : v ≡ lead_monomial g
+      is_v = product_cancel v (lead_monomial g) (lead_monomial h) w.right_trimmed (mono g hg).trimmed (w.right ∙ whole)
 
       pg : IsParted K F O g
       pg = parted K F O L g (HG g hg)
@@ -206,17 +206,17 @@ module _ {E : Type 0} (K : FieldOps E) (F : IsField K) (O : MonomialOrder) (L : 
       ph : IsParted K F O h
       ph = parted K F O L h (HG h hh)
 
-      p : List (Term E)
+      p : Polynomial E
       p = pg.rest
 
-      q : List (Term E)
+      q : Polynomial E
       q = ph.rest
 
-      moved : Same K (critical_pair K (lead h) g (lead g) h) (minus K (times K pg.rest h) (times K ph.rest g))
+      moved : Same K (critical_pair K (lead_monomial h) g (lead_monomial g) h) (minus K (times K pg.rest h) (times K ph.rest g))
       moved m =
-          let A = scaled K (term_of (lead h) K.one) g in
+          let A = scaled K (term_of (lead_monomial h) K.one) g in
           let B = times K ph.rest g in
-          let C = scaled K (term_of (lead g) K.one) h in
+          let C = scaled K (term_of (lead_monomial g) K.one) h in
           let D = times K pg.rest h in
           let both : K.plus (coefficient K A m) (coefficient K B m) ≡ K.plus (coefficient K C m) (coefficient K D m) =
           sym (coefficient-append K F A B m) ∙ (ap (λ x. coefficient K (times K x g) m) (sym ph.is) ∙ (times_comm K F h g m ∙ (ap (λ x. coefficient K (times K x h) m) pg.is ∙ coefficient-append K F C D m))) in

@@ -1,16 +1,16 @@
 -- What a quotient that fits a presentation tells of its ideal.
 use Rattle.std.proofs.Common.{◌≡◌, ℕ, ◌<◌, ◌≤◌, sym, ◌∙◌, ap, subst, List, [], length, arith, ⊎_elim}
 use Rattle.std.specs.Prelude.{Contains, map}
-use Rattle.monomial_order.specs.declared.Term.{Term}
+use Rattle.monomial_order.specs.declared.terms.Term.{Term}
 use Rattle.monomial_order.specs.Monomial.{product, IsMonomial, Divides}
-use Rattle.monomial_order.specs.MonomialLaws.{product_comm}
-use Rattle.monomial_order.specs.Cofactors.{cofactor, Divides-trans, Divides-antisymm}
-use Rattle.monomial_order.specs.Comparing.{degree_falls, divisor_degree}
-use Rattle.monomial_order.specs.Lists.{contains_none}
-use Rattle.poly_core.specs.Poly.{minus, lead, degree_of}
-use Rattle.poly_core.specs.Subalgebra.{Presented, IsPresentation, LeadsIdeal, IsStandard, IsNormalForm}
-use Rattle.poly_core.specs.NormalFormLaws.{lead_times}
-use Rattle.poly_core.specs.ReducedBasisLaws.{map_contains}
+use Rattle.monomial_order.specs.laws.Monomial.{product_comm}
+use Rattle.monomial_order.specs.laws.Cofactors.{cofactor, Divides-trans, Divides-antisymm}
+use Rattle.monomial_order.specs.laws.Comparing.{degree_falls, divisor_degree}
+use Rattle.monomial_order.specs.laws.Lists.{contains_none}
+use Rattle.polynomials.specs.Polynomial.{Polynomial, minus, lead_monomial, degree_of}
+use Rattle.polynomials.specs.Subalgebra.{Presented, IsPresentation, LeadsIdeal, IsStandard, IsNormalForm}
+use Rattle.polynomials.specs.laws.NormalForm.{lead_times}
+use Rattle.polynomials.specs.laws.ReducedBasis.{map_contains}
 use Rattle.quotient_gb.specs.declared.basis.Basis.{Basis}
 use Rattle.quotient_gb.specs.declared.meeting.Meeting.{Meeting}
 use Rattle.quotient_gb.specs.Combinations.{AtMost}
@@ -25,11 +25,11 @@ use Rattle.quotient_gb.proofs.Multiples.{divides_left}
 use Rattle.quotient_gb.proofs.Tails.{positive_leads}
 
 module _ {E : Type 0} (P : Presented E) (H : IsPresentation P) where
-  -- the lead of a polynomial is a monomial
+  -- the lead_monomial of a polynomial is a monomial
   pub lead_monomial_of : (m : List ℕ) → LeadsIdeal P m → IsMonomial P.order.places m
   lead_monomial_of m h = found_monomial P.field H.field P.order H.order h.member h.poly m h.leads.nonzero
 
-  -- a multiple of a lead of the ideal is one
+  -- a multiple of a lead_monomial of the ideal is one
   pub multiple_leads : (m n : List ℕ) → LeadsIdeal P n → Divides n m → IsMonomial P.order.places m → LeadsIdeal P m
   multiple_leads m n h d hm =
       let k = cofactor n m (lead_monomial_of n h).trimmed hm.trimmed d in
@@ -59,16 +59,16 @@ module _ {E : Type 0} (P : Presented E) (H : IsPresentation P) where
     not_standard m n k d hm = multiple_leads m n (h.leads n k) d hm
 
   -- a remainder by a basis to the degree is a normal form
-  pub remainder_normal : (c : ℕ) (G : List (List (Term E))) → IsIdealBasis P c G → (a r : List (Term E)) → degree_of P.order a ≤ c →
-      IsRemainder P.field P.order G (AtMost P.order (lead a)) a r → IsNormalForm P a r
+  pub remainder_normal : (c : ℕ) (G : List (Polynomial E)) → IsIdealBasis P c G → (a r : Polynomial E) → degree_of P.order a ≤ c →
+      IsRemainder P.field P.order G (AtMost P.order (lead_monomial a)) a r → IsNormalForm P a r
   remainder_normal c G h a r l rem = record {
     poly = rem.poly;
-    inside = combines_inside P.field H.field P.order H.order G P.ideal (λ g k. (h.members g k).inside) (AtMost P.order (lead a)) (minus P.field a r) rem.combines;
+    inside = combines_inside P.field H.field P.order H.order G P.ideal (λ g k. (h.members g k).inside) (AtMost P.order (lead_monomial a)) (minus P.field a r) rem.combines;
     standard = λ m k. record {
       monomial = found_monomial P.field H.field P.order H.order r rem.poly m k;
       no_lead = λ q.
-          let d = h.leads.divides m q (⊎_elim (λ e. let s : P.order.degree m ≡ P.order.degree (lead a) = ap P.order.degree e in omega arith) (λ lt. let s = degree_falls P.order H.order m (lead a) lt in omega arith) (rem.has m k)) in
-          let g = map_contains lead G d.0 d.1 in
+          let d = h.leads.divides m q (⊎_elim (λ e. let s : P.order.degree m ≡ P.order.degree (lead_monomial a) = ap P.order.degree e in omega arith) (λ lt. let s = degree_falls P.order H.order m (lead_monomial a) lt in omega arith) (rem.has m k)) in
+          let g = map_contains lead_monomial G d.0 d.1 in
           rem.reduced m k (g.0, g.1, subst (λ z. Divides z m) (sym g.2) d.2);
     };
   }
@@ -82,14 +82,14 @@ module _ {F E : Type 0} (P : Presented E) (H : IsPresentation P) where
       members = λ g k. absurd (contains_none g k);
       tails = λ g k. absurd (contains_none g k);
       leads = record {
-        rise = tt;
+        increasing = tt;
         leads = λ m k. absurd (contains_none m k);
         degrees = λ m k. absurd (contains_none m k);
         minimal = λ m n k. absurd (contains_none m k);
         divides = λ m k l. absurd (positive_leads P H m k l);
       };
     });
-    leads = f ∙ ap (map lead) (sym e);
+    leads = f ∙ ap (map lead_monomial) (sym e);
     waiting = subst (Waits P.order b.leads.items 0) (sym w) (record {
       meetings = λ v k. absurd (contains_none v k);
       noted = λ i j lt l q. absurd (none (length b.leads.items) j l (ap length f));

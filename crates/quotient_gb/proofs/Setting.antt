@@ -2,10 +2,10 @@
 use Rattle.std.proofs.Common.{◌≡◌, ℕ, zero, suc, ◌+◌, ◌<◌, ◌≤◌, refl, sym, ◌∙◌, ap, subst, List, [], ◌∷◌, length, arith, ◌⊎◌, inl, inr, ⊎_elim, get_or, take, slice_set}
 use Rattle.std.specs.Prelude.{Contains, map}
 use borrow.Author.Count.{below_more}
-use Rattle.monomial_order.specs.declared.Term.{Term}
-use Rattle.monomial_order.specs.Lists.{contains_here, contains_there, contains_cases, contains_at}
-use Rattle.poly_core.specs.Poly.{lead}
-use Rattle.poly_core.specs.Subalgebra.{Presented, IsPresentation}
+use Rattle.monomial_order.specs.declared.terms.Term.{Term}
+use Rattle.monomial_order.specs.laws.Lists.{contains_here, contains_there, contains_cases, contains_at}
+use Rattle.polynomials.specs.Polynomial.{Polynomial, lead_monomial}
+use Rattle.polynomials.specs.Subalgebra.{Presented, IsPresentation}
 use Rattle.quotient_gb.specs.declared.basis.Basis.{Basis}
 use Rattle.quotient_gb.specs.IdealBasis.{IsMonicMember, AreIdealLeads, HasStandardTail}
 use Rattle.quotient_gb.specs.Growing.{HasReducedTail, Stands, HasTails}
@@ -47,11 +47,11 @@ map_set f (y ∷ xs) zero x d l e = ap (λ z. z ∷ map f xs) e
 map_set f (y ∷ xs) (suc i) x d l e = ap (λ ys. f y ∷ ys) (map_set f xs i x d (omega arith) e)
 
 module _ {F E : Type 0} (P : Presented E) (H : IsPresentation P) (d : ℕ) (b : Basis F E) (s : Stands P d b) (i : ℕ) (l : i < length b.members.items)
-    (x : List (Term E)) (hx : IsMonicMember P x) (same : lead x ≡ lead (get_or b.members.items i [])) where
+    (x : Polynomial E) (hx : IsMonicMember P x) (same : lead_monomial x ≡ lead_monomial (get_or b.members.items i [])) where
   pub set_stands : (b' : Basis F E) → b'.members.items ≡ slice_set b.members.items i x → b'.leads.items ≡ b.leads.items → Stands P d b'
   set_stands b' e f = record {
     small = s.small;
-    leads = f ∙ (s.leads ∙ (sym (map_set lead b.members.items i x [] l same) ∙ ap (map lead) (sym e)));
+    leads = f ∙ (s.leads ∙ (sym (map_set lead_monomial b.members.items i x [] l same) ∙ ap (map lead_monomial) (sym e)));
     members = λ g k. ⊎_elim (λ q. subst (IsMonicMember P) q hx) (λ j. s.members g j) (set_cases b.members.items i x g (subst (λ xs. Contains xs g) e k));
     ideal = subst (AreIdealLeads P d) (sym f) s.ideal;
   }
@@ -64,4 +64,4 @@ module _ {F E : Type 0} (P : Presented E) (H : IsPresentation P) (d : ℕ) (b : 
 
 -- as many leads as members
 pub lead_place : {F E : Type 0} (P : Presented E) (d : ℕ) (b : Basis F E) → Stands P d b → length b.leads.items ≡ length b.members.items
-lead_place P d b s = ap length s.leads ∙ length_map lead b.members.items
+lead_place P d b s = ap length s.leads ∙ length_map lead_monomial b.members.items

@@ -1,7 +1,7 @@
 -- When a quotient fits a presentation.
 use Rattle.std.specs.Prelude.{◌≡◌, ℕ, ◌≤◌, List, map}
-use Rattle.poly_core.specs.Poly.{lead}
-use Rattle.poly_core.specs.Subalgebra.{Presented}
+use Rattle.polynomials.specs.Polynomial.{lead_monomial}
+use Rattle.polynomials.specs.Subalgebra.{Presented}
 use Rattle.quotient_gb.specs.declared.basis.Basis.{Basis}
 use Rattle.quotient_gb.specs.declared.meeting.Meeting.{Meeting}
 use Rattle.quotient_gb.specs.declared.quotient.Quotient.{Quotient}
@@ -12,7 +12,7 @@ use Rattle.quotient_gb.specs.Waiting.{Waits}
 pub record IsReady {F E : Type 0} (P : Presented E) (c : ℕ) (b : Basis F E) (ms : List Meeting) : Type 0 where
   pub small : c ≤ 30000
   pub basis : IsIdealBasis P c b.members.items
-  pub leads : b.leads.items ≡ map lead b.members.items
+  pub leads : b.leads.items ≡ map lead_monomial b.members.items
   pub waiting : Waits P.order b.leads.items c ms
 
 -- the quotient has the reduced basis of the ideal of P to its degree

@@ -1,11 +1,11 @@
 //! A basis of the ideal, while it grows.
 ghost use Rattle.std.specs.Prelude.{◌≡◌, ◌≢◌, ℕ, ◌≤◌, ◌<◌, ◌⊎◌, List, [], false, true, length, map, OnOk, IfOk, Contains, slice_index_or};
-ghost use Rattle.monomial_order.specs.declared.Term.{Term};
-ghost use Rattle.monomial_order.specs.ReducibleLaws.{IsMultiple};
-ghost use Rattle.poly_core.specs.Poly.{IsKept, IsHomogeneous, degree_of, lead};
-ghost use Rattle.poly_core.specs.Ideal.{InIdeal};
-ghost use Rattle.poly_core.specs.Presentation.{presented, AreKeptGenerators};
-ghost use Rattle.poly_core.specs.Subalgebra.{IsPresentation};
+ghost use Rattle.monomial_order.specs.declared.terms.Term.{Term};
+ghost use Rattle.monomial_order.specs.Monomial.{IsMultiple};
+ghost use Rattle.polynomials.specs.Polynomial.{Polynomial, IsCanonical, IsHomogeneous, degree_of, lead_monomial};
+ghost use Rattle.polynomials.specs.Ideal.{InIdeal};
+ghost use Rattle.poly_core.specs.Presentation.{presented, AreCanonicalGenerators};
+ghost use Rattle.polynomials.specs.Subalgebra.{IsPresentation};
 ghost use Rattle.quotient_gb.specs.Combinations.{ReducesToZero};
 ghost use Rattle.quotient_gb.specs.Criterion.{IsReduced};
 ghost use Rattle.quotient_gb.specs.Growing.{Grows, KeepsFront, SameFront, IsPart, Stands, HasTails, HasReducedTail};
@@ -17,8 +17,8 @@ use crate::division::place;
 use crate::meeting::{Meeting, difference};
 use crate::remainder::remainder;
 use monomial_order::{Memory, Monomial, Order};
-use poly_core::poly::Poly;
-use poly_core::presentation::Presentation;
+use poly_core::Poly;
+use poly_core::Presentation;
 use std::alloc::Global;
 use word_field::Field;
 
@@ -38,7 +38,7 @@ pub(crate) struct Turn {
 
 /// Whether the polynomial is not zero and its lead has the degree d.
 fn has_degree<F: Field, O: Order>(o: &O, a: &Poly<F>, d: u32) -> bool
-    requires { (f : F) × IsKept (F.ops f) (O.order o.now) a.now }
+    requires { (f : F) × IsCanonical (F.ops f) (O.order o.now) a.now }
     ensures yes { result ≡ true → degree_of (O.order o.now) a.now ≡ d }
     ensures no { result ≡ false → (a.now ≡ []) ⊎ (degree_of (O.order o.now) a.now ≢ d) }
 {
@@ -60,8 +60,8 @@ impl<F: Field> Basis<F> {
         requires presentation { IsPresentation (presented F.ops O.order p.now) }
         requires grows { Grows (presented F.ops O.order p.now) turn self.old }
         requires member { IsMonicMember (presented F.ops O.order p.now) member }
-        requires at_most { (O.order p.now.order).degree (lead member) ≤ turn.degree }
-        requires fresh { IsMultiple (map lead self.old.members.items) (lead member) → ⊥ }
+        requires at_most { (O.order p.now.order).degree (lead_monomial member) ≤ turn.degree }
+        requires fresh { IsMultiple (map lead_monomial self.old.members.items) (lead_monomial member) → ⊥ }
         ensures front { KeepsFront turn.start self.old self.new }
         ensures grows { OnOk result (Grows (presented F.ops O.order p.now) turn self.new) }
         ensures more { OnOk result (IsPart self.old.members.items self.new.members.items) }
@@ -87,7 +87,7 @@ impl<F: Field> Basis<F> {
     ) -> Result<(), Memory>
         requires presentation { IsPresentation (presented F.ops O.order p.now) }
         requires grows { Grows (presented F.ops O.order p.now) turn self.old }
-        requires kept { IsKept (F.ops p.now.field) (O.order p.now.order) a.now }
+        requires kept { IsCanonical (F.ops p.now.field) (O.order p.now.order) a.now }
         requires inside { InIdeal (F.ops p.now.field) (O.order p.now.order).places p.now.ideal.items a.now }
         requires at_most { degree_of (O.order p.now.order) a.now ≤ turn.degree }
         ensures front { KeepsFront turn.start self.old self.new }
@@ -119,12 +119,12 @@ impl<F: Field> Basis<F> {
         turn: Turn,
     ) -> Result<(), Memory>
         requires presentation { IsPresentation (presented F.ops O.order p.now) }
-        requires ideal { AreKeptGenerators (F.ops p.now.field) (O.order p.now.order) p.now.ideal.items }
+        requires ideal { AreCanonicalGenerators (F.ops p.now.field) (O.order p.now.order) p.now.ideal.items }
         requires grows { Grows (presented F.ops O.order p.now) turn self.old }
         ensures front { KeepsFront turn.start self.old self.new }
         ensures grows { OnOk result (Grows (presented F.ops O.order p.now) turn self.new) }
         ensures more { OnOk result (IsPart self.old.members.items self.new.members.items) }
-        ensures reduces { OnOk result ((r : List (Term F.Elem)) → Contains p.now.ideal.items r → IsHomogeneous (F.ops p.now.field) (O.order p.now.order) turn.degree r →
+        ensures reduces { OnOk result ((r : Polynomial F.Elem) → Contains p.now.ideal.items r → IsHomogeneous (F.ops p.now.field) (O.order p.now.order) turn.degree r →
             ReducesToZero (F.ops p.now.field) (O.order p.now.order) self.new.members.items r) }
     {
         'generators: for r in &p.ideal {
@@ -201,7 +201,7 @@ impl<F: Field> Basis<F> {
         requires stands { (d : ℕ) × Stands (presented F.ops O.order p.now) d self.now }
         requires place { at < length self.now.members.items }
         ensures member { IfOk result (IsMonicMember (presented F.ops O.order p.now)) }
-        ensures lead { IfOk result (λ r. lead r ≡ lead (slice_index_or self.now.members.items at [])) }
+        ensures lead { IfOk result (λ r. lead_monomial r ≡ lead_monomial (slice_index_or self.now.members.items at [])) }
         ensures tail { IfOk result (HasReducedTail (presented F.ops O.order p.now) self.now.leads.items) }
     {
         let Some(first) = self.members[at].lead() else {

@@ -1,14 +1,14 @@
 //! Two leads meet at the degree of their least common multiple.
 ghost use Rattle.std.specs.Prelude.{◌≡◌, ◌≢◌, ℕ, ◌≤◌, ◌<◌, ◌⊎◌, List, [], true, length, filter, nat_lt, IfOk, OnOk, IfSome, IsNone, Contains, slice_index_or};
 ghost use Rattle.monomial_order.specs.Monomial.{product, least_common_multiple, IsTrimmed, IsMonomial, Divides};
-ghost use Rattle.poly_core.specs.Poly.{coefficient, Same, term_of, scaled, IsKept, lead};
+ghost use Rattle.polynomials.specs.Polynomial.{coefficient, Same, term_of, scaled, IsCanonical, lead_monomial};
 ghost use Rattle.quotient_gb.specs.Criterion.{AreCofactors, critical_pair};
 ghost use Rattle.quotient_gb.specs.Growing.{Begins};
 ghost use Rattle.quotient_gb.specs.Waiting.{AreCoprime, IsMeeting, IsNoted, meeting_degree};
 ghost use Rattle.quotient_gb.specs.declared.meeting.Meeting.{Meeting};
 
 use monomial_order::{Memory, Monomial, Order};
-use poly_core::poly::Poly;
+use poly_core::Poly;
 use std::alloc::Global;
 use word_field::Field;
 
@@ -114,7 +114,7 @@ pub(crate) fn keep_above(waiting: &mut Vec<Meeting>, degree: u32)
 fn common_multiple<F: Field>(alloc: Global, g: &Poly<F>, h: &Poly<F>) -> Result<Monomial, Memory>
     requires g { g.now ≢ [] }
     requires h { h.now ≢ [] }
-    ensures { IfOk result (λ m. m ≡ least_common_multiple (lead g.now) (lead h.now)) }
+    ensures { IfOk result (λ m. m ≡ least_common_multiple (lead_monomial g.now) (lead_monomial h.now)) }
 {
     let Some(g_first) = g.lead() else {
         unreachable!()
@@ -133,13 +133,13 @@ fn raised<F: Field, O: Order>(
     g: &Poly<F>,
     top: &Monomial,
 ) -> Result<Poly<F>, Memory>
-    requires g { IsKept (F.ops f.now) (O.order o.now) g.now }
+    requires g { IsCanonical (F.ops f.now) (O.order o.now) g.now }
     requires some { g.now ≢ [] }
     requires top { IsMonomial (O.order o.now).places top.now }
-    requires divides { Divides (lead g.now) top.now }
+    requires divides { Divides (lead_monomial g.now) top.now }
     requires small { (O.order o.now).degree top.now ≤ 65535 }
-    ensures kept { IfOk result (IsKept (F.ops f.now) (O.order o.now)) }
-    ensures multiple { IfOk result (λ r. (u : List ℕ) × IsTrimmed u × (product u (lead g.now) ≡ top.now) ×
+    ensures kept { IfOk result (IsCanonical (F.ops f.now) (O.order o.now)) }
+    ensures multiple { IfOk result (λ r. (u : List ℕ) × IsTrimmed u × (product u (lead_monomial g.now) ≡ top.now) ×
         Same (F.ops f.now) r (scaled (F.ops f.now) (term_of u (F.ops f.now).one) g.now)) }
 {
     let Some(first) = g.lead() else {
@@ -160,13 +160,13 @@ pub(crate) fn difference<F: Field, O: Order>(
     g: &Poly<F>,
     h: &Poly<F>,
 ) -> Result<Poly<F>, Memory>
-    requires g { IsKept (F.ops f.now) (O.order o.now) g.now }
-    requires h { IsKept (F.ops f.now) (O.order o.now) h.now }
-    requires g_monic { coefficient (F.ops f.now) g.now (lead g.now) ≡ (F.ops f.now).one }
-    requires h_monic { coefficient (F.ops f.now) h.now (lead h.now) ≡ (F.ops f.now).one }
-    requires small { (O.order o.now).degree (least_common_multiple (lead g.now) (lead h.now)) ≤ 65535 }
-    ensures kept { IfOk result (IsKept (F.ops f.now) (O.order o.now)) }
-    ensures difference { IfOk result (λ r. (u v : List ℕ) × AreCofactors u (lead g.now) v (lead h.now) ×
+    requires g { IsCanonical (F.ops f.now) (O.order o.now) g.now }
+    requires h { IsCanonical (F.ops f.now) (O.order o.now) h.now }
+    requires g_monic { coefficient (F.ops f.now) g.now (lead_monomial g.now) ≡ (F.ops f.now).one }
+    requires h_monic { coefficient (F.ops f.now) h.now (lead_monomial h.now) ≡ (F.ops f.now).one }
+    requires small { (O.order o.now).degree (least_common_multiple (lead_monomial g.now) (lead_monomial h.now)) ≤ 65535 }
+    ensures kept { IfOk result (IsCanonical (F.ops f.now) (O.order o.now)) }
+    ensures difference { IfOk result (λ r. (u v : List ℕ) × AreCofactors u (lead_monomial g.now) v (lead_monomial h.now) ×
         Same (F.ops f.now) r (critical_pair (F.ops f.now) u g.now v h.now)) }
 {
     let top = common_multiple(alloc, g, h)?;

@@ -1,9 +1,10 @@
 //! The ideal of a presentation to a degree.
 ghost use Rattle.std.specs.Prelude.{◌≡◌, ℕ, ◌≤◌, ◌+◌, List, max, true, false, IfOk, OnOk, OnErr, Contains};
 ghost use Rattle.monomial_order.specs.Monomial.{IsMonomial};
-ghost use Rattle.poly_core.specs.Poly.{IsKept, degree_of};
-ghost use Rattle.poly_core.specs.Presentation.{presented, AreKeptGenerators};
-ghost use Rattle.poly_core.specs.Subalgebra.{Presented, IsPresentation, LeadsIdeal, IsStandard, IsNormalForm, Rise};
+ghost use Rattle.polynomials.specs.Polynomial.{IsCanonical, degree_of};
+ghost use Rattle.poly_core.specs.Presentation.{presented, AreCanonicalGenerators};
+ghost use Rattle.polynomials.specs.Subalgebra.{Presented, IsPresentation, LeadsIdeal, IsStandard, IsNormalForm};
+ghost use Rattle.monomial_order.specs.MonomialOrder.{IsIncreasing};
 ghost use Rattle.quotient_gb.specs.Growing.{Begins};
 ghost use Rattle.quotient_gb.specs.IdealBasis.{IsMinimalLead};
 ghost use Rattle.quotient_gb.specs.Quotient.{IsReady, Fits, IsUnchanged};
@@ -13,8 +14,8 @@ use crate::division::divisor;
 use crate::meeting::{Meeting, keep_above, note_all};
 use crate::remainder::remainder;
 use monomial_order::{Memory, Monomial, Order};
-use poly_core::poly::Poly;
-use poly_core::presentation::Presentation;
+use poly_core::Poly;
+use poly_core::Presentation;
 use std::alloc::Global;
 use std::marker::PhantomData;
 use word_field::Field;
@@ -49,7 +50,7 @@ impl<F: Field, O: Order> Quotient<F, O> {
     /// Goes on to the degree c, one degree after the other.
     pub fn extend_to(&mut self, alloc: Global, p: &Presentation<F, O>, c: u32) -> Result<(), Memory>
         requires presentation { IsPresentation (presented F.ops O.order p.now) }
-        requires ideal { AreKeptGenerators (F.ops p.now.field) (O.order p.now.order) p.now.ideal.items }
+        requires ideal { AreCanonicalGenerators (F.ops p.now.field) (O.order p.now.order) p.now.ideal.items }
         requires fits { Fits (presented F.ops O.order p.now) self.old }
         requires small { c ≤ 30000 }
         ensures fits { Fits (presented F.ops O.order p.now) self.new }
@@ -76,7 +77,7 @@ impl<F: Field, O: Order> Quotient<F, O> {
     /// Adds the members of each degree up to c. What was there stays there, in front.
     fn grow(&mut self, alloc: Global, p: &Presentation<F, O>, c: u32) -> Result<(), Memory>
         requires presentation { IsPresentation (presented F.ops O.order p.now) }
-        requires ideal { AreKeptGenerators (F.ops p.now.field) (O.order p.now.order) p.now.ideal.items }
+        requires ideal { AreCanonicalGenerators (F.ops p.now.field) (O.order p.now.order) p.now.ideal.items }
         requires fits { Fits (presented F.ops O.order p.now) self.old }
         requires small { c ≤ 30000 }
         ensures degree { self.new.degree ≡ self.old.degree }
@@ -99,7 +100,7 @@ impl<F: Field, O: Order> Quotient<F, O> {
         degree: u32,
     ) -> Result<(), Memory>
         requires presentation { IsPresentation (presented F.ops O.order p.now) }
-        requires ideal { AreKeptGenerators (F.ops p.now.field) (O.order p.now.order) p.now.ideal.items }
+        requires ideal { AreCanonicalGenerators (F.ops p.now.field) (O.order p.now.order) p.now.ideal.items }
         requires ready { (c : ℕ) × (degree ≡ c + 1) × IsReady (presented F.ops O.order p.now) c self.old.basis self.old.waiting.items }
         requires small { degree ≤ 30000 }
         ensures degree { self.new.degree ≡ self.old.degree }
@@ -129,7 +130,7 @@ impl<F: Field, O: Order> Quotient<F, O> {
     /// The minimal leads of the ideal of degree at most that of the quotient. They rise.
     pub fn leads(&self) -> &[Monomial]
         ensures value { result.now ≡ self.now.basis.leads.items }
-        ensures rise { (P : Presented F.Elem) → IsPresentation P → Fits P self.now → Rise P result.now }
+        ensures increasing { (P : Presented F.Elem) → IsPresentation P → Fits P self.now → IsIncreasing P.order result.now }
         ensures each { (P : Presented F.Elem) → IsPresentation P → Fits P self.now →
             (m : List ℕ) → Contains result.now m → IsMinimalLead P m × (P.order.degree m ≤ self.now.degree) }
         ensures all { (P : Presented F.Elem) → IsPresentation P → Fits P self.now →
@@ -147,9 +148,9 @@ impl<F: Field, O: Order> Quotient<F, O> {
     ) -> Result<Poly<F>, Memory>
         requires presentation { IsPresentation (presented F.ops O.order p.now) }
         requires fits { Fits (presented F.ops O.order p.now) self.now }
-        requires kept { IsKept (F.ops p.now.field) (O.order p.now.order) a.now }
+        requires kept { IsCanonical (F.ops p.now.field) (O.order p.now.order) a.now }
         requires degree { degree_of (O.order p.now.order) a.now ≤ self.now.degree }
-        ensures kept { IfOk result (IsKept (F.ops p.now.field) (O.order p.now.order)) }
+        ensures kept { IfOk result (IsCanonical (F.ops p.now.field) (O.order p.now.order)) }
         ensures normal { IfOk result (IsNormalForm (presented F.ops O.order p.now) a.now) }
     {
         let rest = remainder(

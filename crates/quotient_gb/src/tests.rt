@@ -2,15 +2,15 @@
 ghost use Rattle.std.specs.Prelude.{◌≤◌, IfOk};
 ghost use Rattle.word_field.specs.Residues.{residues};
 ghost use Rattle.monomial_order.specs.Monomial.{IsMonomial};
-ghost use Rattle.poly_core.specs.Poly.{IsKept, degree_of};
-ghost use Rattle.poly_core.specs.Presentation.{order_of, presented, AreKeptGenerators, IsKeptGenerator};
-ghost use Rattle.poly_core.specs.Subalgebra.{IsPresentation};
+ghost use Rattle.polynomials.specs.Polynomial.{IsCanonical, degree_of};
+ghost use Rattle.poly_core.specs.Presentation.{weight_order_of, presented, AreCanonicalGenerators, IsCanonicalGenerator};
+ghost use Rattle.polynomials.specs.Subalgebra.{IsPresentation};
 
 use crate::quotient::Quotient;
 use monomial_order::{Memory, Monomial, Order, Row, Tie, WeightOrder, WordOrder};
-use poly_core::names::Names;
-use poly_core::poly::Poly;
-use poly_core::presentation::Presentation;
+use poly_core::Names;
+use poly_core::Poly;
+use poly_core::Presentation;
 use std::alloc::Global;
 use std::process::Abort;
 use std::test::Fail;
@@ -29,8 +29,8 @@ fn monomial(
     o: &WeightOrder,
     exponents: &[u16],
 ) -> Result<Monomial, Fail>
-    ensures monomial { IfOk result (IsMonomial (order_of o.now).places) }
-    ensures small { IfOk result (λ m. (order_of o.now).degree m ≤ 65535) }
+    ensures monomial { IfOk result (IsMonomial (weight_order_of o.now).places) }
+    ensures small { IfOk result (λ m. (weight_order_of o.now).degree m ≤ 65535) }
 {
     let m = Monomial::from_places(alloc, exponents)?;
     assert!(rt; m.places() <= o.places());
@@ -47,7 +47,7 @@ fn polynomial(
     o: &WeightOrder,
     terms: &[(u32, Exponents)],
 ) -> Result<Poly<WordField>, Fail>
-    ensures { IfOk result (IsKept (residues f.now.modulus) (order_of o.now)) }
+    ensures { IfOk result (IsCanonical (residues f.now.modulus) (weight_order_of o.now)) }
 {
     let mut sum = Poly::zero(alloc);
     'terms: for (c, exponents) in terms {
@@ -65,7 +65,7 @@ fn generator(
     o: &WeightOrder,
     terms: &[(u32, Exponents)],
 ) -> Result<Poly<WordField>, Fail>
-    ensures { IfOk result (IsKeptGenerator (residues f.now.modulus) (order_of o.now)) }
+    ensures { IfOk result (IsCanonicalGenerator (residues f.now.modulus) (weight_order_of o.now)) }
 {
     let r = polynomial(rt, alloc, f, o, terms)?;
     let Some(d) = Poly::degree(o, &r) else {
@@ -85,8 +85,8 @@ fn presentation(
     order: WeightOrder,
     ideal: &[Terms],
 ) -> Result<Presentation<WordField, WeightOrder>, Fail>
-    ensures presentation { IfOk result (λ p. IsPresentation (presented (λ f. residues f.modulus) order_of p)) }
-    ensures ideal { IfOk result (λ p. AreKeptGenerators (residues p.field.modulus) (order_of p.order) p.ideal.items) }
+    ensures presentation { IfOk result (λ p. IsPresentation (presented (λ f. residues f.modulus) weight_order_of p)) }
+    ensures ideal { IfOk result (λ p. AreCanonicalGenerators (residues p.field.modulus) (weight_order_of p.order) p.ideal.items) }
 {
     let field = WordField::new(size).ok_or("a listed size")?;
     let mut generators = Vec::new(alloc);
@@ -114,8 +114,8 @@ fn has_leads(
     degree: u32,
     leads: &[Exponents],
 ) -> Result<bool, Fail>
-    requires presentation { IsPresentation (presented (λ f. residues f.modulus) order_of p.now) }
-    requires ideal { AreKeptGenerators (residues p.now.field.modulus) (order_of p.now.order) p.now.ideal.items }
+    requires presentation { IsPresentation (presented (λ f. residues f.modulus) weight_order_of p.now) }
+    requires ideal { AreCanonicalGenerators (residues p.now.field.modulus) (weight_order_of p.now.order) p.now.ideal.items }
     requires degree { degree ≤ 30000 }
 {
     let mut quotient = Quotient::new(alloc, p)?;
@@ -319,8 +319,8 @@ fn small_polynomial(
     terms: &[(u32, Exponents)],
     d: u32,
 ) -> Result<Poly<WordField>, Fail>
-    ensures kept { IfOk result (IsKept (residues f.now.modulus) (order_of o.now)) }
-    ensures degree { IfOk result (λ r. degree_of (order_of o.now) r ≤ d) }
+    ensures kept { IfOk result (IsCanonical (residues f.now.modulus) (weight_order_of o.now)) }
+    ensures degree { IfOk result (λ r. degree_of (weight_order_of o.now) r ≤ d) }
 {
     let r = polynomial(rt, alloc, f, o, terms)?;
     let Some(found) = Poly::degree(o, &r) else {

@@ -1,19 +1,20 @@
 -- A basis that is checked element by element is the reduced basis, and the other way round.
 use Rattle.std.proofs.Common.{ℕ, List, arith}
-use Rattle.monomial_order.specs.declared.Term.{Term}
-use Rattle.poly_core.specs.Subalgebra.{Presented, IsPresentation, IsElement, IsReducedBasis}
+use Rattle.monomial_order.specs.declared.terms.Term.{Term}
+use Rattle.polynomials.specs.Subalgebra.{Presented, IsPresentation, IsElement, IsReducedBasis}
 use Rattle.subalgebra_laws.specs.Bases.{AreMonicElements, IsDecidedTo, IsCheckedElement, IsCheckedBasis}
 use Rattle.subalgebra_laws.proofs.Criterion.{leads_generated}
 use Rattle.subalgebra_laws.proofs.Subduction.{basis_monic, basis_combinations}
 use Rattle.subalgebra_laws.proofs.Generated.{generated_leads}
+use Rattle.polynomials.specs.Polynomial.{Polynomial}
 
-module _ {E : Type 0} (P : Presented E) (H : IsPresentation P) (c : ℕ) (S : List (List (Term E))) (dec : IsDecidedTo P c) where
+module _ {E : Type 0} (P : Presented E) (H : IsPresentation P) (c : ℕ) (S : List (Polynomial E)) (dec : IsDecidedTo P c) where
   checked_monic : IsCheckedBasis P c S → AreMonicElements P S
-  checked_monic h s k = let e = h.elements s k in record { falls = e.falls; monic = e.monic; positive = e.at_least }
+  checked_monic h s k = let e = h.elements s k in record { decreasing = e.decreasing; monic = e.monic; positive = e.at_least }
 
-  element_reduced : IsCheckedBasis P c S → (s : List (Term E)) → IsCheckedElement P c S s → IsElement P c s
+  element_reduced : IsCheckedBasis P c S → (s : Polynomial E) → IsCheckedElement P c S s → IsElement P c s
   element_reduced h s e = record {
-    falls = e.falls;
+    decreasing = e.decreasing;
     inside = e.inside;
     monic = e.monic;
     homogeneous = e.homogeneous;
@@ -26,15 +27,15 @@ module _ {E : Type 0} (P : Presented E) (H : IsPresentation P) (c : ℕ) (S : Li
 
   pub checked_reduced : IsCheckedBasis P c S → IsReducedBasis P c S
   checked_reduced h = record {
-    rise = h.rise;
+    increasing = h.increasing;
     elements = λ s k. element_reduced h s (h.elements s k);
     minimal = h.minimal;
     generates = leads_generated P H S (checked_monic h) c dec h.combinations;
   }
 
-  element_checked : IsReducedBasis P c S → (s : List (Term E)) → IsElement P c s → IsCheckedElement P c S s
+  element_checked : IsReducedBasis P c S → (s : Polynomial E) → IsElement P c s → IsCheckedElement P c S s
   element_checked h s e = record {
-    falls = e.falls;
+    decreasing = e.decreasing;
     inside = e.inside;
     monic = e.monic;
     homogeneous = e.homogeneous;
@@ -46,7 +47,7 @@ module _ {E : Type 0} (P : Presented E) (H : IsPresentation P) (c : ℕ) (S : Li
 
   pub reduced_checked : IsReducedBasis P c S → IsCheckedBasis P c S
   reduced_checked h = record {
-    rise = h.rise;
+    increasing = h.increasing;
     elements = λ s k. element_checked h s (h.elements s k);
     minimal = h.minimal;
     combinations = basis_combinations P H c S dec h;

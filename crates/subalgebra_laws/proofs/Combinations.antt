@@ -2,24 +2,24 @@
 use Rattle.std.proofs.Common.{◌≡◌, ◌≢◌, ℕ, refl, sym, ◌∙◌, ap, subst, List, [], ◌∷◌, ◌++◌, ◌⊎◌, inl, inr, ⊎_elim, Bool, true, false, cond}
 use Rattle.std.specs.declared.cmp.Ordering.TheVariants.{Less}
 use Rattle.word_field.specs.Field.{FieldOps, IsField}
-use Rattle.word_field.specs.FieldLaws.{times-zero, negate-zero}
-use Rattle.monomial_order.specs.declared.Term.{Term}
+use Rattle.word_field.specs.laws.Field.{times-zero, negate-zero}
+use Rattle.monomial_order.specs.declared.terms.Term.{Term}
 use Rattle.monomial_order.specs.MonomialOrder.{MonomialOrder, IsMonomialOrder}
-use Rattle.monomial_order.specs.Words.{order_of, image_of, image}
-use Rattle.monomial_order.specs.Comparing.{not_below_self, three_ways}
-use Rattle.poly_core.specs.Poly.{same_monomial, share, coefficient, Same, negated, minus, IsPoly, IsLead}
-use Rattle.poly_core.specs.Ideal.{Congruent}
-use Rattle.poly_core.specs.Value.{value, monomial_value, term_value}
-use Rattle.poly_core.specs.Subalgebra.{Presented, IsPresentation, LeadsIdeal, IsNormalForm}
-use Rattle.poly_core.specs.RingLaws.{coefficient_value, coefficient-append}
-use Rattle.poly_core.specs.SameLaws.{same_true, same_refl, append_comm, append_same, coefficient-negated, same_trans}
-use Rattle.poly_core.specs.ValueLaws.{value_same, value-append, coefficient-constant_times}
-use Rattle.poly_core.specs.FallingLaws.{Falls_IsPoly, Falls_unique}
-use Rattle.poly_core.specs.CanonicalLaws.{canonical, IsCanonical, IsLead_same, zero_or_lead}
-use Rattle.poly_core.specs.DegreeLaws.{all_found}
-use Rattle.poly_core.specs.IdealLaws.{InIdeal_same}
-use Rattle.poly_core.specs.CongruenceLaws.{congruent_sym, congruent_trans, minus_zero, negated-minus}
-use Rattle.poly_core.specs.SubalgebraLaws.{IsPoly-value, value-negated}
+use Rattle.word_laws.specs.Words.{word_order_of, image_of, image}
+use Rattle.monomial_order.specs.laws.Comparing.{not_below_self, three_ways}
+use Rattle.polynomials.specs.Polynomial.{Polynomial, same_monomial, share, coefficient, Same, negated, minus, IsPoly, IsLead}
+use Rattle.polynomials.specs.Ideal.{Congruent}
+use Rattle.polynomials.specs.Value.{value, monomial_value, term_value}
+use Rattle.polynomials.specs.Subalgebra.{Presented, IsPresentation, LeadsIdeal, IsNormalForm}
+use Rattle.polynomials.specs.laws.Ring.{coefficient_value, coefficient-append}
+use Rattle.polynomials.specs.laws.Same.{same_true, same_refl, append_comm, append_same, coefficient-negated, same_trans}
+use Rattle.polynomials.specs.laws.Value.{value_same, value-append, coefficient-constant_times}
+use Rattle.polynomials.specs.laws.Decreasing.{IsDecreasing_IsPoly, IsDecreasing_unique}
+use Rattle.polynomials.specs.laws.Canonical.{canonical, IsCanonicalForm, IsLead_same, zero_or_lead}
+use Rattle.polynomials.specs.laws.Degrees.{all_found}
+use Rattle.polynomials.specs.laws.Ideal.{InIdeal_same}
+use Rattle.polynomials.specs.laws.Congruence.{congruent_sym, congruent_trans, minus_zero, negated-minus}
+use Rattle.polynomials.specs.laws.Membership.{IsPoly-value, value-negated}
 use Rattle.subalgebra_laws.specs.Words.{letters, letter_values, IsIrreducibleSum, IsTopWord, IsCombination}
 use Rattle.subalgebra_laws.specs.Bases.{AreMonicElements}
 use Rattle.subalgebra_laws.proofs.Letters.{letter_images, HasNoX, image_is, word_monic, letter_laws}
@@ -27,7 +27,7 @@ use Rattle.subalgebra_laws.proofs.Terms.{lead_sum, lead_sum_right, lead_negated,
 use Rattle.subalgebra_laws.proofs.Tops.{IsIrreducible, IsTop, Under, top}
 use Rattle.subalgebra_laws.proofs.Normal.{HasNormal, falls_irreducible, leads_ideal, polys}
 
-module _ {E : Type 0} (P : Presented E) (H : IsPresentation P) (S : List (List (Term E))) (HS : AreMonicElements P S) where
+module _ {E : Type 0} (P : Presented E) (H : IsPresentation P) (S : List (Polynomial E)) (HS : AreMonicElements P S) where
   abbrev K : FieldOps E
   K = P.field
 
@@ -40,30 +40,30 @@ module _ {E : Type 0} (P : Presented E) (H : IsPresentation P) (S : List (List (
   abbrev L : IsMonomialOrder P.order
   L = H.order
 
-  abbrev values : List (List (Term E))
+  abbrev values : List (Polynomial E)
   values = letter_values P S
 
   abbrev images : List (List ℕ)
   images = letter_images P S
 
-  sum_word : (e : List (Term E)) → IsIrreducibleSum P S e → (w : List ℕ) → coefficient K e w ≢ K.zero → IsIrreducible P H S HS w × HasNoX P S w
+  sum_word : (e : Polynomial E) → IsIrreducibleSum P S e → (w : List ℕ) → coefficient K e w ≢ K.zero → IsIrreducible P H S HS w × HasNoX P S w
   sum_word e h w k = (record { word = (h.words w k).0; irreducible = h.irreducible w k }, (h.words w k).1)
 
   -- the two forms of a combination
-  pub combination_normal : (a : List (Term E)) → IsCombination P S a → HasNormal P H S HS a
-  combination_normal a h = record { form = h.sum; falls = h.irreducible.falls; irreducible = sum_word h.sum h.irreducible; congruent = h.equal }
+  pub combination_normal : (a : Polynomial E) → IsCombination P S a → HasNormal P H S HS a
+  combination_normal a h = record { form = h.sum; decreasing = h.irreducible.decreasing; irreducible = sum_word h.sum h.irreducible; congruent = h.equal }
 
-  pub normal_combination : (a : List (Term E)) → HasNormal P H S HS a → IsCombination P S a
+  pub normal_combination : (a : Polynomial E) → HasNormal P H S HS a → IsCombination P S a
   normal_combination a h = record {
     sum = h.form;
-    irreducible = record { falls = h.falls; words = λ w k. ((h.irreducible w k).0.word, (h.irreducible w k).1); irreducible = λ w k. (h.irreducible w k).0.irreducible };
+    irreducible = record { decreasing = h.decreasing; words = λ w k. ((h.irreducible w k).0.word, (h.irreducible w k).1); irreducible = λ w k. (h.irreducible w k).0.irreducible };
     equal = h.congruent;
   }
 
-  pub top_of : (e : List (Term E)) → IsIrreducibleSum P S e → (e ≡ []) ⊎ ((w : List ℕ) × IsTop P H S HS e w)
-  top_of e h = top P H S HS e h.falls (falls_irreducible P H S HS e h.falls (sum_word e h))
+  pub top_of : (e : Polynomial E) → IsIrreducibleSum P S e → (e ≡ []) ⊎ ((w : List ℕ) × IsTop P H S HS e w)
+  top_of e h = top P H S HS e h.decreasing (falls_irreducible P H S HS e h.decreasing (sum_word e h))
 
-  pub under_at : (e : List (Term E)) (w : List ℕ) → IsTop P H S HS e w → (v : List ℕ) → coefficient K e v ≢ K.zero → (v ≡ w) ⊎ (O.compare (image v images) (image w images) ≡ Less)
+  pub under_at : (e : Polynomial E) (w : List ℕ) → IsTop P H S HS e w → (v : List ℕ) → coefficient K e v ≢ K.zero → (v ≡ w) ⊎ (O.compare (image v images) (image w images) ≡ Less)
   under_at e w T v k = all_found K F O L (λ x. (x ≡ w) ⊎ (O.compare (image x images) (image w images) ≡ Less)) e T.under v k
 
   as_images : (v w : List ℕ) → O.compare (image v images) (image w images) ≡ Less → O.compare (image_of (letters P S) v) (image_of (letters P S) w) ≡ Less
@@ -72,14 +72,14 @@ module _ {E : Type 0} (P : Presented E) (H : IsPresentation P) (S : List (List (
   of_images : (v w : List ℕ) → O.compare (image_of (letters P S) v) (image_of (letters P S) w) ≡ Less → O.compare (image v images) (image w images) ≡ Less
   of_images v w h = ap (λ x. O.compare x (image w images)) (sym (image_is P S v)) ∙ (ap (O.compare (image_of (letters P S) v)) (sym (image_is P S w)) ∙ h)
 
-  pub have_top_words : (e : List (Term E)) → IsIrreducibleSum P S e → (e ≡ []) ⊎ ((w : List ℕ) × IsTopWord P S e w)
+  pub have_top_words : (e : Polynomial E) → IsIrreducibleSum P S e → (e ≡ []) ⊎ ((w : List ℕ) × IsTopWord P S e w)
   have_top_words e h =
       ⊎_elim (λ none. inl none)
       (λ r. inr (r.0, record { stands = r.1.stands; greatest = λ v k ne. ⊎_elim (λ same. absurd (ne same)) (λ lt. as_images v r.0 lt) (under_at e r.0 r.1 v k) }))
       (top_of e h)
 
   -- the word with the greatest image is unique
-  pub top_word : (e : List (Term E)) (w : List ℕ) → IsIrreducibleSum P S e → IsTopWord P S e w → IsTop P H S HS e w
+  pub top_word : (e : Polynomial E) (w : List ℕ) → IsIrreducibleSum P S e → IsTopWord P S e w → IsTop P H S HS e w
   top_word e w h t =
       ⊎_elim (λ none. absurd (t.stands (ap (λ x. coefficient K x w) none ∙ sym (nothing_at K F w))))
       (λ r. ⊎_elim (λ same. subst (IsTop P H S HS e) (sym same) r.1)
@@ -89,7 +89,7 @@ module _ {E : Type 0} (P : Presented E) (H : IsPresentation P) (S : List (List (
       (top_of e h)
 
   -- the value has the coefficient of the word at its image
-  value_at_image : (w : List ℕ) (e : List (Term E)) → IsPoly K (order_of (letters P S)).places e → Under P H S HS w e → coefficient K (value K e values) (image w images) ≡ coefficient K e w
+  value_at_image : (w : List ℕ) (e : Polynomial E) → IsPoly K (word_order_of (letters P S)).places e → Under P H S HS w e → coefficient K (value K e values) (image w images) ≡ coefficient K e w
   unfolding coefficient
   value_at_image w [] hp u = refl
   value_at_image w (t ∷ e) hp u =
@@ -115,13 +115,13 @@ module _ {E : Type 0} (P : Presented E) (H : IsPresentation P) (S : List (List (
           by_test true e = absurd (not_below_self O L (image w images) (subst (λ x. O.compare (image x images) (image w images) ≡ Less) (same_true t.at w e) lt))
           by_test false e = ap (λ b. cond b t.by K.zero) e
 
-  sum_poly : (e : List (Term E)) → IsIrreducibleSum P S e → IsPoly K (order_of (letters P S)).places e
-  sum_poly e h = Falls_IsPoly K (order_of (letters P S)) e h.falls
+  sum_poly : (e : Polynomial E) → IsIrreducibleSum P S e → IsPoly K (word_order_of (letters P S)).places e
+  sum_poly e h = IsDecreasing_IsPoly K (word_order_of (letters P S)) e h.decreasing
 
-  value_poly : (e : List (Term E)) → IsIrreducibleSum P S e → IsPoly K O.places (value K e values)
-  value_poly e h = IsPoly-value K F O.places (order_of (letters P S)).places e values (sum_poly e h) (polys P H S HS)
+  value_poly : (e : Polynomial E) → IsIrreducibleSum P S e → IsPoly K O.places (value K e values)
+  value_poly e h = IsPoly-value K F O.places (word_order_of (letters P S)).places e values (sum_poly e h) (polys P H S HS)
 
-  module _ (e : List (Term E)) (w : List ℕ) (h : IsIrreducibleSum P S e) (t : IsTopWord P S e w) where
+  module _ (e : Polynomial E) (w : List ℕ) (h : IsIrreducibleSum P S e) (t : IsTopWord P S e w) where
     T : IsTop P H S HS e w
     T = top_word e w h t
 
@@ -135,13 +135,13 @@ module _ {E : Type 0} (P : Presented E) (H : IsPresentation P) (S : List (List (
     image_standard l = T.irreducible.irreducible (inl (subst (LeadsIdeal P) (sym (image_is P S w)) l))
 
     -- a polynomial that equals the value modulo the ideal has no lead below the image
-    pub image_least : (a : List (Term E)) (m : List ℕ) → IsPoly K O.places a → Congruent K O.places P.ideal a (value K e values) → IsLead K O a m → O.compare m (image w images) ≡ Less → ⊥
+    pub image_least : (a : Polynomial E) (m : List ℕ) → IsPoly K O.places a → Congruent K O.places P.ideal a (value K e values) → IsLead K O a m → O.compare m (image w images) ≡ Less → ⊥
     image_least a m ha c la lt =
         image_standard (leads_ideal P H S HS (minus K a (value K e values)) (image w images) (minus_poly K F O.places a (value K e values) ha (value_poly e h)) c
         (lead_sum_right K F O L a (negated K (value K e values)) (image w images) (lead_negated K F O L (value K e values) (image w images) image_leads)
         (below_lead K F O L a m (image w images) la lt)))
 
-    module _ (b : List (Term E)) (n : IsNormalForm P (value K e values) b) where
+    module _ (b : Polynomial E) (n : IsNormalForm P (value K e values) b) where
       -- the normal form differs from the value below the image alone
       below : (k : List ℕ) → coefficient K (minus K (value K e values) b) k ≢ K.zero → O.compare k (image w images) ≡ Less
       below k c =
@@ -181,37 +181,37 @@ module _ {E : Type 0} (P : Presented E) (H : IsPresentation P) (S : List (List (
           (F.plus_zero (coefficient K (value K e values) (image w images)) ∙ (coefficient_value K F (value K e values) (image w images) ∙ image_coefficient))))
 
   -- sums of irreducible s-words with congruent values are equal
-  pub combinations_unique : (e g : List (Term E)) → IsIrreducibleSum P S e → IsIrreducibleSum P S g → Congruent K O.places P.ideal (value K e values) (value K g values) → e ≡ g
-  combinations_unique e g he hg same = by_form (canonical K F (order_of (letters P S)) (letter_laws P H S HS) (minus K e g) (minus_poly K F (order_of (letters P S)).places e g (sum_poly e he) (sum_poly g hg)))
+  pub combinations_unique : (e g : Polynomial E) → IsIrreducibleSum P S e → IsIrreducibleSum P S g → Congruent K O.places P.ideal (value K e values) (value K g values) → e ≡ g
+  combinations_unique e g he hg same = by_form (canonical K F (word_order_of (letters P S)) (letter_laws P H S HS) (minus K e g) (minus_poly K F (word_order_of (letters P S)).places e g (sum_poly e he) (sum_poly g hg)))
     where
       value_minus : Same K (value K (minus K e g) values) (minus K (value K e values) (value K g values))
       value_minus m =
           ap (λ p. coefficient K p m) (value-append K F e (negated K g) values) ∙
           append_same K F (value K e values) (value K e values) (value K (negated K g) values) (negated K (value K g values)) (λ i. refl) (value-negated K F g values) m
 
-      by_form : (r : List (Term E)) × IsCanonical K F (order_of (letters P S)) (letter_laws P H S HS) (minus K e g) r → e ≡ g
+      by_form : (r : Polynomial E) × IsCanonicalForm K F (word_order_of (letters P S)) (letter_laws P H S HS) (minus K e g) r → e ≡ g
       by_form r =
           ⊎_elim
-          (λ none. Falls_unique K F (order_of (letters P S)) (letter_laws P H S HS) e g he.falls hg.falls (minus_zero K F e g (λ m. sym (r.1.same m) ∙ ap (λ p. coefficient K p m) none)))
+          (λ none. IsDecreasing_unique K F (word_order_of (letters P S)) (letter_laws P H S HS) e g he.decreasing hg.decreasing (minus_zero K F e g (λ m. sym (r.1.same m) ∙ ap (λ p. coefficient K p m) none)))
           (λ t. absurd (t.1.irreducible.irreducible (inl (subst (LeadsIdeal P) (sym (image_is P S t.0)) (leads_ideal P H S HS (value K r.0 values) (image t.0 images)
-          (IsPoly-value K F O.places (order_of (letters P S)).places r.0 values (Falls_IsPoly K (order_of (letters P S)) r.0 r.1.falls) (polys P H S HS))
+          (IsPoly-value K F O.places (word_order_of (letters P S)).places r.0 values (IsDecreasing_IsPoly K (word_order_of (letters P S)) r.0 r.1.decreasing) (polys P H S HS))
           (InIdeal_same K F O.places P.ideal (minus K (value K e values) (value K g values)) (value K r.0 values)
           (λ m. sym (value_minus m) ∙ sym (value_same K F r.0 (minus K e g) values r.1.same m)) same)
           t.1.leads)))))
-          (top P H S HS r.0 r.1.falls (falls_irreducible P H S HS r.0 r.1.falls
+          (top P H S HS r.0 r.1.decreasing (falls_irreducible P H S HS r.0 r.1.decreasing
           (λ w k. ⊎_elim (λ x. sum_word e he w x) (λ y. sum_word g hg w y) (minus_nonzero K F e g w (λ z. k (r.1.same w ∙ z))))))
 
-  pub sums_unique : (a e g : List (Term E)) → IsIrreducibleSum P S e → IsIrreducibleSum P S g → Congruent K O.places P.ideal a (value K e values) → Congruent K O.places P.ideal a (value K g values) → e ≡ g
+  pub sums_unique : (a e g : Polynomial E) → IsIrreducibleSum P S e → IsIrreducibleSum P S g → Congruent K O.places P.ideal a (value K e values) → Congruent K O.places P.ideal a (value K g values) → e ≡ g
   sums_unique a e g he hg ea ga =
       combinations_unique e g he hg (congruent_trans K F O.places P.ideal (value K e values) a (value K g values) (congruent_sym K F O.places P.ideal a (value K e values) ea) ga)
 
   -- the same of the image of the word itself
-  module _ (e : List (Term E)) (w : List ℕ) (h : IsIrreducibleSum P S e) (t : IsTopWord P S e w) where
+  module _ (e : Polynomial E) (w : List ℕ) (h : IsIrreducibleSum P S e) (t : IsTopWord P S e w) where
     pub top_leads : IsLead K O (value K e values) (image_of (letters P S) w) × (coefficient K (value K e values) (image_of (letters P S) w) ≡ coefficient K e w)
     top_leads = subst (λ m. IsLead K O (value K e values) m × (coefficient K (value K e values) m ≡ coefficient K e w)) (sym (image_is P S w)) (image_leads e w h t, image_coefficient e w h t)
 
-    pub top_leads_normal_form : (b : List (Term E)) → IsNormalForm P (value K e values) b → IsLead K O b (image_of (letters P S) w) × (coefficient K b (image_of (letters P S) w) ≡ coefficient K e w)
+    pub top_leads_normal_form : (b : Polynomial E) → IsNormalForm P (value K e values) b → IsLead K O b (image_of (letters P S) w) × (coefficient K b (image_of (letters P S) w) ≡ coefficient K e w)
     top_leads_normal_form b n = subst (λ m. IsLead K O b m × (coefficient K b m ≡ coefficient K e w)) (sym (image_is P S w)) (normal_form_leads e w h t b n, normal_form_coefficient e w h t b n)
 
-    pub top_least : (a : List (Term E)) (m : List ℕ) → IsPoly K O.places a → Congruent K O.places P.ideal a (value K e values) → IsLead K O a m → O.compare m (image_of (letters P S) w) ≢ Less
+    pub top_least : (a : Polynomial E) (m : List ℕ) → IsPoly K O.places a → Congruent K O.places P.ideal a (value K e values) → IsLead K O a m → O.compare m (image_of (letters P S) w) ≢ Less
     top_least a m ha c la = subst (λ k. O.compare m k ≢ Less) (sym (image_is P S w)) (image_least e w h t a m ha c la)

@@ -1,30 +1,30 @@
 -- What is decided of the ideal decides the words.
 use Rattle.std.proofs.Common.{◌≡◌, ◌≢◌, ℕ, ◌≤◌, ◌↔◌, sym, ◌∙◌, ap, subst, List, [], ◌∷◌, ◌⊎◌, inl, inr, ⊎_elim, length, arith}
 use Rattle.std.specs.Prelude.{Contains}
-use Rattle.monomial_order.specs.declared.Term.{Term}
-use Rattle.monomial_order.specs.Monomial.{product, IsMonomial, Divides}
-use Rattle.monomial_order.specs.Boxes.{lists}
-use Rattle.monomial_order.specs.Lists.{contains_here, contains_there, contains_none, contains_cases}
-use Rattle.monomial_order.specs.MonomialLaws.{product_comm}
-use Rattle.monomial_order.specs.Cofactors.{cofactor, length-product_right, Divides-trans}
-use Rattle.monomial_order.specs.Comparing.{le_or_not, monomial_or_not, divisor_degree}
-use Rattle.monomial_order.specs.Rank.{within_listed}
-use Rattle.monomial_order.specs.Words.{order_of, image_of, image, IsWord, IsReducible, IsMinimalReducible}
-use Rattle.monomial_order.specs.ReducibleLaws.{IsMultiple, multiple_closed, multiple_decided, reducible_zeros, find_smaller, within_own, reducible_exactly}
-use Rattle.poly_core.specs.Poly.{coefficient, AllAt, IsPoly}
-use Rattle.poly_core.specs.Subalgebra.{Presented, IsPresentation, LeadsIdeal}
-use Rattle.poly_core.specs.DegreeLaws.{all_found}
-use Rattle.poly_core.specs.NormalFormLaws.{lead_times}
+use Rattle.monomial_order.specs.declared.terms.Term.{Term}
+use Rattle.monomial_order.specs.Monomial.{product, IsMonomial, Divides, IsMultiple}
+use Rattle.monomial_order.specs.Ranks.{lists}
+use Rattle.monomial_order.specs.laws.Lists.{contains_here, contains_there, contains_none, contains_cases}
+use Rattle.monomial_order.specs.laws.Monomial.{product_comm}
+use Rattle.monomial_order.specs.laws.Cofactors.{cofactor, length-product_right, Divides-trans}
+use Rattle.monomial_order.specs.laws.Comparing.{le_or_not, monomial_or_not, divisor_degree}
+use Rattle.monomial_order.specs.laws.Rank.{within_listed}
+use Rattle.word_laws.specs.Words.{word_order_of, image_of, image, IsWord, IsReducible, IsMinimalReducible}
+use Rattle.word_laws.specs.laws.Reducible.{multiple_closed, multiple_decided, reducible_zeros, find_smaller, within_own, reducible_exactly}
+use Rattle.polynomials.specs.Polynomial.{Polynomial, coefficient, AllAt, IsPoly}
+use Rattle.polynomials.specs.Subalgebra.{Presented, IsPresentation, LeadsIdeal}
+use Rattle.polynomials.specs.laws.Degrees.{all_found}
+use Rattle.polynomials.specs.laws.NormalForm.{lead_times}
 use Rattle.subalgebra_laws.specs.Words.{letters, IsReducibleWord}
 use Rattle.subalgebra_laws.specs.Bases.{AreMonicElements, IsDecidedTo, AreZerosTo, IsIdealClosedAt}
 use Rattle.subalgebra_laws.proofs.Letters.{letter_images, letter_degrees, image_is, word_monic, letter_laws, word_degree, are_letters}
 
 module _ {E : Type 0} (P : Presented E) (H : IsPresentation P) where
-  poly_monomials : (p : List (Term E)) → IsPoly P.field P.order.places p → AllAt (IsMonomial P.order.places) p
+  poly_monomials : (p : Polynomial E) → IsPoly P.field P.order.places p → AllAt (IsMonomial P.order.places) p
   poly_monomials [] h = tt
   poly_monomials (t ∷ p) h = (h.0.monomial, poly_monomials p h.1)
 
-  pub poly_monomial : (p : List (Term E)) (m : List ℕ) → IsPoly P.field P.order.places p → coefficient P.field p m ≢ P.field.zero → IsMonomial P.order.places m
+  pub poly_monomial : (p : Polynomial E) (m : List ℕ) → IsPoly P.field P.order.places p → coefficient P.field p m ≢ P.field.zero → IsMonomial P.order.places m
   poly_monomial p m h k = all_found P.field H.field P.order H.order (IsMonomial P.order.places) p (poly_monomials p h) m k
 
   pub lead_monomial : (m : List ℕ) → LeadsIdeal P m → IsMonomial P.order.places m
@@ -87,11 +87,11 @@ module _ {E : Type 0} (P : Presented E) (H : IsPresentation P) where
     zeros_decide m hm d =
         ⊎_elim (λ h. inl (multiple_leads m hm h)) (λ n. inr (λ l. let z = Z.divide m l d in n (z.0, z.1, z.2))) (multiple_decided P.order.places zeros m hm)
 
-    module _ (S : List (List (Term E))) (HS : AreMonicElements P S) where
+    module _ (S : List (Polynomial E)) (HS : AreMonicElements P S) where
       image_leads : (w : List ℕ) → IsMultiple zeros (image_of (letters P S) w) → LeadsIdeal P (image_of (letters P S) w)
       image_leads w h = multiple_leads (image_of (letters P S) w) (subst (IsMonomial P.order.places) (sym (image_is P S w)) (word_monic P H S HS w).monomial) h
 
-      leads_image : (w : List ℕ) → (order_of (letters P S)).degree w ≤ c → LeadsIdeal P (image_of (letters P S) w) → IsMultiple zeros (image_of (letters P S) w)
+      leads_image : (w : List ℕ) → (word_order_of (letters P S)).degree w ≤ c → LeadsIdeal P (image_of (letters P S) w) → IsMultiple zeros (image_of (letters P S) w)
       leads_image w d l =
           let e = word_degree P H S HS w in
           let i : P.order.degree (image_of (letters P S) w) ≡ P.order.degree (image w (letter_images P S)) = ap P.order.degree (image_is P S w) in
@@ -100,32 +100,32 @@ module _ {E : Type 0} (P : Presented E) (H : IsPresentation P) where
       to_ideal : (w : List ℕ) → IsReducible (IsMultiple zeros) (letters P S) w → IsReducibleWord P S w
       to_ideal w = reducible_zeros (IsMultiple zeros) (LeadsIdeal P) (letters P S) w (image_leads w)
 
-      of_ideal : (w : List ℕ) → (order_of (letters P S)).degree w ≤ c → IsReducibleWord P S w → IsReducible (IsMultiple zeros) (letters P S) w
+      of_ideal : (w : List ℕ) → (word_order_of (letters P S)).degree w ≤ c → IsReducibleWord P S w → IsReducible (IsMultiple zeros) (letters P S) w
       of_ideal w d = reducible_zeros (LeadsIdeal P) (IsMultiple zeros) (letters P S) w (leads_image w d)
 
-      lower : (v w : List ℕ) → IsWord (letters P S) v → IsWord (letters P S) w → Divides v w → (order_of (letters P S)).degree w ≤ c → (order_of (letters P S)).degree v ≤ c
-      lower v w hv hw d le = let x = divisor_degree (order_of (letters P S)) (letter_laws P H S HS) v w hv.trimmed hw.trimmed d in omega arith
+      lower : (v w : List ℕ) → IsWord (letters P S) v → IsWord (letters P S) w → Divides v w → (word_order_of (letters P S)).degree w ≤ c → (word_order_of (letters P S)).degree v ≤ c
+      lower v w hv hw d le = let x = divisor_degree (word_order_of (letters P S)) (letter_laws P H S HS) v w hv.trimmed hw.trimmed d in omega arith
 
-      pub minimal_to_ideal : (w : List ℕ) → (order_of (letters P S)).degree w ≤ c → IsMinimalReducible (IsMultiple zeros) (letters P S) w → IsMinimalReducible (LeadsIdeal P) (letters P S) w
+      pub minimal_to_ideal : (w : List ℕ) → (word_order_of (letters P S)).degree w ≤ c → IsMinimalReducible (IsMultiple zeros) (letters P S) w → IsMinimalReducible (LeadsIdeal P) (letters P S) w
       minimal_to_ideal w le h = record {
         word = h.word;
         reducible = to_ideal w h.reducible;
         minimal = λ v hv rv d. h.minimal v hv (of_ideal v (lower v w hv h.word d le) rv) d;
       }
 
-      minimal_of_ideal : (w : List ℕ) → (order_of (letters P S)).degree w ≤ c → IsMinimalReducible (LeadsIdeal P) (letters P S) w → IsMinimalReducible (IsMultiple zeros) (letters P S) w
+      minimal_of_ideal : (w : List ℕ) → (word_order_of (letters P S)).degree w ≤ c → IsMinimalReducible (LeadsIdeal P) (letters P S) w → IsMinimalReducible (IsMultiple zeros) (letters P S) w
       minimal_of_ideal w le h = record {
         word = h.word;
         reducible = of_ideal w le h.reducible;
         minimal = λ v hv rv d. h.minimal v hv (to_ideal v rv) d;
       }
 
-      pub zeros_stand : (w : List ℕ) → (order_of (letters P S)).degree w ≤ c →
+      pub zeros_stand : (w : List ℕ) → (word_order_of (letters P S)).degree w ≤ c →
           (IsReducible (IsMultiple zeros) (letters P S) w ↔ IsReducibleWord P S w) × (IsMinimalReducible (IsMultiple zeros) (letters P S) w ↔ IsMinimalReducible (LeadsIdeal P) (letters P S) w)
       zeros_stand w le = ((to_ideal w, of_ideal w le), (minimal_to_ideal w le, minimal_of_ideal w le))
 
       -- a reducible word has a minimal reducible divisor
-      minimal_by_zeros : (w : List ℕ) → IsWord (letters P S) w → (order_of (letters P S)).degree w ≤ c → IsReducibleWord P S w →
+      minimal_by_zeros : (w : List ℕ) → IsWord (letters P S) w → (word_order_of (letters P S)).degree w ≤ c → IsReducibleWord P S w →
           (u : List ℕ) × IsMinimalReducible (LeadsIdeal P) (letters P S) u × Divides u w
       minimal_by_zeros w hw le red =
           let r = (reducible_exactly (letters P S) (are_letters P H S HS) (IsMultiple zeros)
@@ -133,17 +133,17 @@ module _ {E : Type 0} (P : Presented E) (H : IsPresentation P) where
           (multiple_decided (length (letter_degrees P S)) zeros) w hw).0 (of_ideal w le red) in
           (r.0, minimal_to_ideal r.0 (lower r.0 w r.1.word hw r.2 le) r.1, r.2)
 
-  module _ (S : List (List (Term E))) (HS : AreMonicElements P S) where
-    pub minimal_divisor : (c : ℕ) → IsDecidedTo P c → (w : List ℕ) → IsWord (letters P S) w → (order_of (letters P S)).degree w ≤ c → IsReducibleWord P S w →
+  module _ (S : List (Polynomial E)) (HS : AreMonicElements P S) where
+    pub minimal_divisor : (c : ℕ) → IsDecidedTo P c → (w : List ℕ) → IsWord (letters P S) w → (word_order_of (letters P S)).degree w ≤ c → IsReducibleWord P S w →
         (u : List ℕ) × IsMinimalReducible (LeadsIdeal P) (letters P S) u × Divides u w
     minimal_divisor c dec w hw le red = let z = decided_zeros c dec in minimal_by_zeros c z.0 z.1 S HS w hw le red
 
-    pub words_decided : (c : ℕ) → IsDecidedTo P c → (w : List ℕ) → IsWord (letters P S) w → (order_of (letters P S)).degree w ≤ c → IsReducibleWord P S w ⊎ (IsReducibleWord P S w → ⊥)
+    pub words_decided : (c : ℕ) → IsDecidedTo P c → (w : List ℕ) → IsWord (letters P S) w → (word_order_of (letters P S)).degree w ≤ c → IsReducibleWord P S w ⊎ (IsReducibleWord P S w → ⊥)
     words_decided c dec w hw le =
         let e = word_degree P H S HS w in
         ⊎_elim (λ l. inl (inl (subst (LeadsIdeal P) (sym (image_is P S w)) l)))
         (λ n. ⊎_elim (λ s. inl (inr s)) (λ none. inr (λ r. ⊎_elim (λ l. n (subst (LeadsIdeal P) (image_is P S w) l)) (λ s. none s.0 s.1) r))
-        (find_smaller (letters P S) (are_letters P H S HS) ((order_of (letters P S)).degree w) w (within_own (letters P S) (are_letters P H S HS) w hw)))
+        (find_smaller (letters P S) (are_letters P H S HS) ((word_order_of (letters P S)).degree w) w (within_own (letters P S) (are_letters P H S HS) w hw)))
         (dec (image w (letter_images P S)) (word_monic P H S HS w).monomial (omega arith))
 
   module _ (D c : ℕ) (closed : IsIdealClosedAt P D) where

@@ -3,22 +3,22 @@ use Rattle.std.proofs.Common.{◌≡◌, ◌≢◌, ℕ, zero, suc, ◌+◌, ◌
 use Rattle.std.specs.Prelude.{map, Contains, sum}
 use Rattle.std.proofs.lemmas.List.Sums.{sum_by-cons}
 use Rattle.word_field.specs.Field.{FieldOps, IsField, IsValue}
-use Rattle.monomial_order.specs.declared.Term.{Term}
+use Rattle.monomial_order.specs.declared.terms.Term.{Term}
 use Rattle.monomial_order.specs.Monomial.{product, variable, weighted_degree}
-use Rattle.monomial_order.specs.Lists.{contains_cases, contains_here, contains_there, contains_none}
-use Rattle.monomial_order.specs.MonomialLaws.{product-one, IsMonomial-product}
-use Rattle.monomial_order.specs.Words.{monomial_power, image, image_of, variables, order_of, IsWord, IsSWord}
-use Rattle.monomial_order.specs.ImageLaws.{image_product, length-variables, variable_trimmed, variable_length, variable_monomial}
-use Rattle.poly_core.specs.Poly.{coefficient, Same, term_of, times, constant, AllAt, IsPoly, IsLead, lead}
-use Rattle.poly_core.specs.Value.{power, value, monomial_value, term_value}
-use Rattle.poly_core.specs.Subalgebra.{Presented, IsPresentation, AreGenerators, InSubalgebra, LeadsSubalgebra, IsStandard, IsGenerated, AllIn, product_of}
-use Rattle.poly_core.specs.ReducedBasisLaws.{generated_times}
-use Rattle.poly_core.specs.ValueLaws.{one_times, value_same}
-use Rattle.poly_core.specs.FallingLaws.{Falls_IsPoly}
-use Rattle.poly_core.specs.CanonicalLaws.{canonical}
-use Rattle.poly_core.specs.DegreeLaws.{falls_all}
-use Rattle.poly_core.specs.CongruenceLaws.{congruent_same}
-use Rattle.poly_core.specs.SubalgebraLaws.{IsPoly-power, sub_plus, sub_times, sub_congruent}
+use Rattle.monomial_order.specs.laws.Lists.{contains_cases, contains_here, contains_there, contains_none}
+use Rattle.monomial_order.specs.laws.Monomial.{product-one, IsMonomial-product}
+use Rattle.word_laws.specs.Words.{monomial_power, image, image_of, variables, word_order_of, IsWord, IsSWord}
+use Rattle.word_laws.specs.laws.Images.{image_product, length-variables, variable_trimmed, variable_length, variable_monomial}
+use Rattle.polynomials.specs.Polynomial.{Polynomial, coefficient, Same, term_of, times, constant, AllAt, IsPoly, IsLead, lead_monomial}
+use Rattle.polynomials.specs.Value.{power, value, monomial_value, term_value}
+use Rattle.polynomials.specs.Subalgebra.{Presented, IsPresentation, AreGenerators, InSubalgebra, LeadsSubalgebra, IsStandard, IsGenerated, AllIn, product_of}
+use Rattle.polynomials.specs.laws.ReducedBasis.{generated_times}
+use Rattle.polynomials.specs.laws.Value.{one_times, value_same}
+use Rattle.polynomials.specs.laws.Decreasing.{IsDecreasing_IsPoly}
+use Rattle.polynomials.specs.laws.Canonical.{canonical}
+use Rattle.polynomials.specs.laws.Degrees.{decreasing_all}
+use Rattle.polynomials.specs.laws.Congruence.{congruent_same}
+use Rattle.polynomials.specs.laws.Membership.{IsPoly-power, sub_plus, sub_times, sub_congruent}
 use Rattle.subalgebra_laws.specs.Words.{letters, letter_values, word_value}
 use Rattle.subalgebra_laws.specs.Bases.{AreMonicElements}
 use Rattle.subalgebra_laws.proofs.Letters.{length-map, letter_images, letter_degrees, letter_laws, HasNoX, image_is, places_are, no_x_one, no_x_product, element_monic, word_monic}
@@ -86,11 +86,11 @@ module _ {E : Type 0} (P : Presented E) (H : IsPresentation P) where
         (λ m. sym (ap (λ p. coefficient P.field p m) (append-nil (times P.field (constant P.field f) (constant P.field P.field.one))) ∙ one_right P.field H.field (constant P.field f) m));
   }
 
-  sub_power : (s : List (Term E)) (e : ℕ) → IsPoly P.field P.order.places s → InSubalgebra P s → InSubalgebra P (power P.field s e)
+  sub_power : (s : Polynomial E) (e : ℕ) → IsPoly P.field P.order.places s → InSubalgebra P s → InSubalgebra P (power P.field s e)
   sub_power s zero hp h = sub_one
   sub_power s (suc e) hp h = sub_times P H s (power P.field s e) hp h (sub_power s e hp h)
 
-  elements_sub : (w : List ℕ) (T : List (List (Term E))) → ((s : List (Term E)) → Contains T s → IsPoly P.field P.order.places s × InSubalgebra P s) → InSubalgebra P (monomial_value P.field w T)
+  elements_sub : (w : List ℕ) (T : List (Polynomial E)) → ((s : Polynomial E) → Contains T s → IsPoly P.field P.order.places s × InSubalgebra P s) → InSubalgebra P (monomial_value P.field w T)
   elements_sub [] T h = sub_one
   elements_sub (e ∷ w) [] h = sub_one
   elements_sub (e ∷ w) (s ∷ T) h =
@@ -98,47 +98,47 @@ module _ {E : Type 0} (P : Presented E) (H : IsPresentation P) where
       sub_times P H (power P.field s e) (monomial_value P.field w T) (IsPoly-power P.field H.field P.order.places s e el.0)
       (sub_power s e el.0 el.1) (elements_sub w T (λ x k. h x (contains_there s T x k)))
 
-  module _ (S : List (List (Term E))) (HS : AreMonicElements P S) where
+  module _ (S : List (Polynomial E)) (HS : AreMonicElements P S) where
     -- an s-word whose image is the given monomial
     pub record IsWordOf (m w : List ℕ) : Type 0 where
       pub word : IsWord (letters P S) w
       pub no_x : HasNoX P S w
       pub image : image w (letter_images P S) ≡ m
 
-    letter_word : (l : List ℕ) → Contains (map lead S) l → (w : List ℕ) × IsWordOf l w
+    letter_word : (l : List ℕ) → Contains (map lead_monomial S) l → (w : List ℕ) × IsWordOf l w
     letter_word l h =
-        let r = letter (map lead S) l h in
+        let r = letter (map lead_monomial S) l h in
         let b = r.1 in
         let p = places_are P S in
         let v = length-variables 0 P.order.places in
-        let lm : length (map (weighted_degree (letter_degrees P S)) (map lead S)) ≡ length (map lead S) = length-map (weighted_degree (letter_degrees P S)) (map lead S) in
-        let la : length (letter_degrees P S ++ map (weighted_degree (letter_degrees P S)) (map lead S)) ≡ length (letter_degrees P S) + length (map (weighted_degree (letter_degrees P S)) (map lead S)) =
-        length-append (letter_degrees P S) (map (weighted_degree (letter_degrees P S)) (map lead S)) in (
+        let lm : length (map (weighted_degree (letter_degrees P S)) (map lead_monomial S)) ≡ length (map lead_monomial S) = length-map (weighted_degree (letter_degrees P S)) (map lead_monomial S) in
+        let la : length (letter_degrees P S ++ map (weighted_degree (letter_degrees P S)) (map lead_monomial S)) ≡ length (letter_degrees P S) + length (map (weighted_degree (letter_degrees P S)) (map lead_monomial S)) =
+        length-append (letter_degrees P S) (map (weighted_degree (letter_degrees P S)) (map lead_monomial S)) in (
           variable (length (letter_degrees P S) + r.0),
           record {
-            word = variable_monomial (order_of (letters P S)).places (length (letter_degrees P S) + r.0) (omega arith);
+            word = variable_monomial (word_order_of (letters P S)).places (length (letter_degrees P S) + r.0) (omega arith);
             no_x = no_x_variable (length (letter_degrees P S)) r.0;
             image =
                 ap (λ k. image (variable (k + r.0)) (letter_images P S)) (places_are P S ∙ sym (length-variables 0 P.order.places)) ∙
-                (image_shift (variables 0 P.order.places) (map lead S) r.0 ∙ r.2);
+                (image_shift (variables 0 P.order.places) (map lead_monomial S) r.0 ∙ r.2);
           },
         )
 
-    pub product_word : (ms : List (List ℕ)) → AllIn (map lead S) ms → (w : List ℕ) × IsWordOf (product_of ms) w
+    pub product_word : (ms : List (List ℕ)) → AllIn (map lead_monomial S) ms → (w : List ℕ) × IsWordOf (product_of ms) w
     product_word [] h = ([], record { word = record { trimmed = tt; within = omega arith }; no_x = no_x_one P S; image = refl })
     product_word (m ∷ ms) h =
         let a = letter_word m h.0 in
         let b = product_word ms h.1 in (
           product a.0 b.0,
           record {
-            word = IsMonomial-product (order_of (letters P S)).places a.0 b.0 a.1.word b.1.word;
+            word = IsMonomial-product (word_order_of (letters P S)).places a.0 b.0 a.1.word b.1.word;
             no_x = no_x_product P S a.0 b.0 a.1.no_x b.1.no_x;
             image = image_product a.0 b.0 (letter_images P S) ∙ (ap (λ x. product x (image b.0 (letter_images P S))) a.1.image ∙ ap (product m) b.1.image);
           },
         )
 
     -- values of s-words are members
-    sub_past : ((s : List (Term E)) → Contains S s → InSubalgebra P s) → (xs : List (List ℕ)) (w : List ℕ) → sum (take (length xs) w) ≡ 0 →
+    sub_past : ((s : Polynomial E) → Contains S s → InSubalgebra P s) → (xs : List (List ℕ)) (w : List ℕ) → sum (take (length xs) w) ≡ 0 →
         InSubalgebra P (monomial_value P.field w (map (λ m. term_of m P.field.one ∷ []) xs ++ S))
     sub_past inside [] w h = elements_sub w S (λ s k. ((element_monic P H s (HS s k)).poly, inside s k))
     sub_past inside (x ∷ xs) [] h = sub_one
@@ -151,15 +151,15 @@ module _ {E : Type 0} (P : Presented E) (H : IsPresentation P) where
         (congruent_same P.field H.field P.order.places P.ideal (times P.field (constant P.field P.field.one) (monomial_value P.field w (map (λ m. term_of m P.field.one ∷ []) xs ++ S)))
         (monomial_value P.field w (map (λ m. term_of m P.field.one ∷ []) xs ++ S)) (one_times P.field H.field (monomial_value P.field w (map (λ m. term_of m P.field.one ∷ []) xs ++ S)))))
 
-    pub word_sub : ((s : List (Term E)) → Contains S s → InSubalgebra P s) → (w : List ℕ) → HasNoX P S w → InSubalgebra P (word_value P S w)
+    pub word_sub : ((s : Polynomial E) → Contains S s → InSubalgebra P s) → (w : List ℕ) → HasNoX P S w → InSubalgebra P (word_value P S w)
     word_sub inside w h = sub_past inside (variables 0 P.order.places) w (ap (λ k. sum (take k w)) (length-variables 0 P.order.places ∙ sym (places_are P S)) ∙ h)
 
     -- the image of an s-word is a product of leads
-    pub generated_image_of : (w : List ℕ) → HasNoX P S w → IsGenerated (map lead S) (image w (letter_images P S))
-    generated_image_of w h = generated_word (variables 0 P.order.places) w (map lead S) (ap (λ k. sum (take k w)) (length-variables 0 P.order.places ∙ sym (places_are P S)) ∙ h)
+    pub generated_image_of : (w : List ℕ) → HasNoX P S w → IsGenerated (map lead_monomial S) (image w (letter_images P S))
+    generated_image_of w h = generated_word (variables 0 P.order.places) w (map lead_monomial S) (ap (λ k. sum (take k w)) (length-variables 0 P.order.places ∙ sym (places_are P S)) ∙ h)
 
     -- standard products of leads of members are leads of the subalgebra
-    pub generated_leads : ((s : List (Term E)) → Contains S s → InSubalgebra P s) → (m : List ℕ) → IsStandard P m → IsGenerated (map lead S) m → LeadsSubalgebra P m
+    pub generated_leads : ((s : Polynomial E) → Contains S s → InSubalgebra P s) → (m : List ℕ) → IsStandard P m → IsGenerated (map lead_monomial S) m → LeadsSubalgebra P m
     generated_leads inside m st g =
         let w = product_word g.factors g.members in
         let mono = word_monic P H S HS w.0 in
@@ -172,17 +172,17 @@ module _ {E : Type 0} (P : Presented E) (H : IsPresentation P) where
               (monic_lead P.field H.field P.order H.order (word_value P S w.0) (image w.0 (letter_images P S)) mono);
         }
 
-module _ {E : Type 0} (P : Presented E) (H : IsPresentation P) (S : List (List (Term E))) (HS : AreMonicElements P S) where
-  pub images_generated : (m : List ℕ) → IsGenerated (map lead S) m → (w : List ℕ) × IsSWord (letters P S) w × (image_of (letters P S) w ≡ m)
+module _ {E : Type 0} (P : Presented E) (H : IsPresentation P) (S : List (Polynomial E)) (HS : AreMonicElements P S) where
+  pub images_generated : (m : List ℕ) → IsGenerated (map lead_monomial S) m → (w : List ℕ) × IsSWord (letters P S) w × (image_of (letters P S) w ≡ m)
   images_generated m g =
       let w = product_word P H S HS g.factors g.members in
       (w.0, (w.1.word, w.1.no_x), image_is P S w.0 ∙ (w.1.image ∙ g.product))
 
-  pub generated_images : (m w : List ℕ) → IsSWord (letters P S) w → image_of (letters P S) w ≡ m → IsGenerated (map lead S) m
-  generated_images m w h e = subst (IsGenerated (map lead S)) (sym (image_is P S w) ∙ e) (generated_image_of P H S HS w h.1)
+  pub generated_images : (m w : List ℕ) → IsSWord (letters P S) w → image_of (letters P S) w ≡ m → IsGenerated (map lead_monomial S) m
+  generated_images m w h e = subst (IsGenerated (map lead_monomial S)) (sym (image_is P S w) ∙ e) (generated_image_of P H S HS w h.1)
 
-  module _ (inside : (s : List (Term E)) → Contains S s → InSubalgebra P s) where
-    terms_sub : (e : List (Term E)) → IsPoly P.field (order_of (letters P S)).places e → AllAt (IsSWord (letters P S)) e → InSubalgebra P (value P.field e (letter_values P S))
+  module _ (inside : (s : Polynomial E) → Contains S s → InSubalgebra P s) where
+    terms_sub : (e : Polynomial E) → IsPoly P.field (word_order_of (letters P S)).places e → AllAt (IsSWord (letters P S)) e → InSubalgebra P (value P.field e (letter_values P S))
     terms_sub [] hp h = record { witness = []; poly = tt; inside = congruent_same P.field H.field P.order.places P.ideal [] [] (λ m. refl) }
     terms_sub (t ∷ e) hp h =
         sub_plus P H (term_value P.field (letter_values P S) t) (value P.field e (letter_values P S))
@@ -190,18 +190,18 @@ module _ {E : Type 0} (P : Presented E) (H : IsPresentation P) (S : List (List (
         (terms_sub e hp.1 h.1)
 
     -- the value of a sum of s-words is a member: that of its falling form is
-    pub value_sub : (e : List (Term E)) → IsPoly P.field (order_of (letters P S)).places e → ((w : List ℕ) → coefficient P.field e w ≢ P.field.zero → IsSWord (letters P S) w) → InSubalgebra P (value P.field e (letter_values P S))
+    pub value_sub : (e : Polynomial E) → IsPoly P.field (word_order_of (letters P S)).places e → ((w : List ℕ) → coefficient P.field e w ≢ P.field.zero → IsSWord (letters P S) w) → InSubalgebra P (value P.field e (letter_values P S))
     value_sub e hp h =
-        let q = canonical P.field H.field (order_of (letters P S)) (letter_laws P H S HS) e hp in
+        let q = canonical P.field H.field (word_order_of (letters P S)) (letter_laws P H S HS) e hp in
         sub_congruent P H (value P.field q.0 (letter_values P S)) (value P.field e (letter_values P S))
-        (terms_sub q.0 (Falls_IsPoly P.field (order_of (letters P S)) q.0 q.1.falls)
-        (falls_all P.field H.field (order_of (letters P S)) (letter_laws P H S HS) (IsSWord (letters P S)) q.0 q.1.falls (λ w k. h w (λ z. k (q.1.same w ∙ z)))))
+        (terms_sub q.0 (IsDecreasing_IsPoly P.field (word_order_of (letters P S)) q.0 q.1.decreasing)
+        (decreasing_all P.field H.field (word_order_of (letters P S)) (letter_laws P H S HS) (IsSWord (letters P S)) q.0 q.1.decreasing (λ w k. h w (λ z. k (q.1.same w ∙ z)))))
         (congruent_same P.field H.field P.order.places P.ideal (value P.field e (letter_values P S)) (value P.field q.0 (letter_values P S))
         (λ m. sym (value_same P.field H.field q.0 e (letter_values P S) q.1.same m)))
 
 -- a generator is a member of the subalgebra
 module _ {E : Type 0} (K : FieldOps E) (F : IsField K) where
-  generator_letter : (gs : List (List (Term E))) (f : List (Term E)) → Contains gs f → (i : ℕ) × (i < length gs) × Same K (monomial_value K (variable i) gs) f
+  generator_letter : (gs : List (Polynomial E)) (f : Polynomial E) → Contains gs f → (i : ℕ) × (i < length gs) × Same K (monomial_value K (variable i) gs) f
   generator_letter [] f h = absurd (contains_none f h)
   generator_letter (g ∷ gs) f h =
       ⊎_elim
@@ -210,7 +210,7 @@ module _ {E : Type 0} (K : FieldOps E) (F : IsField K) where
       (contains_cases g gs f h)
 
 module _ {E : Type 0} (P : Presented E) (H : IsPresentation P) where
-  pub generator_sub : (f : List (Term E)) → Contains P.generators f → InSubalgebra P f
+  pub generator_sub : (f : Polynomial E) → Contains P.generators f → InSubalgebra P f
   generator_sub f h =
       let r = generator_letter P.field H.field P.generators f h in
       let b = r.1 in
@@ -222,9 +222,9 @@ module _ {E : Type 0} (P : Presented E) (H : IsPresentation P) where
             (one_times P.field H.field (monomial_value P.field (variable r.0) P.generators) m ∙ r.2 m)));
       }
 
-  pub generator_poly : (f : List (Term E)) → Contains P.generators f → IsPoly P.field P.order.places f
+  pub generator_poly : (f : Polynomial E) → Contains P.generators f → IsPoly P.field P.order.places f
   generator_poly f h = among P.generators H.generators f h
     where
-      among : (gs : List (List (Term E))) → AreGenerators P.field P.order gs → (f : List (Term E)) → Contains gs f → IsPoly P.field P.order.places f
+      among : (gs : List (Polynomial E)) → AreGenerators P.field P.order gs → (f : Polynomial E) → Contains gs f → IsPoly P.field P.order.places f
       among [] h f k = absurd (contains_none f k)
       among (g ∷ gs) h f k = ⊎_elim (λ e. subst (IsPoly P.field P.order.places) e h.0.poly) (λ i. among gs h.1 f i) (contains_cases g gs f k)

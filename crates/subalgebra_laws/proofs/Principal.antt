@@ -2,25 +2,25 @@
 use Rattle.std.proofs.Common.{◌≡◌, ◌≢◌, ℕ, refl, sym, ◌∙◌, ap, subst, List, [], ◌∷◌, ◌++◌, ⊎_elim, append-nil}
 use Rattle.std.specs.Prelude.{Contains}
 use Rattle.word_field.specs.Field.{IsValue}
-use Rattle.word_field.specs.FieldLaws.{times-zero, zero-times, times_is_zero}
-use Rattle.monomial_order.specs.declared.Term.{Term}
+use Rattle.word_field.specs.laws.Field.{times-zero, zero-times, times_is_zero}
+use Rattle.monomial_order.specs.declared.terms.Term.{Term}
 use Rattle.monomial_order.specs.Monomial.{product}
-use Rattle.monomial_order.specs.Lists.{contains_cases, contains_here, contains_none}
-use Rattle.poly_core.specs.Poly.{coefficient, Same, times, constant, IsPoly, IsLead}
-use Rattle.poly_core.specs.Ideal.{Multiple, AreMultiples, sum_of}
-use Rattle.poly_core.specs.Subalgebra.{Presented, IsPresentation, LeadsIdeal}
-use Rattle.poly_core.specs.RingLaws.{coefficient_value, times_assoc}
-use Rattle.poly_core.specs.SameLaws.{append_same, times_same_left}
-use Rattle.poly_core.specs.ValueLaws.{times-append, coefficient-constant_times, one_times}
-use Rattle.poly_core.specs.FallingLaws.{IsLead_unique}
-use Rattle.poly_core.specs.CanonicalLaws.{IsLead_same, zero_or_lead}
-use Rattle.poly_core.specs.IdealLaws.{IsPoly-append, IsPoly-times}
-use Rattle.poly_core.specs.SubalgebraLaws.{IsPoly-one}
+use Rattle.monomial_order.specs.laws.Lists.{contains_cases, contains_here, contains_none}
+use Rattle.polynomials.specs.Polynomial.{Polynomial, coefficient, Same, times, constant, IsPoly, IsLead}
+use Rattle.polynomials.specs.Ideal.{Multiple, AreMultiples, sum_of}
+use Rattle.polynomials.specs.Subalgebra.{Presented, IsPresentation, LeadsIdeal}
+use Rattle.polynomials.specs.laws.Ring.{coefficient_value, times_assoc}
+use Rattle.polynomials.specs.laws.Same.{append_same, times_same_left}
+use Rattle.polynomials.specs.laws.Value.{times-append, coefficient-constant_times, one_times}
+use Rattle.polynomials.specs.laws.Decreasing.{IsLead_unique}
+use Rattle.polynomials.specs.laws.Canonical.{IsLead_same, zero_or_lead}
+use Rattle.polynomials.specs.laws.Ideal.{IsPoly-append, IsPoly-times}
+use Rattle.polynomials.specs.laws.Membership.{IsPoly-one}
 use Rattle.subalgebra_laws.proofs.Leads.{IsMonic, monic_times}
 use Rattle.subalgebra_laws.proofs.Terms.{cancelling, constant_poly, monic_lead, nothing_at}
 use Rattle.subalgebra_laws.proofs.Decisions.{poly_monomial}
 
-module _ {E : Type 0} (P : Presented E) (H : IsPresentation P) (r : List (Term E)) (x : List ℕ) (alone : P.ideal ≡ r ∷ []) (monic : IsMonic P.field P.order r x) where
+module _ {E : Type 0} (P : Presented E) (H : IsPresentation P) (r : Polynomial E) (x : List ℕ) (alone : P.ideal ≡ r ∷ []) (monic : IsMonic P.field P.order r x) where
   pub generator_leads : LeadsIdeal P x
   generator_leads = record {
     member = r;
@@ -33,11 +33,11 @@ module _ {E : Type 0} (P : Presented E) (H : IsPresentation P) (r : List (Term E
     leads = monic_lead P.field H.field P.order H.order r x monic;
   }
 
-  only : (f : List (Term E)) → Contains P.ideal f → r ≡ f
+  only : (f : Polynomial E) → Contains P.ideal f → r ≡ f
   only f h = ⊎_elim (λ e. e) (λ k. absurd (contains_none f k)) (contains_cases r [] f (subst (λ xs. Contains xs f) alone h))
 
   -- a sum of multiples of r is one multiple
-  collected : (parts : List (Multiple E)) → AreMultiples P.field P.order.places P.ideal parts → (q : List (Term E)) × IsPoly P.field P.order.places q × Same P.field (sum_of P.field parts) (times P.field q r)
+  collected : (parts : List (Multiple E)) → AreMultiples P.field P.order.places P.ideal parts → (q : Polynomial E) × IsPoly P.field P.order.places q × Same P.field (sum_of P.field parts) (times P.field q r)
   collected [] h = ([], tt, λ m. refl)
   collected (w ∷ ws) h =
       let k = collected ws h.2 in (
@@ -48,7 +48,7 @@ module _ {E : Type 0} (P : Presented E) (H : IsPresentation P) (r : List (Term E
             ap (λ p. coefficient P.field p m) (sym (times-append P.field H.field w.by k.0 r)),
       )
 
-  module _ (q : List (Term E)) (hq : IsPoly P.field P.order.places q) (m : List ℕ) (lm : IsLead P.field P.order (times P.field q r) m) where
+  module _ (q : Polynomial E) (hq : IsPoly P.field P.order.places q) (m : List ℕ) (lm : IsLead P.field P.order (times P.field q r) m) where
     by_lead : (k : List ℕ) → IsLead P.field P.order q k → (k : List ℕ) × (product k x ≡ m)
     by_lead k lk =
         let c = cancelling P.field H.field P.order H.order P.field.one (coefficient P.field q k) H.field.one_value (coefficient_value P.field H.field q k) lk.nonzero in

@@ -3,19 +3,19 @@ use Rattle.std.proofs.Common.{◌≡◌, ◌≢◌, ℕ, zero, suc, ◌+◌, ◌
 use Rattle.std.specs.Prelude.{map, take, sum}
 use Rattle.std.specs.declared.cmp.Ordering.TheVariants.{Less}
 use Rattle.word_field.specs.Residues.{residues}
-use Rattle.monomial_order.specs.declared.Term.{Term}
+use Rattle.monomial_order.specs.declared.terms.Term.{Term}
 use Rattle.monomial_order.specs.Monomial.{exponent, product, IsMonomial, Divides}
-use Rattle.monomial_order.specs.MonomialLaws.{exponent-product}
-use Rattle.monomial_order.specs.Lists.{contains_here}
-use Rattle.monomial_order.specs.Comparing.{not_below_self, le_or_not}
-use Rattle.monomial_order.specs.Words.{order_of, image_of, IsSWord, IsSmaller}
-use Rattle.monomial_order.specs.WordLaws.{s_smaller}
-use Rattle.poly_core.specs.Poly.{same_monomial, coefficient, Same, term_of, times, minus, constant, IsTerm, Falls, IsPoly, lead}
-use Rattle.poly_core.specs.Ideal.{Congruent}
-use Rattle.poly_core.specs.Value.{value}
-use Rattle.poly_core.specs.Subalgebra.{IsPresentation, InSubalgebra, LeadsIdeal, IsStandard, IsGenerated}
-use Rattle.poly_core.specs.FallingLaws.{IsLead_first}
-use Rattle.poly_core.specs.CongruenceLaws.{congruent_same}
+use Rattle.monomial_order.specs.laws.Monomial.{exponent-product}
+use Rattle.monomial_order.specs.laws.Lists.{contains_here}
+use Rattle.monomial_order.specs.laws.Comparing.{not_below_self, le_or_not}
+use Rattle.word_laws.specs.Words.{word_order_of, image_of, IsSWord, IsSmaller}
+use Rattle.word_laws.specs.laws.Words.{s_smaller}
+use Rattle.polynomials.specs.Polynomial.{Polynomial, same_monomial, coefficient, Same, term_of, times, minus, constant, IsTerm, IsDecreasing, IsPoly, lead_monomial}
+use Rattle.polynomials.specs.Ideal.{Congruent}
+use Rattle.polynomials.specs.Value.{value}
+use Rattle.polynomials.specs.Subalgebra.{IsPresentation, InSubalgebra, LeadsIdeal, IsStandard, IsGenerated}
+use Rattle.polynomials.specs.laws.Decreasing.{IsLead_first}
+use Rattle.polynomials.specs.laws.Congruence.{congruent_same}
 use Rattle.subalgebra_laws.specs.Words.{letters, word_value, combination_value, IsReducibleWord, IsMinimalWord, IsIrreducibleSum, IsCombination}
 use Rattle.subalgebra_laws.specs.Bases.{IsMonicElement, AreMonicElements, IsDecidedTo, AreZerosTo, HasCombinationsTo, IsCheckedElement, IsCheckedBasis}
 use Rattle.subalgebra_laws.specs.Samples.{sum_xy, sum_times_y, difference_of_squares, quotient, quotient_basis}
@@ -28,7 +28,7 @@ use Rattle.subalgebra_laws.proofs.Decisions.{lead_multiple}
 use Rattle.subalgebra_laws.proofs.Principal.{generator_leads, leads_are_multiples}
 use Rattle.subalgebra_laws.proofs.SampleTools.{weighted_exponents, exponent_image, sum_exponents, same_word, each_part, each_of, generated_none_x, not_generated}
 
-difference_falls : Falls (residues 101) plane difference_of_squares
+difference_falls : IsDecreasing (residues 101) plane difference_of_squares
 difference_falls = (
   record { term = term_in 2 (2 ∷ []) (record { trimmed = λ e. cc; within = omega arith }); nonzero = λ e. cc; above = (refl, tt) },
   (record { term = record { monomial = record { trimmed = λ e. cc; within = omega arith }; value = refl }; nonzero = λ e. cc; above = tt }, tt),
@@ -78,19 +78,19 @@ decided c m hm d =
 standard : (m : List ℕ) → IsMonomial 2 m → exponent m 0 ≤ 1 → IsStandard quotient m
 standard m h le = record { monomial = h; no_lead = λ l. let s = lead_has_squares m l in absurd (omega arith) }
 
-first_falls : Falls (residues 101) plane (sum_times_y 1)
+first_falls : IsDecreasing (residues 101) plane (sum_times_y 1)
 first_falls = sum_times_falls 1 (omega arith) refl
 
-second_falls : Falls (residues 101) plane (sum_times_y 2)
+second_falls : IsDecreasing (residues 101) plane (sum_times_y 2)
 second_falls = sum_times_falls 2 (omega arith) refl
 
 pub monic : AreMonicElements quotient quotient_basis
 monic s k =
     each_of (IsMonicElement quotient) quotient_basis (
-      record { falls = sum_falls; monic = falls_monic (1 ∷ []) (term_of (0 ∷ (1 ∷ [])) 1 ∷ []) sum_falls; positive = omega arith },
+      record { decreasing = sum_falls; monic = falls_monic (1 ∷ []) (term_of (0 ∷ (1 ∷ [])) 1 ∷ []) sum_falls; positive = omega arith },
       (
-        record { falls = first_falls; monic = falls_monic (1 ∷ (1 ∷ [])) (term_of (0 ∷ (2 ∷ [])) 1 ∷ []) first_falls; positive = omega arith },
-        (record { falls = second_falls; monic = falls_monic (1 ∷ (2 ∷ [])) (term_of (0 ∷ (3 ∷ [])) 1 ∷ []) second_falls; positive = omega arith }, tt),
+        record { decreasing = first_falls; monic = falls_monic (1 ∷ (1 ∷ [])) (term_of (0 ∷ (2 ∷ [])) 1 ∷ []) first_falls; positive = omega arith },
+        (record { decreasing = second_falls; monic = falls_monic (1 ∷ (2 ∷ [])) (term_of (0 ∷ (3 ∷ [])) 1 ∷ []) second_falls; positive = omega arith }, tt),
       ),
     )
     s k
@@ -118,7 +118,7 @@ y_image w h =
     let e = exponent_image 1 w ((1 ∷ []) ∷ ((0 ∷ (1 ∷ [])) ∷ ((1 ∷ []) ∷ ((1 ∷ (1 ∷ [])) ∷ ((1 ∷ (2 ∷ [])) ∷ []))))) in
     omega arith
 
-degree_is : (w : List ℕ) → IsSWord (letters quotient quotient_basis) w → (order_of (letters quotient quotient_basis)).degree w ≡ exponent w 2 + 2 * exponent w 3 + 3 * exponent w 4
+degree_is : (w : List ℕ) → IsSWord (letters quotient quotient_basis) w → (word_order_of (letters quotient quotient_basis)).degree w ≡ exponent w 2 + 2 * exponent w 3 + 3 * exponent w 4
 degree_is w h =
     let z = no_x w h in
     let z0 = z.0 in
@@ -155,8 +155,8 @@ reducible_is u hu r =
         ⊎_elim (λ l. l)
         (λ few.
         let n = numbers (exponent u 2) (exponent u 3) (exponent u 4) (exponent v 2) (exponent v 3) (exponent v 4) (omega arith) (omega arith) (omega arith) in
-        absurd (not_below_self (order_of (letters quotient quotient_basis)) (letter_laws quotient presentation quotient_basis monic) u
-        (subst (λ w. (order_of (letters quotient quotient_basis)).compare w u ≡ Less) (sym (same_s_word u v hu hv n.0 n.1 n.2)) s.less)))
+        absurd (not_below_self (word_order_of (letters quotient quotient_basis)) (letter_laws quotient presentation quotient_basis monic) u
+        (subst (λ w. (word_order_of (letters quotient quotient_basis)).compare w u ≡ Less) (sym (same_s_word u v hu hv n.0 n.1 n.2)) s.less)))
         (le_or_not 2 (exponent u 2 + exponent u 3 + exponent u 4))
 
 abbrev s1_squared : List ℕ
@@ -172,7 +172,7 @@ s1_s2_word : IsSWord (letters quotient quotient_basis) s1_s2
 s1_s2_word = (record { trimmed = λ e. cc; within = omega arith }, refl)
 
 -- the minimal ones of degree at most 3
-pub minimal_is : (u : List ℕ) → IsMinimalWord quotient quotient_basis u → (order_of (letters quotient quotient_basis)).degree u ≤ 3 → (u ≡ s1_squared) ⊎ (u ≡ s1_s2)
+pub minimal_is : (u : List ℕ) → IsMinimalWord quotient quotient_basis u → (word_order_of (letters quotient quotient_basis)).degree u ≤ 3 → (u ≡ s1_squared) ⊎ (u ≡ s1_s2)
 minimal_is u h le =
     let r = reducible_is u h.1 h.0.reducible in
     let d = degree_is u h.1 in
@@ -189,7 +189,7 @@ minimal_is u h le =
 -- the word of one letter is irreducible, so a multiple of it is a sum of irreducible words
 one_letter : (w : List ℕ) (c : ℕ) → IsSWord (letters quotient quotient_basis) w → exponent w 2 + exponent w 3 + exponent w 4 ≡ 1 → c % 101 ≡ c → c ≢ 0 → IsIrreducibleSum quotient quotient_basis (term_of w c ∷ [])
 one_letter w c h one v nz = record {
-  falls = (record { term = record { monomial = h.0; value = v }; nonzero = nz; above = tt }, tt);
+  decreasing = (record { term = record { monomial = h.0; value = v }; nonzero = nz; above = tt }, tt);
   words = λ x k. subst (IsSWord (letters quotient quotient_basis)) (single_term (residues 101) field w c x k) h;
   irreducible = λ x k r. let t = reducible_is w h (subst (IsReducibleWord quotient quotient_basis) (sym (single_term (residues 101) field w c x k)) r) in absurd (omega arith);
 }
@@ -210,7 +210,7 @@ s3_twice : IsIrreducibleSum quotient quotient_basis (term_of (0 ∷ (0 ∷ (0 �
 s3_twice = one_letter s3 2 (record { trimmed = λ e. cc; within = omega arith }, refl) refl refl (λ e. cc)
 
 -- a difference that is a multiple of x^2 - y^2
-multiple_inside : (a b by : List (Term ℕ)) → IsPoly (residues 101) 2 by → Same (residues 101) (minus (residues 101) a b) (times (residues 101) by difference_of_squares ++ []) →
+multiple_inside : (a b by : Polynomial ℕ) → IsPoly (residues 101) 2 by → Same (residues 101) (minus (residues 101) a b) (times (residues 101) by difference_of_squares ++ []) →
     Congruent (residues 101) 2 (difference_of_squares ∷ []) a b
 multiple_inside a b by h same = record {
   parts = record { by = by; of = difference_of_squares } ∷ [];
@@ -346,30 +346,30 @@ second_inside = record {
 }
 
 -- a power of y is no product of the leads
-y_not_generated : (e : ℕ) → IsGenerated (map lead quotient_basis) (0 ∷ (e ∷ [])) → ⊥
+y_not_generated : (e : ℕ) → IsGenerated (map lead_monomial quotient_basis) (0 ∷ (e ∷ [])) → ⊥
 y_not_generated e g =
     let y : List ℕ = 0 ∷ (e ∷ []) in
-    let z : y ≡ [] = generated_none_x (map lead quotient_basis) (each_of (λ n. exponent n 0 ≡ 1) (map lead quotient_basis) (refl, (refl, (refl, tt)))) (0 ∷ (e ∷ [])) g refl in
+    let z : y ≡ [] = generated_none_x (map lead_monomial quotient_basis) (each_of (λ n. exponent n 0 ≡ 1) (map lead_monomial quotient_basis) (refl, (refl, (refl, tt)))) (0 ∷ (e ∷ [])) g refl in
     absurd cc
 
 -- what is checked of an element x*y^i + y^j
-element : (x : List ℕ) (j : ℕ) → Falls (residues 101) plane (term_of x 1 ∷ (term_of (0 ∷ (j ∷ [])) 1 ∷ [])) → InSubalgebra quotient (term_of x 1 ∷ (term_of (0 ∷ (j ∷ [])) 1 ∷ [])) →
+element : (x : List ℕ) (j : ℕ) → IsDecreasing (residues 101) plane (term_of x 1 ∷ (term_of (0 ∷ (j ∷ [])) 1 ∷ [])) → InSubalgebra quotient (term_of x 1 ∷ (term_of (0 ∷ (j ∷ [])) 1 ∷ [])) →
     exponent x 0 ≡ 1 → plane.degree (0 ∷ (j ∷ [])) ≡ plane.degree x → 1 ≤ plane.degree x → plane.degree x ≤ 3 → IsCheckedElement quotient 3 quotient_basis (term_of x 1 ∷ (term_of (0 ∷ (j ∷ [])) 1 ∷ []))
 element x j f inside one same low high = record {
-  falls = f;
+  decreasing = f;
   inside = inside;
   monic = falls_monic x (term_of (0 ∷ (j ∷ [])) 1 ∷ []) f;
   homogeneous = falls_homogeneous (plane.degree x) (term_of x 1) (term_of (0 ∷ (j ∷ [])) 1 ∷ []) f (refl, (same, tt));
   at_least = low;
   at_most = high;
   standard = at_monomials (term_of x 1 ∷ (term_of (0 ∷ (j ∷ [])) 1 ∷ [])) (IsStandard quotient) (standard x f.0.term.monomial (omega arith), (standard (0 ∷ (j ∷ [])) f.1.0.term.monomial (omega arith), tt));
-  tail = λ m k ne. ⊎_elim (λ e. absurd (ne e)) (λ e. subst (λ n. IsGenerated (map lead quotient_basis) n → ⊥) (sym e) (y_not_generated j))
+  tail = λ m k ne. ⊎_elim (λ e. absurd (ne e)) (λ e. subst (λ n. IsGenerated (map lead_monomial quotient_basis) n → ⊥) (sym e) (y_not_generated j))
       (at_monomials (term_of x 1 ∷ (term_of (0 ∷ (j ∷ [])) 1 ∷ [])) (λ n. (n ≡ x) ⊎ (n ≡ 0 ∷ (j ∷ []))) (inl refl, (inr refl, tt)) m k);
 }
 
 pub checked : IsCheckedBasis quotient 3 quotient_basis
 checked = record {
-  rise = (refl, (refl, tt));
+  increasing = (refl, (refl, tt));
   elements = each_of (IsCheckedElement quotient 3 quotient_basis) quotient_basis (
     element (1 ∷ []) 1 sum_falls (generator_sub quotient presentation sum_xy (contains_here sum_xy [])) refl refl (omega arith) (omega arith),
     (
@@ -377,7 +377,7 @@ checked = record {
       (element (1 ∷ (2 ∷ [])) 3 second_falls second_inside refl refl (omega arith) (omega arith), tt),
     ),
   );
-  minimal = each_part (λ before s after. IsGenerated (map lead (before ++ after)) (lead s) → ⊥) quotient_basis (
+  minimal = each_part (λ before s after. IsGenerated (map lead_monomial (before ++ after)) (lead_monomial s) → ⊥) quotient_basis (
     not_generated ((1 ∷ (1 ∷ [])) ∷ ((1 ∷ (2 ∷ [])) ∷ [])) (1 ∷ []) (refl, (refl, tt)) refl ((λ e. cc), ((λ e. cc), tt)),
     (
       not_generated ((1 ∷ []) ∷ ((1 ∷ (2 ∷ [])) ∷ [])) (1 ∷ (1 ∷ [])) (refl, (refl, tt)) refl ((λ e. cc), ((λ e. cc), tt)),

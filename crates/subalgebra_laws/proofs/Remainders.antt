@@ -1,16 +1,16 @@
 -- A remainder modulo the subalgebra is unique.
 use Rattle.std.proofs.Common.{ℕ, refl, sym, ◌∙◌, List, ⊎_elim, append-nil, [], ap}
-use Rattle.monomial_order.specs.declared.Term.{Term}
-use Rattle.poly_core.specs.Poly.{Same, negated, minus, IsLead, coefficient}
-use Rattle.poly_core.specs.Subalgebra.{Presented, IsPresentation, InSubalgebra, LeadsSubalgebra, IsStandard}
-use Rattle.poly_core.specs.CanonicalLaws.{zero_or_lead}
-use Rattle.poly_core.specs.SameLaws.{append_same, append_comm}
-use Rattle.poly_core.specs.CongruenceLaws.{congruent_same, minus_zero, minus_chain, negated-minus, minus_same}
-use Rattle.poly_core.specs.SubalgebraLaws.{sub_congruent, sub_minus}
+use Rattle.monomial_order.specs.declared.terms.Term.{Term}
+use Rattle.polynomials.specs.Polynomial.{Polynomial, Same, negated, minus, IsLead, coefficient}
+use Rattle.polynomials.specs.Subalgebra.{Presented, IsPresentation, InSubalgebra, LeadsSubalgebra, IsStandard}
+use Rattle.polynomials.specs.laws.Canonical.{zero_or_lead}
+use Rattle.polynomials.specs.laws.Same.{append_same, append_comm}
+use Rattle.polynomials.specs.laws.Congruence.{congruent_same, minus_zero, minus_chain, negated-minus, minus_same}
+use Rattle.polynomials.specs.laws.Membership.{sub_congruent, sub_minus}
 use Rattle.subalgebra_laws.specs.Words.{IsRemainder}
 use Rattle.subalgebra_laws.proofs.Terms.{minus_poly, minus_nonzero, nothing_at}
 
-module _ {E : Type 0} (P : Presented E) (H : IsPresentation P) (a r q : List (Term E)) (hr : IsRemainder P a r) (hq : IsRemainder P a q) where
+module _ {E : Type 0} (P : Presented E) (H : IsPresentation P) (a r q : Polynomial E) (hr : IsRemainder P a r) (hq : IsRemainder P a q) where
   -- r - q is the difference of a - q and a - r
   difference : Same P.field (minus P.field r q) (minus P.field (minus P.field a q) (minus P.field a r))
   difference m =
@@ -38,7 +38,7 @@ module _ {E : Type 0} (P : Presented E) (H : IsPresentation P) (a r q : List (Te
       minus_zero P.field H.field r q (⊎_elim (λ z. z) (λ l. absurd (no_lead l.0 l.1)) (zero_or_lead P.field H.field P.order H.order (minus P.field r q) (minus_poly P.field H.field P.order.places r q hr.poly hq.poly)))
 
 -- so a polynomial is a member exactly where its remainder is zero
-module _ {E : Type 0} (P : Presented E) (H : IsPresentation P) (a r : List (Term E)) (hr : IsRemainder P a r) where
+module _ {E : Type 0} (P : Presented E) (H : IsPresentation P) (a r : Polynomial E) (hr : IsRemainder P a r) where
   minus_nothing : Same P.field (minus P.field a []) a
   minus_nothing m = ap (λ p. coefficient P.field p m) (append-nil a)
 

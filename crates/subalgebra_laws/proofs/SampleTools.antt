@@ -1,23 +1,22 @@
 -- What the samples share: words by their exponents, and polynomials without an ideal.
-use Rattle.std.proofs.Common.{◌≡◌, ◌≢◌, ℕ, zero, suc, ◌+◌, ◌*◌, ◌<◌, ◌≤◌, refl, sym, ◌∙◌, ap, subst, List, [], ◌∷◌, ◌++◌, ⊎_elim, length, take, arith}
+use Rattle.std.proofs.Common.{◌≡◌, ◌≢◌, ℕ, zero, suc, ◌+◌, ◌*◌, ◌<◌, ◌≤◌, refl, sym, ◌∙◌, ap, subst, List, [], ◌∷◌, ◌++◌, ⊎_elim, length, take, arith, append-nil, append_assoc}
 use Rattle.std.specs.Prelude.{map, Contains, sum}
-use Rattle.std.proofs.Common.{append-nil, append_assoc}
 use Rattle.std.proofs.lemmas.List.Sums.{sum_by-cons}
 use Rattle.std.proofs.lemmas.Bool.Decides.{nat_tests}
 use Rattle.std.specs.Ordering.{nat_cmp, ordering_then}
 use Rattle.std.specs.declared.cmp.Ordering.{Ordering}
 use Rattle.std.specs.declared.cmp.Ordering.TheVariants.{Less, Equal, Greater}
-use Rattle.monomial_order.specs.Comparing.{le_or_not}
+use Rattle.monomial_order.specs.laws.Comparing.{le_or_not}
 use Rattle.word_field.specs.Field.{IsField}
 use Rattle.monomial_order.specs.Monomial.{exponent, IsMonomial, weighted_degree}
-use Rattle.monomial_order.specs.Lists.{contains_none, contains_cases}
-use Rattle.monomial_order.specs.MonomialLaws.{exponent-product, exponent_past, product-one}
-use Rattle.monomial_order.specs.Cofactors.{same_exponents}
-use Rattle.monomial_order.specs.Words.{image}
-use Rattle.monomial_order.specs.ImageLaws.{image_sum}
-use Rattle.poly_core.specs.Poly.{Same}
-use Rattle.poly_core.specs.Ideal.{Multiple, AreMultiples, sum_of}
-use Rattle.poly_core.specs.Subalgebra.{Presented, LeadsIdeal, IsGenerated, AllIn, product_of}
+use Rattle.monomial_order.specs.laws.Lists.{contains_none, contains_cases}
+use Rattle.monomial_order.specs.laws.Monomial.{exponent-product, exponent_past, product-one}
+use Rattle.monomial_order.specs.laws.Cofactors.{same_exponents}
+use Rattle.word_laws.specs.Words.{image}
+use Rattle.word_laws.specs.laws.Images.{image_sum}
+use Rattle.polynomials.specs.Polynomial.{Same}
+use Rattle.polynomials.specs.Ideal.{Multiple, AreMultiples, sum_of}
+use Rattle.polynomials.specs.Subalgebra.{Presented, LeadsIdeal, IsGenerated, AllIn, product_of}
 use Rattle.subalgebra_laws.proofs.Terms.{nothing_at}
 
 -- where the degrees agree, a smaller word has no greater sum of x

@@ -4,20 +4,20 @@ use Rattle.std.specs.Prelude.{map, take, sum, Contains}
 use Rattle.std.specs.declared.cmp.Ordering.TheVariants.{Less}
 use Rattle.word_field.specs.Field.{IsField}
 use Rattle.word_field.specs.Residues.{residues}
-use Rattle.word_field.specs.ResidueLaws.{residues_field}
-use Rattle.monomial_order.specs.declared.Term.{Term}
+use Rattle.word_field.specs.laws.Residues.{residues_field}
+use Rattle.monomial_order.specs.declared.terms.Term.{Term}
 use Rattle.monomial_order.specs.Monomial.{exponent, IsMonomial, Divides}
 use Rattle.monomial_order.specs.MonomialOrder.{IsMonomialOrder}
-use Rattle.monomial_order.specs.Lists.{contains_cases, contains_here, contains_none}
+use Rattle.monomial_order.specs.laws.Lists.{contains_cases, contains_here, contains_none}
 use Rattle.monomial_order.specs.Orders.{lex}
-use Rattle.monomial_order.specs.OrderLaws.{weight_order_laws, lex_part, lex_equal}
-use Rattle.monomial_order.specs.Comparing.{not_below_self, le_or_not}
-use Rattle.monomial_order.specs.Words.{order_of, image_of, IsWord, IsSWord, IsSmaller}
-use Rattle.monomial_order.specs.WordLaws.{degree_same}
-use Rattle.poly_core.specs.Poly.{coefficient, term_of, AllAt, Falls, IsHomogeneous, IsPoly, lead}
-use Rattle.poly_core.specs.Subalgebra.{IsPresentation, LeadsIdeal, IsStandard, IsGenerated, AllIn, product_of}
-use Rattle.poly_core.specs.DegreeLaws.{all_found}
-use Rattle.poly_core.specs.CongruenceLaws.{congruent_same}
+use Rattle.monomial_order.specs.laws.Orders.{weight_order_laws, lex_part, lex_equal}
+use Rattle.monomial_order.specs.laws.Comparing.{not_below_self, le_or_not}
+use Rattle.word_laws.specs.Words.{word_order_of, image_of, IsWord, IsSWord, IsSmaller}
+use Rattle.word_laws.specs.laws.Words.{degree_same}
+use Rattle.polynomials.specs.Polynomial.{Polynomial, coefficient, term_of, AllAt, IsDecreasing, IsHomogeneous, IsPoly, lead_monomial}
+use Rattle.polynomials.specs.Subalgebra.{IsPresentation, LeadsIdeal, IsStandard, IsGenerated, AllIn, product_of}
+use Rattle.polynomials.specs.laws.Degrees.{all_found}
+use Rattle.polynomials.specs.laws.Congruence.{congruent_same}
 use Rattle.subalgebra_laws.specs.Words.{letters, IsReducibleWord, IsMinimalWord, IsIrreducibleSum, IsCombination}
 use Rattle.subalgebra_laws.specs.Bases.{IsMonicElement, AreMonicElements, IsDecidedTo, HasCombinationsTo, IsClosedAt, IsCheckedElement, IsCheckedBasis}
 use Rattle.subalgebra_laws.specs.Samples.{square, squares}
@@ -56,15 +56,15 @@ no_lead m l = no_leads squares K refl m l
 pub decided : (c : ℕ) → IsDecidedTo squares c
 decided c m hm d = inr (no_lead m)
 
-square_falls : Falls (residues 101) squares.order square
+square_falls : IsDecreasing (residues 101) squares.order square
 square_falls = (record { term = square_poly.0; nonzero = λ e. cc; above = tt }, tt)
 
-only : (s : List (Term ℕ)) → Contains (square ∷ []) s → square ≡ s
+only : (s : Polynomial ℕ) → Contains (square ∷ []) s → square ≡ s
 only s k = ⊎_elim (λ e. e) (λ r. absurd (contains_none s r)) (contains_cases square [] s k)
 
 pub monic : AreMonicElements squares (square ∷ [])
 unfolding coefficient
-monic s k = subst (IsMonicElement squares) (only s k) (record { falls = square_falls; monic = refl; positive = omega arith })
+monic s k = subst (IsMonicElement squares) (only s k) (record { decreasing = square_falls; monic = refl; positive = omega arith })
 
 -- a smaller word with the same image has no more x, and x has the same parity in both
 same_images : (v w : List ℕ) → IsSmaller (letters squares (square ∷ [])) w v → exponent w 0 + 2 * exponent w 1 ≡ exponent v 0 + 2 * exponent v 1
@@ -76,7 +76,7 @@ same_images v w s =
 
 fewer_x : (v w : List ℕ) → IsSmaller (letters squares (square ∷ [])) w v → exponent v 0 ≤ exponent w 0
 fewer_x v w s =
-    let f : sum (take 1 v) ≤ sum (take 1 w) = x_falls ((order_of (letters squares (square ∷ []))).degree v) ((order_of (letters squares (square ∷ []))).degree w) (sum (take 1 v)) (sum (take 1 w)) _
+    let f : sum (take 1 v) ≤ sum (take 1 w) = x_falls ((word_order_of (letters squares (square ∷ []))).degree v) ((word_order_of (letters squares (square ∷ []))).degree w) (sum (take 1 v)) (sum (take 1 w)) _
     (degree_same (letters squares (square ∷ [])) (are_letters squares presentation (square ∷ []) monic) v w s.image) s.less in
     let a = sum_exponents 1 v in
     let b = sum_exponents 1 w in
@@ -95,8 +95,8 @@ reducible_x w hw r = ⊎_elim (λ z. absurd (no_lead (image_of (letters squares 
         let x : exponent v 0 ≡ exponent w 0 = omega arith in
         let y : exponent v 1 ≡ exponent w 1 = omega arith in
         let same : v ≡ w = same_word 2 v w s.word hw (x, (y, tt)) in
-        absurd (not_below_self (order_of (letters squares (square ∷ []))) (letter_laws squares presentation (square ∷ []) monic) w
-        (subst (λ k. (order_of (letters squares (square ∷ []))).compare k w ≡ Less) same s.less)))
+        absurd (not_below_self (word_order_of (letters squares (square ∷ []))) (letter_laws squares presentation (square ∷ []) monic) w
+        (subst (λ k. (word_order_of (letters squares (square ∷ []))).compare k w ≡ Less) same s.less)))
         (le_or_not 2 (exponent w 0))
 
 x_squared : IsReducibleWord squares (square ∷ []) (2 ∷ [])
@@ -127,7 +127,7 @@ s_irreducible r = let x = reducible_x (0 ∷ (1 ∷ [])) (record { trimmed = λ 
 
 square_sum : IsIrreducibleSum squares (square ∷ []) (term_of (0 ∷ (1 ∷ [])) 1 ∷ [])
 square_sum = record {
-  falls = (record { term = record { monomial = record { trimmed = λ e. cc; within = omega arith }; value = refl }; nonzero = λ e. cc; above = tt }, tt);
+  decreasing = (record { term = record { monomial = record { trimmed = λ e. cc; within = omega arith }; value = refl }; nonzero = λ e. cc; above = tt }, tt);
   words = λ w k. subst (IsSWord (letters squares (square ∷ []))) (single_term (residues 101) K (0 ∷ (1 ∷ [])) 1 w k)
       (record { trimmed = λ e. cc; within = omega arith }, refl);
   irreducible = λ w k r. s_irreducible (subst (IsReducibleWord squares (square ∷ [])) (sym (single_term (residues 101) K (0 ∷ (1 ∷ [])) 1 w k)) r);
@@ -149,7 +149,7 @@ square_standard m k = record {
 square_element : IsCheckedElement squares 2 (square ∷ []) square
 unfolding coefficient
 square_element = record {
-  falls = square_falls;
+  decreasing = square_falls;
   inside = generator_sub squares presentation square (contains_here square []);
   monic = refl;
   homogeneous = square_homogeneous;
@@ -165,8 +165,8 @@ nothing_generated (m ∷ ms) h e = contains_none m h.0
 
 pub checked : IsCheckedBasis squares 2 (square ∷ [])
 checked = record {
-  rise = tt;
+  increasing = tt;
   elements = λ s k. subst (IsCheckedElement squares 2 (square ∷ [])) (only s k) square_element;
-  minimal = λ before after s e. each_part (λ front y rest. ¬ IsGenerated (map lead (front ++ rest)) (lead y)) (square ∷ []) ((λ g. nothing_generated g.factors g.members g.product), tt) before after s e;
+  minimal = λ before after s e. each_part (λ front y rest. ¬ IsGenerated (map lead_monomial (front ++ rest)) (lead_monomial y)) (square ∷ []) ((λ g. nothing_generated g.factors g.members g.product), tt) before after s e;
   combinations = combinations 2;
 }

@@ -2,19 +2,19 @@
 use Rattle.std.proofs.Common.{◌≡◌, ◌≢◌, ℕ, ◌≤◌, refl, sym, ◌∙◌, ap, subst, List, [], ◌++◌, ⊎_elim, arith}
 use Rattle.std.specs.declared.cmp.Ordering.TheVariants.{Less}
 use Rattle.word_field.specs.Field.{IsValue}
-use Rattle.monomial_order.specs.declared.Term.{Term}
-use Rattle.monomial_order.specs.Comparing.{degree_falls, equal_or_not}
-use Rattle.monomial_order.specs.Rank.{IsWithin, below_induction}
-use Rattle.monomial_order.specs.Words.{order_of, image_of, image, IsWord}
-use Rattle.monomial_order.specs.ReducibleLaws.{least_word, least_s_word}
-use Rattle.poly_core.specs.Poly.{coefficient, times, minus, constant, IsPoly, IsLead}
-use Rattle.poly_core.specs.Ideal.{InIdeal, Congruent}
-use Rattle.poly_core.specs.Subalgebra.{Presented, IsPresentation, InSubalgebra, LeadsIdeal, IsReducedBasis}
-use Rattle.poly_core.specs.RingLaws.{coefficient_value}
-use Rattle.poly_core.specs.CanonicalLaws.{zero_or_lead}
-use Rattle.poly_core.specs.IdealLaws.{IsPoly-times, InIdeal_times}
-use Rattle.poly_core.specs.CongruenceLaws.{congruent_same, congruent_sym}
-use Rattle.poly_core.specs.SubalgebraLaws.{sub_times, sub_congruent, sub_minus}
+use Rattle.monomial_order.specs.declared.terms.Term.{Term}
+use Rattle.monomial_order.specs.laws.Comparing.{degree_falls, equal_or_not}
+use Rattle.monomial_order.specs.laws.Rank.{IsWithin, below_induction}
+use Rattle.word_laws.specs.Words.{word_order_of, image_of, image, IsWord}
+use Rattle.word_laws.specs.laws.Reducible.{least_word, least_s_word}
+use Rattle.polynomials.specs.Polynomial.{Polynomial, coefficient, times, minus, constant, IsPoly, IsLead}
+use Rattle.polynomials.specs.Ideal.{InIdeal, Congruent}
+use Rattle.polynomials.specs.Subalgebra.{Presented, IsPresentation, InSubalgebra, LeadsIdeal, IsReducedBasis}
+use Rattle.polynomials.specs.laws.Ring.{coefficient_value}
+use Rattle.polynomials.specs.laws.Canonical.{zero_or_lead}
+use Rattle.polynomials.specs.laws.Ideal.{IsPoly-times, InIdeal_times}
+use Rattle.polynomials.specs.laws.Congruence.{congruent_same, congruent_sym}
+use Rattle.polynomials.specs.laws.Membership.{sub_times, sub_congruent, sub_minus}
 use Rattle.subalgebra_laws.specs.Words.{letters, word_value, IsCombination}
 use Rattle.subalgebra_laws.specs.Bases.{AreMonicElements, IsDecidedTo, HasCombinationsTo}
 use Rattle.subalgebra_laws.proofs.Leads.{IsMonic}
@@ -27,10 +27,10 @@ use Rattle.subalgebra_laws.proofs.Decisions.{poly_monomial}
 use Rattle.subalgebra_laws.proofs.Generated.{product_word, word_sub, sub_constant, generator_sub, generator_poly}
 
 module _ {E : Type 0} (P : Presented E) (H : IsPresentation P) where
-  pub basis_monic : (c : ℕ) (S : List (List (Term E))) → IsReducedBasis P c S → AreMonicElements P S
-  basis_monic c S red s k = let e = red.elements s k in record { falls = e.falls; monic = e.monic; positive = e.at_least }
+  pub basis_monic : (c : ℕ) (S : List (Polynomial E)) → IsReducedBasis P c S → AreMonicElements P S
+  basis_monic c S red s k = let e = red.elements s k in record { decreasing = e.decreasing; monic = e.monic; positive = e.at_least }
 
-  module _ (S : List (List (Term E))) (HS : AreMonicElements P S) where
+  module _ (S : List (Polynomial E)) (HS : AreMonicElements P S) where
     -- the least word with a standard image is irreducible
     irreducible_word : (w : List ℕ) → IsWord (letters P S) w → HasNoX P S w → (LeadsIdeal P (image w (letter_images P S)) → ⊥) →
         (v : List ℕ) × IsIrreducible P H S HS v × HasNoX P S v × (image v (letter_images P S) ≡ image w (letter_images P S))
@@ -48,7 +48,7 @@ module _ {E : Type 0} (P : Presented E) (H : IsPresentation P) where
         )
 
     -- a monomial of the value of a word has at most its degree
-    pub word_low : (c : ℕ) (u : List ℕ) → (order_of (letters P S)).degree u ≤ c → (n : List ℕ) → coefficient P.field (word_value P S u) n ≢ P.field.zero → P.order.degree n ≤ c
+    pub word_low : (c : ℕ) (u : List ℕ) → (word_order_of (letters P S)).degree u ≤ c → (n : List ℕ) → coefficient P.field (word_value P S u) n ≢ P.field.zero → P.order.degree n ≤ c
     word_low c u le n k =
         let mu = word_monic P H S HS u in
         let e = word_degree P H S HS u in
@@ -56,19 +56,19 @@ module _ {E : Type 0} (P : Presented E) (H : IsPresentation P) where
         (λ ne. let z = degree_falls P.order H.order n (image u (letter_images P S)) (mu.greatest n k ne) in omega arith)
         (equal_or_not n (image u (letter_images P S)))
 
-  module _ (c : ℕ) (S : List (List (Term E))) (dec : IsDecidedTo P c) (red : IsReducedBasis P c S) where
+  module _ (c : ℕ) (S : List (Polynomial E)) (dec : IsDecidedTo P c) (red : IsReducedBasis P c S) where
     abbrev HS : AreMonicElements P S
     HS = basis_monic c S red
 
-    abbrev Normal : List (Term E) → Type 0
+    abbrev Normal : Polynomial E → Type 0
     Normal a = HasNormal P H S (basis_monic c S red) a
 
     Smaller : List ℕ → Type 0
-    Smaller m = (k : List ℕ) → IsWithin P.order H.order c k → P.order.compare k m ≡ Less → (a : List (Term E)) → IsPoly P.field P.order.places a → InSubalgebra P a → IsLead P.field P.order a k → Normal a
+    Smaller m = (k : List ℕ) → IsWithin P.order H.order c k → P.order.compare k m ≡ Less → (a : Polynomial E) → IsPoly P.field P.order.places a → InSubalgebra P a → IsLead P.field P.order a k → Normal a
 
     -- a member whose monomials are all below m
     rest_normal : (m : List ℕ) → IsWithin P.order H.order c m → Smaller m →
-        (r : List (Term E)) → IsPoly P.field P.order.places r → InSubalgebra P r → ((n : List ℕ) → coefficient P.field r n ≢ P.field.zero → P.order.compare n m ≡ Less) → Normal r
+        (r : Polynomial E) → IsPoly P.field P.order.places r → InSubalgebra P r → ((n : List ℕ) → coefficient P.field r n ≢ P.field.zero → P.order.compare n m ≡ Less) → Normal r
     unfolding Smaller
     rest_normal m hm ih r hp hs below =
         ⊎_elim
@@ -81,7 +81,7 @@ module _ {E : Type 0} (P : Presented E) (H : IsPresentation P) where
         (below l.0 l.1.nonzero) r hp hs l.1)
         (zero_or_lead P.field H.field P.order H.order r hp)
 
-    module _ (m : List ℕ) (hm : IsWithin P.order H.order c m) (ih : Smaller m) (a : List (Term E)) (hp : IsPoly P.field P.order.places a) (hs : InSubalgebra P a) (la : IsLead P.field P.order a m) where
+    module _ (m : List ℕ) (hm : IsWithin P.order H.order c m) (ih : Smaller m) (a : Polynomial E) (hp : IsPoly P.field P.order.places a) (hs : InSubalgebra P a) (la : IsLead P.field P.order a m) where
       -- where m leads a member of the ideal, a multiple of that is taken away
       by_ideal : LeadsIdeal P m → Normal a
       by_ideal l =
@@ -135,13 +135,13 @@ module _ {E : Type 0} (P : Presented E) (H : IsPresentation P) where
       step = ⊎_elim by_ideal by_word (dec m hm.monomial hm.degree)
 
     -- a member whose lead has a degree of at most c is a combination
-    subduced : (m : List ℕ) → IsWithin P.order H.order c m → (a : List (Term E)) → IsPoly P.field P.order.places a → InSubalgebra P a → IsLead P.field P.order a m → Normal a
+    subduced : (m : List ℕ) → IsWithin P.order H.order c m → (a : Polynomial E) → IsPoly P.field P.order.places a → InSubalgebra P a → IsLead P.field P.order a m → Normal a
     unfolding Smaller
     subduced =
-        below_induction P.order H.order c (λ m. (a : List (Term E)) → IsPoly P.field P.order.places a → InSubalgebra P a → IsLead P.field P.order a m → Normal a)
+        below_induction P.order H.order c (λ m. (a : Polynomial E) → IsPoly P.field P.order.places a → InSubalgebra P a → IsLead P.field P.order a m → Normal a)
         (λ m hm ih a hp hs la. step m hm ih a hp hs la)
 
-    pub subduction : (a : List (Term E)) → IsPoly P.field P.order.places a → InSubalgebra P a → ((n : List ℕ) → coefficient P.field a n ≢ P.field.zero → P.order.degree n ≤ c) → IsCombination P S a
+    pub subduction : (a : Polynomial E) → IsPoly P.field P.order.places a → InSubalgebra P a → ((n : List ℕ) → coefficient P.field a n ≢ P.field.zero → P.order.degree n ≤ c) → IsCombination P S a
     subduction a hp hs low = normal_combination P H S HS a (⊎_elim
         (λ z. normal_congruent P H S HS [] a (congruent_same P.field H.field P.order.places P.ideal a [] z) (normal_zero P H S HS))
         (λ l. subduced l.0 (record { monomial = poly_monomial P H a l.0 hp l.1.nonzero; degree = low l.0 l.1.nonzero }) a hp hs l.1)

@@ -1,9 +1,9 @@
 //! The laws at presentations that were worked by hand, where their premises are met.
 ghost use Rattle.std.specs.Prelude.{◌≡◌, ◌≤◌, ◌++◌, map, List, [], ◌∷◌, ℕ};
-ghost use Rattle.monomial_order.specs.declared.Term.{Term};
-ghost use Rattle.poly_core.specs.Poly.{lead, IsLead};
-ghost use Rattle.poly_core.specs.Ideal.{Congruent};
-ghost use Rattle.poly_core.specs.Subalgebra.{IsGenerated, IsReducedBasis};
+ghost use Rattle.monomial_order.specs.declared.terms.Term.{Term};
+ghost use Rattle.polynomials.specs.Polynomial.{Polynomial, lead_monomial, IsLead};
+ghost use Rattle.polynomials.specs.Ideal.{Congruent};
+ghost use Rattle.polynomials.specs.Subalgebra.{IsGenerated, IsReducedBasis};
 ghost use Rattle.subalgebra_laws.specs.Words.{combination_value, IsCombination, IsIrreducibleSum, word_value};
 ghost use Rattle.subalgebra_laws.specs.Samples.{endless, endless_basis, endless_right_side, endless_word, quotient, quotient_basis, square, squares, sum_xy, x_times_y};
 ghost use Rattle.subalgebra_laws.specs.Statements.{LeadsAreExactly, LeadsAreGenerated, LowMembersAreCombinations, MembersAreCombinations, WordsAreDecided, ZerosStandForTheIdeal};
@@ -28,10 +28,10 @@ pub fn endless_to_degree_4()
     ensures basis { IsReducedBasis endless 4 endless_basis }
     ensures members { MembersAreCombinations endless endless_basis 4 }
     ensures leads { LeadsAreGenerated endless endless_basis 4 }
-    ensures products { IsGenerated (map lead endless_basis) (2 ∷ (2 ∷ [])) }
+    ensures products { IsGenerated (map lead_monomial endless_basis) (2 ∷ (2 ∷ [])) }
     ensures sums { IsCombination endless endless_basis (sum_xy ++ x_times_y 1) }
     ensures lead { IsLead endless.field endless.order (combination_value endless endless_basis endless_right_side) (2 ∷ (2 ∷ [])) }
-    ensures right_side { (e : List (Term ℕ)) → IsIrreducibleSum endless endless_basis e →
+    ensures right_side { (e : Polynomial ℕ) → IsIrreducibleSum endless endless_basis e →
         Congruent endless.field endless.order.places endless.ideal (word_value endless endless_basis endless_word) (combination_value endless endless_basis e) →
         e ≡ endless_right_side }
 {

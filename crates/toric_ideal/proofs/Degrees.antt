@@ -3,12 +3,11 @@ use Rattle.std.proofs.Common.{◌≡◌, ℕ, suc, ◌≤◌, refl, sym, ap, sub
 use Rattle.std.specs.Prelude.{Contains, map, Option, Some, None}
 use Rattle.std.proofs.lemmas.List.{map-append}
 use Rattle.std.specs.declared.cmp.Ordering.TheVariants.{Less}
-use Rattle.monomial_order.specs.Monomial.{weighted_degree, Divides, IsMonomial, IsTrimmed}
-use Rattle.monomial_order.specs.Comparing.{divisor_degree, le_or_not, none_below_one, some_exponent, equal_or_not}
-use Rattle.monomial_order.specs.Lists.{contains_left, contains_map, contains_none, contains_right}
-use Rattle.monomial_order.specs.Words.{image_of, order_of, AreLetters, IsMinimalReducible, IsReducible, Letters}
-use Rattle.monomial_order.specs.WordLaws.{degree_image, degree_x, image_x, word_laws}
-use Rattle.monomial_order.specs.ReducibleLaws.{IsMultiple}
+use Rattle.monomial_order.specs.Monomial.{weighted_degree, Divides, IsMonomial, IsTrimmed, IsMultiple}
+use Rattle.monomial_order.specs.laws.Comparing.{divisor_degree, le_or_not, none_below_one, some_exponent, equal_or_not}
+use Rattle.monomial_order.specs.laws.Lists.{contains_left, contains_map, contains_none, contains_right}
+use Rattle.word_laws.specs.Words.{image_of, word_order_of, AreLetters, IsMinimalReducible, IsReducible, Letters}
+use Rattle.word_laws.specs.laws.Words.{degree_image, degree_x, image_x, word_laws}
 use Rattle.toric_ideal.specs.declared.rule.Rule.{Rule}
 use Rattle.toric_ideal.specs.Rising.{Rises}
 use Rattle.toric_ideal.specs.Listing.{AgreeTo, AreRules, IsLeastOrZero}
@@ -21,18 +20,18 @@ module _ (L : Letters) (H : AreLetters L) (zeros : List (List ℕ)) where
   -- at degree 0 there is no rule
   pub rules_none : ((z : List ℕ) → Contains zeros z → IsTrimmed z × (1 ≤ weighted_degree L.degrees z)) → AreRules L zeros 0 []
   rules_none hz = record {
-    rise = tt;
+    increasing = tt;
     minimal = λ r c. absurd (contains_none r c);
     degree = λ r c. absurd (contains_none r c);
     least = λ r c. absurd (contains_none r c);
     all = λ w m d.
-        let none : w ≡ [] = degree_none (order_of L) (word_laws L H) w m.word d in
+        let none : w ≡ [] = degree_none (word_order_of L) (word_laws L H) w m.word d in
         absurd (⊎_elim
         (λ z.
         let zero_one : Divides z.0 [] = subst (λ x. Divides z.0 (image_of L x)) none z.2 in
         let h = hz z.0 z.1 in
         no_divisor L.degrees z.0 h.0 h.1 zero_one)
-        (λ s. none_below_one (order_of L) (word_laws L H) s.0 s.1.word (subst (λ x. (order_of L).compare s.0 x ≡ Less) none s.1.less))
+        (λ s. none_below_one (word_order_of L) (word_laws L H) s.0 s.1.word (subst (λ x. (word_order_of L).compare s.0 x ≡ Less) none s.1.less))
         m.reducible);
   }
     where
@@ -47,15 +46,15 @@ module _ (L : Letters) (H : AreLetters L) (zeros : List (List ℕ)) where
 
   -- the rules of the next degree follow
   pub rules_more : (d : ℕ) (rules next : List Rule) → AreRules L zeros d rules → AreFound L zeros (suc d) (map (λ r. r.word) next) →
-      ((w : List ℕ) → IsMinimalReducible (IsMultiple zeros) L w → (order_of L).degree w ≡ suc d → Contains (map (λ r. r.word) next) w) →
+      ((w : List ℕ) → IsMinimalReducible (IsMultiple zeros) L w → (word_order_of L).degree w ≡ suc d → Contains (map (λ r. r.word) next) w) →
       ((r : Rule) → Contains next r → IsLeastOrZero zeros L (image_of L r.word) r.least) → AreRules L zeros (suc d) (rules ++ next)
   rules_more d rules next R F complete least = record {
-    rise = subst (Rises (order_of L)) (sym (map-append (λ r. r.word) rules next))
-        (rises_append (order_of L) (word_laws L H) (map (λ r. r.word) rules) (map (λ r. r.word) next) R.rise F.rise
+    increasing = subst (Rises (word_order_of L)) (sym (map-append (λ r. r.word) rules next))
+        (rises_append (word_order_of L) (word_laws L H) (map (λ r. r.word) rules) (map (λ r. r.word) next) R.increasing F.increasing
         (λ k m c e.
         let a = contains_mapped (λ (r : Rule). r.word) rules k c in
         let da = R.degree a.0 a.1 in
-        let q : (order_of L).degree a.0.word ≡ (order_of L).degree k = ap (order_of L).degree a.2 in
+        let q : (word_order_of L).degree a.0.word ≡ (word_order_of L).degree k = ap (word_order_of L).degree a.2 in
         let db = F.degree m e in
         (word_laws L H).degree_first k m (omega arith)));
     minimal = λ r c. ⊎_elim (R.minimal r) (λ e. F.minimal r.word (contains_map (λ (r : Rule). r.word) next r e)) (append_cases rules next r c);
@@ -64,24 +63,24 @@ module _ (L : Letters) (H : AreLetters L) (zeros : List (List ℕ)) where
     all = λ w m k. ⊎_elim
         (λ e. let r = R.all w m e in (r.0, contains_left rules next r.0 r.1, r.2))
         (λ e. let r = contains_mapped (λ (r : Rule). r.word) next w (complete w m (let a = e in omega arith)) in (r.0, contains_right rules next r.0 r.1, r.2))
-        (le_or_not ((order_of L).degree w) d);
+        (le_or_not ((word_order_of L).degree w) d);
   }
 
 -- rules to a degree speak of the zeros to that degree alone
 module _ (L : Letters) (H : AreLetters L) (d : ℕ) where
   -- a multiple of a zero of the one list is one of a zero of the other
   multiple_agrees : (old new : List (List ℕ)) → ((z : List ℕ) → Contains old z → IsMonomial (length L.degrees) z) → ((z : List ℕ) → weighted_degree L.degrees z ≤ d → Contains old z → Contains new z) →
-      (w : List ℕ) → (order_of L).degree w ≤ d → IsMultiple old (image_of L w) → IsMultiple new (image_of L w)
+      (w : List ℕ) → (word_order_of L).degree w ≤ d → IsMultiple old (image_of L w) → IsMultiple new (image_of L w)
   multiple_agrees old new hz agree w l m =
       let z = hz m.0 m.1 in
       let i = image_x L H w in
-      let a = divisor_degree (order_of L) (word_laws L H) m.0 (image_of L w) z.trimmed i.trimmed m.2 in
+      let a = divisor_degree (word_order_of L) (word_laws L H) m.0 (image_of L w) z.trimmed i.trimmed m.2 in
       let b = degree_image L H w in
       let c = degree_x L H m.0 z in
       (m.0, agree m.0 (omega arith) m.1, m.2)
 
   reducible_agrees : (old new : List (List ℕ)) → ((z : List ℕ) → Contains old z → IsMonomial (length L.degrees) z) → ((z : List ℕ) → weighted_degree L.degrees z ≤ d → Contains old z → Contains new z) →
-      (w : List ℕ) → (order_of L).degree w ≤ d → IsReducible (IsMultiple old) L w → IsReducible (IsMultiple new) L w
+      (w : List ℕ) → (word_order_of L).degree w ≤ d → IsReducible (IsMultiple old) L w → IsReducible (IsMultiple new) L w
   reducible_agrees old new hz agree w l r = ⊎_elim (λ z. inl (multiple_agrees old new hz agree w l z)) (λ s. inr s) r
 
   module _ (old new : List (List ℕ)) (hold : (z : List ℕ) → Contains old z → IsMonomial (length L.degrees) z) (hnew : (z : List ℕ) → Contains new z → IsMonomial (length L.degrees) z)
@@ -92,27 +91,27 @@ module _ (L : Letters) (H : AreLetters L) (d : ℕ) where
     back : (z : List ℕ) → weighted_degree L.degrees z ≤ d → Contains new z → Contains old z
     back z l c = (agree z l).1 c
 
-    minimal_there : (w : List ℕ) → (order_of L).degree w ≤ d → IsMinimalReducible (IsMultiple old) L w → IsMinimalReducible (IsMultiple new) L w
+    minimal_there : (w : List ℕ) → (word_order_of L).degree w ≤ d → IsMinimalReducible (IsMultiple old) L w → IsMinimalReducible (IsMultiple new) L w
     minimal_there w l m = record {
       word = m.word;
       reducible = reducible_agrees old new hold there w l m.reducible;
-      minimal = λ v hv r dv. let a = divisor_degree (order_of L) (word_laws L H) v w hv.trimmed m.word.trimmed dv in m.minimal v hv (reducible_agrees new old hnew back v (omega arith) r) dv;
+      minimal = λ v hv r dv. let a = divisor_degree (word_order_of L) (word_laws L H) v w hv.trimmed m.word.trimmed dv in m.minimal v hv (reducible_agrees new old hnew back v (omega arith) r) dv;
     }
 
-    minimal_back : (w : List ℕ) → (order_of L).degree w ≤ d → IsMinimalReducible (IsMultiple new) L w → IsMinimalReducible (IsMultiple old) L w
+    minimal_back : (w : List ℕ) → (word_order_of L).degree w ≤ d → IsMinimalReducible (IsMultiple new) L w → IsMinimalReducible (IsMultiple old) L w
     minimal_back w l m = record {
       word = m.word;
       reducible = reducible_agrees new old hnew back w l m.reducible;
-      minimal = λ v hv r dv. let a = divisor_degree (order_of L) (word_laws L H) v w hv.trimmed m.word.trimmed dv in m.minimal v hv (reducible_agrees old new hold there v (omega arith) r) dv;
+      minimal = λ v hv r dv. let a = divisor_degree (word_order_of L) (word_laws L H) v w hv.trimmed m.word.trimmed dv in m.minimal v hv (reducible_agrees old new hold there v (omega arith) r) dv;
     }
 
-    least_there : (w : List ℕ) → (order_of L).degree w ≤ d → (v : Option (List ℕ)) → IsLeastOrZero old L (image_of L w) v → IsLeastOrZero new L (image_of L w) v
+    least_there : (w : List ℕ) → (word_order_of L).degree w ≤ d → (v : Option (List ℕ)) → IsLeastOrZero old L (image_of L w) v → IsLeastOrZero new L (image_of L w) v
     least_there w l None h = multiple_agrees old new hold there w l h
     least_there w l (Some v) h = (λ z. h.0 (multiple_agrees new old hnew back w l z), h.1)
 
     pub rules_agree : (rules : List Rule) → AreRules L old d rules → AreRules L new d rules
     rules_agree rules R = record {
-      rise = R.rise;
+      increasing = R.increasing;
       minimal = λ r c. minimal_there r.word (R.degree r c) (R.minimal r c);
       degree = R.degree;
       least = λ r c. least_there r.word (R.degree r c) r.least (R.least r c);

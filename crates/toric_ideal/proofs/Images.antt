@@ -1,11 +1,11 @@
 -- The image of a word, letter by letter from its end.
 use Rattle.std.proofs.Common.{◌≡◌, ℕ, zero, suc, ◌+◌, ◌<◌, ◌≤◌, sym, ◌∙◌, ap, List, [], ◌∷◌, length, arith}
 use Rattle.monomial_order.specs.Monomial.{exponent, product, variable, Divides, IsMonomial, IsTrimmed}
-use Rattle.monomial_order.specs.MonomialLaws.{product_assoc, product_comm, product_fits, product-one, IsMonomial-product}
-use Rattle.monomial_order.specs.Cofactors.{length-product_right}
-use Rattle.monomial_order.specs.ImageLaws.{monomial_one}
-use Rattle.monomial_order.specs.Words.{image_of, order_of, AreLetters, IsWord, Letters}
-use Rattle.monomial_order.specs.WordLaws.{degree_image, image_times, image_x, word_laws, x_word}
+use Rattle.monomial_order.specs.laws.Monomial.{product_assoc, product_comm, product_fits, product-one, IsMonomial-product}
+use Rattle.monomial_order.specs.laws.Cofactors.{length-product_right}
+use Rattle.word_laws.specs.laws.Images.{monomial_one}
+use Rattle.word_laws.specs.Words.{image_of, word_order_of, AreLetters, IsWord, Letters}
+use Rattle.word_laws.specs.laws.Words.{degree_image, image_times, image_x, word_laws, x_word}
 use Rattle.toric_ideal.proofs.Skipping.{variable_divides}
 
 -- the image of the rest times what is gathered is the image of the word
@@ -34,7 +34,7 @@ module _ (L : Letters) (H : AreLetters L) where
   imaged_end w (a ∷ rest) image l h = absurd (omega arith)
 
   module _ (w rest image next : List ℕ) (i : ℕ) (F : IsImagedSoFar L w rest image) (last : length rest ≡ suc i) (trimmed : IsTrimmed next) (e : product (variable i) next ≡ rest) where
-    pub last_within : i < (order_of L).places
+    pub last_within : i < (word_order_of L).places
     last_within = let l = F.word.within in omega arith
 
     next_word : IsWord L next
@@ -49,16 +49,16 @@ module _ (L : Letters) (H : AreLetters L) where
     pub imaged_next : IsImagedSoFar L w next (product image (image_of L (variable i)))
     imaged_next = record { word = next_word; monomial = IsMonomial-product (length L.degrees) image (image_of L (variable i)) F.monomial (image_x L H (variable i)); whole = next_whole }
 
-    pub rest_falls : (order_of L).degree next < (order_of L).degree rest
+    pub rest_falls : (word_order_of L).degree next < (word_order_of L).degree rest
     rest_falls =
         let d = (word_laws L H).degree_product (variable i) next in
-        let q : (order_of L).degree (product (variable i) next) ≡ (order_of L).degree rest = ap (order_of L).degree e in
+        let q : (word_order_of L).degree (product (variable i) next) ≡ (word_order_of L).degree rest = ap (word_order_of L).degree e in
         let p = (word_laws L H).degree_positive i last_within in
         omega arith
 
-    pub image_fits : (order_of L).degree w ≤ 65535 → (j : ℕ) → exponent image j + exponent (image_of L (variable i)) j ≤ 65535
+    pub image_fits : (word_order_of L).degree w ≤ 65535 → (j : ℕ) → exponent image j + exponent (image_of L (variable i)) j ≤ 65535
     image_fits small =
-        product_fits (order_of L) (word_laws L H) image (image_of L (variable i)) (x_word L H image F.monomial) (x_word L H (image_of L (variable i)) (image_x L H (variable i)))
+        product_fits (word_order_of L) (word_laws L H) image (image_of L (variable i)) (x_word L H image F.monomial) (x_word L H (image_of L (variable i)) (image_x L H (variable i)))
         (let a = (word_laws L H).degree_product (image_of L next) (product image (image_of L (variable i))) in
-        let b : (order_of L).degree (product (image_of L next) (product image (image_of L (variable i)))) ≡ (order_of L).degree (image_of L w) = ap (order_of L).degree next_whole in
+        let b : (word_order_of L).degree (product (image_of L next) (product image (image_of L (variable i)))) ≡ (word_order_of L).degree (image_of L w) = ap (word_order_of L).degree next_whole in
         let c = degree_image L H w in omega arith)

@@ -2,16 +2,16 @@
 use Rattle.std.proofs.Common.{◌≡◌, ◌≢◌, ℕ, suc, ◌+◌, ◌<◌, ◌≤◌, refl, sym, ◌∙◌, ap, subst, List, [], length, arith, get_or, inl, inr, ⊎_elim}
 use Rattle.std.specs.Prelude.{Some, None, ◌↔◌}
 use Rattle.std.specs.declared.cmp.Ordering.TheVariants.{Less}
-use Rattle.monomial_order.specs.Monomial.{exponent, product, variable, Divides, IsMonomial, IsTrimmed}
+use Rattle.monomial_order.specs.Monomial.{exponent, product, variable, Divides, IsMonomial, IsTrimmed, IsMultiple}
 use Rattle.monomial_order.specs.MonomialOrder.{MonomialOrder, IsMonomialOrder}
-use Rattle.monomial_order.specs.MonomialLaws.{exponent_past, product_assoc, product_fits, IsMonomial-product}
-use Rattle.monomial_order.specs.Cofactors.{product_cancel, length-product_right, Divides-product}
-use Rattle.monomial_order.specs.Comparing.{not_below_self, three_ways}
-use Rattle.monomial_order.specs.Lists.{contains_at}
-use Rattle.monomial_order.specs.ImageLaws.{monomial_one}
-use Rattle.monomial_order.specs.Words.{image_of, order_of, AreLetters, IsLeast, IsReducible, IsSmaller, IsSWord, IsWord, Letters}
-use Rattle.monomial_order.specs.WordLaws.{degree_image, degree_x, image_same, image_times, image_x, word_laws, x_word}
-use Rattle.monomial_order.specs.ReducibleLaws.{least_s_word, IsMultiple}
+use Rattle.monomial_order.specs.laws.Monomial.{exponent_past, product_assoc, product_fits, IsMonomial-product}
+use Rattle.monomial_order.specs.laws.Cofactors.{product_cancel, length-product_right, Divides-product}
+use Rattle.monomial_order.specs.laws.Comparing.{not_below_self, three_ways}
+use Rattle.monomial_order.specs.laws.Lists.{contains_at}
+use Rattle.word_laws.specs.laws.Images.{monomial_one}
+use Rattle.word_laws.specs.Words.{image_of, word_order_of, AreLetters, IsLeast, IsReducible, IsSmaller, IsSWord, IsWord, Letters}
+use Rattle.word_laws.specs.laws.Words.{degree_image, degree_x, image_same, image_times, image_x, word_laws, x_word}
+use Rattle.word_laws.specs.laws.Reducible.{least_s_word}
 use Rattle.toric_ideal.specs.declared.alphabet.Alphabet.{Alphabet}
 use Rattle.toric_ideal.specs.Alphabet.{letters_of, IsAlphabet}
 use Rattle.toric_ideal.specs.Finding.{IsFactor, IsLeastFrom, IsLesser, Skips}
@@ -58,12 +58,12 @@ module _ (L : Letters) (H : AreLetters L) where
     least = λ u k s.
         let hu : IsMonomial (length L.degrees) u = record { trimmed = k.word.trimmed; within = skips_all (length L.degrees) (length L.leads) u (subst (λ p. IsMonomial p u) (places_count L) k.word) s } in
         let e : u ≡ m = sym (image_same L H u hu) ∙ (k.image ∙ image_same L H m h) in
-        not_below_self (order_of L) (word_laws L H) m (subst (λ x. (order_of L).compare x m ≡ Less) e k.less);
+        not_below_self (word_order_of L) (word_laws L H) m (subst (λ x. (word_order_of L).compare x m ≡ Less) e k.less);
   }
 
   pub least_start : (i : ℕ) (m v : List ℕ) → IsMonomial (length L.degrees) m → IsLeastFrom L (suc i) m v → IsLeastSoFar L i m [] m v
   least_start i m v h f = record {
-    power_word = monomial_one (order_of L).places;
+    power_word = monomial_one (word_order_of L).places;
     power_skips = λ j l. refl;
     rest_monomial = h;
     power_image = refl;
@@ -71,7 +71,7 @@ module _ (L : Letters) (H : AreLetters L) where
     image = f.image;
     skips = skips_less (length L.degrees) i v f.skips;
     left = λ u k s. ⊎_elim (λ z. absurd (f.least u k z)) (λ t. (t.0, record { word = t.1.monomial; skips = t.1.skips; whole = t.1.whole }))
-        (next_letter (order_of L).places (length L.degrees) i u k.word s);
+        (next_letter (word_order_of L).places (length L.degrees) i u k.word s);
   }
 
   module _ (i : ℕ) (m power rest least next tail : List ℕ) (below : i < length L.leads) (F : IsLeastSoFar L i m power rest least)
@@ -83,7 +83,7 @@ module _ (L : Letters) (H : AreLetters L) where
     s_word = letter_word L (length L.degrees + i) (let p = places_count L in omega arith)
 
     pub power_word_next : IsWord L (product power (variable (length L.degrees + i)))
-    power_word_next = IsMonomial-product (order_of L).places power (variable (length L.degrees + i)) F.power_word s_word
+    power_word_next = IsMonomial-product (word_order_of L).places power (variable (length L.degrees + i)) F.power_word s_word
 
     pub power_image_next : product (image_of L (product power (variable (length L.degrees + i)))) next ≡ m
     power_image_next =
@@ -91,30 +91,30 @@ module _ (L : Letters) (H : AreLetters L) where
         (product_assoc (image_of L power) (get_or L.leads i []) next ∙ (ap (product (image_of L power)) whole ∙ F.power_image))
 
     -- the degrees of the power and of the rest sum to that of m
-    pub power_degree_next : (order_of L).degree (product power (variable (length L.degrees + i))) + (order_of L).degree next ≡ (order_of L).degree m
+    pub power_degree_next : (word_order_of L).degree (product power (variable (length L.degrees + i))) + (word_order_of L).degree next ≡ (word_order_of L).degree m
     power_degree_next =
         let a = degree_image L H (product power (variable (length L.degrees + i))) in
         let b = (word_laws L H).degree_product (image_of L (product power (variable (length L.degrees + i)))) next in
-        let c : (order_of L).degree (product (image_of L (product power (variable (length L.degrees + i)))) next) ≡ (order_of L).degree m = ap (order_of L).degree power_image_next in
+        let c : (word_order_of L).degree (product (image_of L (product power (variable (length L.degrees + i)))) next) ≡ (word_order_of L).degree m = ap (word_order_of L).degree power_image_next in
         omega arith
 
-    pub power_fits : (order_of L).degree m ≤ 65535 → (j : ℕ) → exponent power j + exponent (variable (length L.degrees + i)) j ≤ 65535
-    power_fits small = product_fits (order_of L) (word_laws L H) power (variable (length L.degrees + i)) F.power_word s_word (let d = power_degree_next in omega arith)
+    pub power_fits : (word_order_of L).degree m ≤ 65535 → (j : ℕ) → exponent power j + exponent (variable (length L.degrees + i)) j ≤ 65535
+    power_fits small = product_fits (word_order_of L) (word_laws L H) power (variable (length L.degrees + i)) F.power_word s_word (let d = power_degree_next in omega arith)
 
     module _ (T : IsLeastFrom L (suc i) next tail) where
       pub word_next : IsWord L (product (product power (variable (length L.degrees + i))) tail)
-      word_next = IsMonomial-product (order_of L).places (product power (variable (length L.degrees + i))) tail power_word_next T.word
+      word_next = IsMonomial-product (word_order_of L).places (product power (variable (length L.degrees + i))) tail power_word_next T.word
 
       pub image_next : image_of L (product (product power (variable (length L.degrees + i))) tail) ≡ m
       image_next =
           image_times L H (product power (variable (length L.degrees + i))) tail ∙
           (ap (product (image_of L (product power (variable (length L.degrees + i))))) T.image ∙ power_image_next)
 
-      pub degree_next : (order_of L).degree (product (product power (variable (length L.degrees + i))) tail) ≡ (order_of L).degree m
-      degree_next = sym (degree_image L H (product (product power (variable (length L.degrees + i))) tail)) ∙ ap (order_of L).degree image_next
+      pub degree_next : (word_order_of L).degree (product (product power (variable (length L.degrees + i))) tail) ≡ (word_order_of L).degree m
+      degree_next = sym (degree_image L H (product (product power (variable (length L.degrees + i))) tail)) ∙ ap (word_order_of L).degree image_next
 
-      pub word_fits : (order_of L).degree m ≤ 65535 → (j : ℕ) → exponent (product power (variable (length L.degrees + i))) j + exponent tail j ≤ 65535
-      word_fits small = product_fits (order_of L) (word_laws L H) (product power (variable (length L.degrees + i))) tail power_word_next T.word (let d = degree_next in omega arith)
+      pub word_fits : (word_order_of L).degree m ≤ 65535 → (j : ℕ) → exponent (product power (variable (length L.degrees + i))) j + exponent tail j ≤ 65535
+      word_fits small = product_fits (word_order_of L) (word_laws L H) (product power (variable (length L.degrees + i))) tail power_word_next T.word (let d = degree_next in omega arith)
 
       skips_next : Skips (length L.degrees) i (product (product power (variable (length L.degrees + i))) tail)
       skips_next =
@@ -123,10 +123,10 @@ module _ (L : Letters) (H : AreLetters L) where
           (skips_less (length L.degrees) i tail T.skips)
 
       -- what is less than both is left with one power more
-      left_next : (least2 : List ℕ) → IsLesser (order_of L) least (product (product power (variable (length L.degrees + i))) tail) least2 → image_of L least2 ≡ m →
+      left_next : (least2 : List ℕ) → IsLesser (word_order_of L) least (product (product power (variable (length L.degrees + i))) tail) least2 → image_of L least2 ≡ m →
           (u : List ℕ) → IsSmaller L least2 u → Skips (length L.degrees) i u → (k : List ℕ) × IsLeft L i (product power (variable (length L.degrees + i))) u k
       left_next least2 D e u k z =
-          let O = order_of L in
+          let O = word_order_of L in
           let W = word_laws L H in
           let P2 = product power (variable (length L.degrees + i)) in
           let old = F.left u (record { word = k.word; image = k.image ∙ (e ∙ sym F.image); less = less_through O W u least2 least k.less D.left }) z in
@@ -147,7 +147,7 @@ module _ (L : Letters) (H : AreLetters L) where
           ))
           (next_letter O.places (length L.degrees) i old.0 old.1.word old.1.skips)
 
-      pub least_next : (least2 : List ℕ) → IsLesser (order_of L) least (product (product power (variable (length L.degrees + i))) tail) least2 →
+      pub least_next : (least2 : List ℕ) → IsLesser (word_order_of L) least (product (product power (variable (length L.degrees + i))) tail) least2 →
           IsLeastSoFar L i m (product power (variable (length L.degrees + i))) next least2
       least_next least2 D =
           let C = product (product power (variable (length L.degrees + i))) tail in
@@ -197,11 +197,11 @@ module _ (L : Letters) (H : AreLetters L) where
 -- what is left of the rest once the lead is taken out of it
 pub record IsTakenOut (L : Letters) (rest next : List ℕ) : Type 0 where
   pub monomial : IsMonomial (length L.degrees) next
-  pub small : (order_of L).degree next ≤ 65535
-  pub falls : (order_of L).degree next < (order_of L).degree rest
+  pub small : (word_order_of L).degree next ≤ 65535
+  pub decreasing : (word_order_of L).degree next < (word_order_of L).degree rest
 
 pub taken_out : (a : Alphabet) (h : IsAlphabet a) (i : ℕ) (m power rest least next : List ℕ) → i < length a.leads.items → IsLeastSoFar (letters_of a) i m power rest least →
-    product (get_or a.leads.items i []) next ≡ rest → IsTrimmed next → (order_of (letters_of a)).degree m ≤ 65535 → IsTakenOut (letters_of a) rest next
+    product (get_or a.leads.items i []) next ≡ rest → IsTrimmed next → (word_order_of (letters_of a)).degree m ≤ 65535 → IsTakenOut (letters_of a) rest next
 taken_out a h i m power rest least next below F e t small =
     let L = letters_of a in
     let H = alphabet_letters a h in
@@ -211,28 +211,28 @@ taken_out a h i m power rest least next below F e t small =
     let p = is_lead.positive in
     let dl = degree_x L H lead is_lead.monomial in
     let d = W.degree_product lead next in
-    let q : (order_of L).degree (product lead next) ≡ (order_of L).degree rest = ap (order_of L).degree e in
+    let q : (word_order_of L).degree (product lead next) ≡ (word_order_of L).degree rest = ap (word_order_of L).degree e in
     let r = W.degree_product (image_of L power) rest in
-    let w : (order_of L).degree (product (image_of L power) rest) ≡ (order_of L).degree m = ap (order_of L).degree F.power_image in
+    let w : (word_order_of L).degree (product (image_of L power) rest) ≡ (word_order_of L).degree m = ap (word_order_of L).degree F.power_image in
     record {
       monomial = record { trimmed = t; within = let l = length-product_right lead next in let k : length (product lead next) ≡ length rest = ap length e in let x = F.rest_monomial.within in omega arith };
       small = omega arith;
-      falls = omega arith;
+      decreasing = omega arith;
     }
 
 -- the least word so far has the degree of its image
-pub least_small : (L : Letters) (H : AreLetters L) (i : ℕ) (m power rest least : List ℕ) → IsLeastSoFar L i m power rest least → (order_of L).degree m ≤ 65535 → (order_of L).degree least ≤ 65535
-least_small L H i m power rest least F small = let d = degree_image L H least in let e : (order_of L).degree (image_of L least) ≡ (order_of L).degree m = ap (order_of L).degree F.image in omega arith
+pub least_small : (L : Letters) (H : AreLetters L) (i : ℕ) (m power rest least : List ℕ) → IsLeastSoFar L i m power rest least → (word_order_of L).degree m ≤ 65535 → (word_order_of L).degree least ≤ 65535
+least_small L H i m power rest least F small = let d = degree_image L H least in let e : (word_order_of L).degree (image_of L least) ≡ (word_order_of L).degree m = ap (word_order_of L).degree F.image in omega arith
 
 -- a word whose image is no multiple of a zero is reducible exactly where the least word is less
 pub less_reducible : (L : Letters) (H : AreLetters L) (zeros : List (List ℕ)) (w least : List ℕ) → IsWord L w → IsLeastFrom L 0 (image_of L w) least → ¬ IsMultiple zeros (image_of L w) →
-    ((order_of L).compare least w ≡ Less) ↔ IsReducible (IsMultiple zeros) L w
+    ((word_order_of L).compare least w ≡ Less) ↔ IsReducible (IsMultiple zeros) L w
 less_reducible L H zeros w least h f n = (
   λ e. inr (least, record { word = f.word; image = f.image; less = e }),
   λ r. ⊎_elim (λ z. absurd (n z))
       (λ s. ⊎_elim (λ e. e)
       (λ b. ⊎_elim
-      (λ q. absurd ((least_of_all L H (image_of L w) least f).least s.0 (record { word = s.1.word; image = s.1.image ∙ sym f.image; less = subst (λ x. (order_of L).compare s.0 x ≡ Less) (sym q) s.1.less })))
+      (λ q. absurd ((least_of_all L H (image_of L w) least f).least s.0 (record { word = s.1.word; image = s.1.image ∙ sym f.image; less = subst (λ x. (word_order_of L).compare s.0 x ≡ Less) (sym q) s.1.less })))
       (λ a. absurd ((least_of_all L H (image_of L w) least f).least w (record { word = h; image = sym f.image; less = a }))) b)
-      (three_ways (order_of L) (word_laws L H) least w)) r,
+      (three_ways (word_order_of L) (word_laws L H) least w)) r,
 )

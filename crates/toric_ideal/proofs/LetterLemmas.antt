@@ -2,14 +2,14 @@
 use Rattle.std.proofs.Common.{◌≡◌, ℕ, zero, suc, ◌+◌, ◌<◌, ◌≤◌, refl, sym, ◌∙◌, ap, subst, List, [], ◌∷◌, ◌++◌, length, true, length-append, arith, get_or, ⊎_elim}
 use Rattle.std.specs.Prelude.{map, Contains}
 use Rattle.monomial_order.specs.Monomial.{product, variable, weighted_degree}
-use Rattle.monomial_order.specs.MonomialLaws.{product-one}
+use Rattle.monomial_order.specs.laws.Monomial.{product-one}
 use Rattle.monomial_order.specs.Ranges.{all_between}
-use Rattle.monomial_order.specs.OrderLaws.{between_first, between_rest, word_small}
+use Rattle.monomial_order.specs.laws.Orders.{between_first, between_rest, word_small}
 use Rattle.monomial_order.specs.Orders.{word_order}
-use Rattle.monomial_order.specs.Lists.{contains_cases, contains_none}
-use Rattle.monomial_order.specs.Words.{image, image_of, lead_degrees, order_of, variables, AreLetters, IsWord, Letters}
-use Rattle.monomial_order.specs.ImageLaws.{length-variables, variable_monomial}
-use Rattle.monomial_order.specs.WordLaws.{image_same}
+use Rattle.monomial_order.specs.laws.Lists.{contains_cases, contains_none}
+use Rattle.word_laws.specs.Words.{image, image_of, lead_degrees, word_order_of, variables, AreLetters, IsWord, Letters}
+use Rattle.word_laws.specs.laws.Images.{length-variables, variable_monomial}
+use Rattle.word_laws.specs.laws.Words.{image_same}
 use Rattle.toric_ideal.specs.Leads.{letters, AreLeads}
 use Rattle.toric_ideal.specs.Alphabet.{letters_of, IsAlphabet}
 use Rattle.toric_ideal.specs.declared.alphabet.Alphabet.{Alphabet}
@@ -34,14 +34,14 @@ pub alphabet_letters : (a : Alphabet) → IsAlphabet a → AreLetters (letters_o
 alphabet_letters a h = leads_letters a.order.x_degrees.items a.leads.items a.order.x_in_range h.are_leads
 
 -- the order that is kept is that of the words
-pub alphabet_order : (a : Alphabet) → IsAlphabet a → word_order a.order.x_degrees.items a.order.s_degrees.items ≡ order_of (letters_of a)
+pub alphabet_order : (a : Alphabet) → IsAlphabet a → word_order a.order.x_degrees.items a.order.s_degrees.items ≡ word_order_of (letters_of a)
 alphabet_order a h = ap (word_order a.order.x_degrees.items) h.lead_degrees
 
 pub length-map : {A B : Type 0} (f : A → B) (xs : List A) → length (map f xs) ≡ length xs
 length-map f [] = refl
 length-map f (x ∷ xs) = ap suc (length-map f xs)
 
-pub places_count : (L : Letters) → (order_of L).places ≡ length L.degrees + length L.leads
+pub places_count : (L : Letters) → (word_order_of L).places ≡ length L.degrees + length L.leads
 places_count L = length-append L.degrees (lead_degrees L) ∙ ap (λ x. length L.degrees + x) (length-map (weighted_degree L.degrees) L.leads)
 
 image_variable : (i : ℕ) (ms : List (List ℕ)) → image (variable i) ms ≡ get_or ms i []
@@ -63,9 +63,9 @@ image_lead L j =
 pub image_x : (L : Letters) → AreLetters L → (i : ℕ) → i < length L.degrees → image_of L (variable i) ≡ variable i
 image_x L H i l = image_same L H (variable i) (variable_monomial (length L.degrees) i l)
 
-pub letter_word : (L : Letters) (i : ℕ) → i < (order_of L).places → IsWord L (variable i)
-letter_word L i l = variable_monomial (order_of L).places i l
+pub letter_word : (L : Letters) (i : ℕ) → i < (word_order_of L).places → IsWord L (variable i)
+letter_word L i l = variable_monomial (word_order_of L).places i l
 
-pub letter_small : (a : Alphabet) → IsAlphabet a → (i : ℕ) → i < (order_of (letters_of a)).places → (order_of (letters_of a)).degree (variable i) ≤ 30000
+pub letter_small : (a : Alphabet) → IsAlphabet a → (i : ℕ) → i < (word_order_of (letters_of a)).places → (word_order_of (letters_of a)).degree (variable i) ≤ 30000
 letter_small a h i l =
     subst (λ O. i < O.places → O.degree (variable i) ≤ 30000) (alphabet_order a h) (λ k. word_small a.order.x_degrees.items a.order.s_degrees.items a.order.x_in_range a.order.s_in_range i k) l

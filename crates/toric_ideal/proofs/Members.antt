@@ -1,7 +1,7 @@
 -- Members of the parts of lists.
 use Rattle.std.proofs.Common.{◌≡◌, ℕ, zero, suc, ◌<◌, ◌≤◌, refl, subst, List, [], ◌∷◌, ◌++◌, length, take, drop, get_or, arith, ◌⊎◌, inl, inr, ⊎_elim}
 use Rattle.std.specs.Prelude.{Contains, map}
-use Rattle.monomial_order.specs.Lists.{contains_cases, contains_here, contains_none, contains_there}
+use Rattle.monomial_order.specs.laws.Lists.{contains_cases, contains_here, contains_none, contains_there}
 
 -- a member of the first i + 1 is that at i, or one of the first i
 pub take_next : {A : Type 0} (xs : List A) (i : ℕ) (d : A) → i < length xs → (z : A) → Contains (take (suc i) xs) z → (get_or xs i d ≡ z) ⊎ Contains (take i xs) z

@@ -7,11 +7,11 @@ use Rattle.std.proofs.lemmas.List.Sums.{sum_by-cons}
 use Rattle.monomial_order.specs.Monomial.{exponent, variable, weighted_degree, IsMonomial, IsTrimmed}
 use Rattle.monomial_order.specs.MonomialOrder.{MonomialOrder, IsMonomialOrder}
 use Rattle.monomial_order.specs.Ranges.{all_between}
-use Rattle.monomial_order.specs.ImageLaws.{degree_weighted}
-use Rattle.monomial_order.specs.Comparing.{le_or_not}
-use Rattle.monomial_order.specs.Lists.{contains_cases, contains_none}
-use Rattle.monomial_order.specs.Words.{image_of, order_of, variables, AreLetters, IsSWord, Letters}
-use Rattle.monomial_order.specs.WordLaws.{degree_x, word_laws, x_word}
+use Rattle.word_laws.specs.laws.Images.{degree_weighted}
+use Rattle.monomial_order.specs.laws.Comparing.{le_or_not}
+use Rattle.monomial_order.specs.laws.Lists.{contains_cases, contains_none}
+use Rattle.word_laws.specs.Words.{image_of, word_order_of, variables, AreLetters, IsSWord, Letters}
+use Rattle.word_laws.specs.laws.Words.{degree_x, word_laws, x_word}
 use Rattle.toric_ideal.specs.declared.table.Table.{Table}
 use Rattle.toric_ideal.specs.Leads.{letters, AreLeads, IsLead}
 use Rattle.toric_ideal.specs.Alphabet.{letters_of, IsAlphabet}
@@ -139,7 +139,7 @@ new_lead t m h k n =
       positive = ⊎_elim
           (λ (z : weighted_degree t.alphabet.order.x_degrees.items m ≤ 0).
           let e = degree_x L H m n.monomial in
-          let none : m ≡ [] = degree_none (order_of L) (word_laws L H) m (x_word L H m n.monomial) (omega arith) in
+          let none : m ≡ [] = degree_none (word_order_of L) (word_laws L H) m (x_word L H m n.monomial) (omega arith) in
           absurd (n.fresh [] (record { trimmed = tt; within = omega arith }, sum_none (length L.degrees) (length L.degrees) [] (omega arith) (λ j l. refl)) (sym none)))
           (λ p. let q = p in omega arith) (le_or_not (weighted_degree t.alphabet.order.x_degrees.items m) 0);
       small = omega arith;

@@ -3,8 +3,8 @@ use Rattle.std.proofs.Common.{◌≡◌, ◌≢◌, ℕ, zero, suc, sym, subst, 
 use Rattle.std.specs.Prelude.{Contains, AllPairs}
 use Rattle.std.specs.declared.cmp.Ordering.TheVariants.{Less}
 use Rattle.monomial_order.specs.MonomialOrder.{MonomialOrder, IsMonomialOrder}
-use Rattle.monomial_order.specs.Comparing.{not_below_self}
-use Rattle.monomial_order.specs.Lists.{contains_at, contains_here, contains_there}
+use Rattle.monomial_order.specs.laws.Comparing.{not_below_self}
+use Rattle.monomial_order.specs.laws.Lists.{contains_at, contains_here, contains_there}
 use Rattle.toric_ideal.specs.Rising.{Rises}
 use Rattle.toric_ideal.proofs.Members.{append_cases, contains_take}
 

@@ -4,8 +4,8 @@ use Rattle.std.specs.Prelude.{Contains, AllPairs}
 use Rattle.std.proofs.lemmas.List.{take-append-drop}
 use Rattle.std.specs.declared.cmp.Ordering.TheVariants.{Less}
 use Rattle.monomial_order.specs.MonomialOrder.{MonomialOrder, IsMonomialOrder}
-use Rattle.monomial_order.specs.Comparing.{three_ways}
-use Rattle.monomial_order.specs.Lists.{contains_at, contains_cases, contains_here, contains_left, contains_none, contains_right, contains_there}
+use Rattle.monomial_order.specs.laws.Comparing.{three_ways}
+use Rattle.monomial_order.specs.laws.Lists.{contains_at, contains_cases, contains_here, contains_left, contains_none, contains_right, contains_there}
 use Rattle.toric_ideal.specs.Rising.{IsPlace, IsPut, IsSorted, Rises}
 use Rattle.toric_ideal.proofs.Members.{append_cases, contains_drop, contains_parts, contains_take, drop_next, drop_none, take_at, take_index, take_more, take_next, take_whole}
 

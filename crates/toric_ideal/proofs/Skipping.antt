@@ -1,10 +1,10 @@
 -- Words without some letters.
 use Rattle.std.proofs.Common.{◌≡◌, ◌≢◌, ℕ, zero, suc, ◌+◌, ◌-◌, ◌<◌, ◌≤◌, refl, sym, ap, subst, List, [], ◌∷◌, length, arith, ◌⊎◌, inl, inr, ⊎_elim}
 use Rattle.monomial_order.specs.Monomial.{exponent, product, variable, Divides, IsMonomial, IsTrimmed}
-use Rattle.monomial_order.specs.MonomialLaws.{exponent-product}
-use Rattle.monomial_order.specs.Cofactors.{cofactor, length-product_right}
-use Rattle.monomial_order.specs.Comparing.{le_or_not}
-use Rattle.monomial_order.specs.ImageLaws.{variable_trimmed}
+use Rattle.monomial_order.specs.laws.Monomial.{exponent-product}
+use Rattle.monomial_order.specs.laws.Cofactors.{cofactor, length-product_right}
+use Rattle.monomial_order.specs.laws.Comparing.{le_or_not}
+use Rattle.word_laws.specs.laws.Images.{variable_trimmed}
 use Rattle.toric_ideal.specs.Finding.{Skips}
 
 pub variable_here : (i : ℕ) → exponent (variable i) i ≡ 1

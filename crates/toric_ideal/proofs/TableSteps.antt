@@ -2,8 +2,8 @@
 use Rattle.std.proofs.Common.{◌≡◌, ℕ, zero, suc, ◌<◌, ◌≤◌, refl, sym, ◌∙◌, ap, subst, List, [], ◌∷◌, ◌++◌, length, take, get_or, arith, ⊎_elim}
 use Rattle.std.specs.Prelude.{Contains, map}
 use Rattle.std.proofs.lemmas.List.{map-append}
-use Rattle.monomial_order.specs.Lists.{contains_cases, contains_none}
-use Rattle.monomial_order.specs.Words.{image_of}
+use Rattle.monomial_order.specs.laws.Lists.{contains_cases, contains_none}
+use Rattle.word_laws.specs.Words.{image_of}
 use Rattle.toric_ideal.specs.declared.rule.Rule.{Rule}
 use Rattle.toric_ideal.specs.declared.table.Table.{Table}
 use Rattle.toric_ideal.specs.Alphabet.{letters_of, IsAlphabet}

@@ -4,10 +4,10 @@ use Rattle.std.specs.Prelude.{map, All, IfOk, Result, Ok, Err}
 use Rattle.std.specs.declared.cmp.Ordering.{Ordering}
 use Rattle.std.proofs.lemmas.List.Kept.{AllPairs-cons}
 use Rattle.monomial_order.specs.Monomial.{weighted_degree, Divides}
-use Rattle.monomial_order.specs.Lists.{contains_cases}
-use Rattle.monomial_order.specs.Words.{variables}
+use Rattle.monomial_order.specs.laws.Lists.{contains_cases}
+use Rattle.word_laws.specs.Words.{variables}
 use Rattle.monomial_order.specs.Orders.{weight_order}
-use Rattle.monomial_order.specs.ImageLaws.{variables_degrees}
+use Rattle.word_laws.specs.laws.Images.{variables_degrees}
 use Rattle.toric_ideal.specs.Listing.{AreZeros, Fits, IsZero}
 
 pub no_from : {P : Type 0} (b : Bool) → (P → b ≡ true) → b ≡ false → P → ⊥

@@ -1,7 +1,7 @@
 -- The letters of an alphabet.
 use Rattle.std.specs.Prelude.{◌≡◌, map}
 use Rattle.monomial_order.specs.Monomial.{weighted_degree}
-use Rattle.monomial_order.specs.Words.{Letters}
+use Rattle.word_laws.specs.Words.{Letters}
 use Rattle.toric_ideal.specs.Leads.{letters, AreLeads}
 use Rattle.toric_ideal.specs.declared.alphabet.Alphabet.{Alphabet}
 

@@ -2,9 +2,8 @@
 use Rattle.std.specs.Prelude.{◌≡◌, ◌≢◌, ◌⊎◌, ℕ, ◌+◌, ◌<◌, List, length, Contains, Option, Some, None}
 use Rattle.std.specs.declared.cmp.Ordering.TheVariants.{Less}
 use Rattle.monomial_order.specs.MonomialOrder.{MonomialOrder}
-use Rattle.monomial_order.specs.Monomial.{exponent, product}
-use Rattle.monomial_order.specs.Words.{Letters, order_of, image_of, IsWord, IsSWord, IsSmaller, IsLeast, IsMinimalReducible}
-use Rattle.monomial_order.specs.ReducibleLaws.{IsMultiple}
+use Rattle.monomial_order.specs.Monomial.{exponent, product, IsMultiple}
+use Rattle.word_laws.specs.Words.{Letters, word_order_of, image_of, IsWord, IsSWord, IsSmaller, IsLeast, IsMinimalReducible}
 use Rattle.toric_ideal.specs.Rising.{Rises}
 
 -- none of the i letters from the place n on stands in the word
@@ -20,13 +19,13 @@ pub record IsLeastFrom (L : Letters) (i : ℕ) (m v : List ℕ) : Type 0 where
 
 -- minimal reducible words of degree d, rising
 pub record AreFound (L : Letters) (zeros : List (List ℕ)) (d : ℕ) (ws : List (List ℕ)) : Type 0 where
-  pub rise : Rises (order_of L) ws
+  pub increasing : Rises (word_order_of L) ws
   pub minimal : (w : List ℕ) → Contains ws w → IsMinimalReducible (IsMultiple zeros) L w
-  pub degree : (w : List ℕ) → Contains ws w → (order_of L).degree w ≡ d
+  pub degree : (w : List ℕ) → Contains ws w → (word_order_of L).degree w ≡ d
 
 -- The minimal reducible words are among ws that are w times a word of degree e without the letters of the first i places.
 abbrev pub HasAll : Letters → List (List ℕ) → ℕ → List ℕ → ℕ → List (List ℕ) → Type 0
-HasAll L zeros i w e ws = (u : List ℕ) → IsWord L u → Skips 0 i u → (order_of L).degree u ≡ e →
+HasAll L zeros i w e ws = (u : List ℕ) → IsWord L u → Skips 0 i u → (word_order_of L).degree u ≡ e →
     IsMinimalReducible (IsMultiple zeros) L (product w u) → Contains ws (product w u)
 
 -- the one of v and w that is less, and v where none is

@@ -1,7 +1,7 @@
 -- Leads that letters of words stand for.
 use Rattle.std.specs.Prelude.{ℕ, ◌≤◌, List, length, Contains}
 use Rattle.monomial_order.specs.Monomial.{IsMonomial, weighted_degree}
-use Rattle.monomial_order.specs.Words.{Letters}
+use Rattle.word_laws.specs.Words.{Letters}
 
 -- the letters x_1, .., x_n of these degrees and s_1, .., s_r for these leads
 abbrev pub letters : List ℕ → List (List ℕ) → Letters

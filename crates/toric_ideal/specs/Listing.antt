@@ -1,9 +1,8 @@
 -- Words to a degree: the least words, and the rules that are the minimal reducible words.
 use Rattle.std.specs.Prelude.{◌≡◌, ◌≢◌, ℕ, ◌≤◌, ◌<◌, ◌↔◌, List, ◌++◌, length, map, Contains, AllPairs, Option, Some, None}
-use Rattle.monomial_order.specs.Monomial.{IsMonomial, Divides, weighted_degree}
+use Rattle.monomial_order.specs.Monomial.{IsMonomial, Divides, weighted_degree, IsMultiple}
 use Rattle.monomial_order.specs.MonomialOrder.{MonomialOrder}
-use Rattle.monomial_order.specs.Words.{Letters, AreLetters, order_of, image_of, variables, IsLeast, IsMinimalReducible, IsSWord}
-use Rattle.monomial_order.specs.ReducibleLaws.{IsMultiple}
+use Rattle.word_laws.specs.Words.{Letters, AreLetters, word_order_of, image_of, variables, IsLeast, IsMinimalReducible, IsSWord}
 use Rattle.toric_ideal.specs.declared.rule.Rule.{Rule}
 use Rattle.toric_ideal.specs.Leads.{AreLeads}
 use Rattle.toric_ideal.specs.Rising.{Rises}
@@ -15,11 +14,11 @@ IsLeastOrZero zeros L m (Some v) = (¬ IsMultiple zeros m) × IsLeast L m v
 
 -- The rules are the minimal reducible words of degree at most d, rising, each with the least word of its image.
 pub record AreRules (L : Letters) (zeros : List (List ℕ)) (d : ℕ) (rules : List Rule) : Type 0 where
-  pub rise : Rises (order_of L) (map (λ r. r.word) rules)
+  pub increasing : Rises (word_order_of L) (map (λ r. r.word) rules)
   pub minimal : (r : Rule) → Contains rules r → IsMinimalReducible (IsMultiple zeros) L r.word
-  pub degree : (r : Rule) → Contains rules r → (order_of L).degree r.word ≤ d
+  pub degree : (r : Rule) → Contains rules r → (word_order_of L).degree r.word ≤ d
   pub least : (r : Rule) → Contains rules r → IsLeastOrZero zeros L (image_of L r.word) r.least
-  pub all : (w : List ℕ) → IsMinimalReducible (IsMultiple zeros) L w → (order_of L).degree w ≤ d → (r : Rule) × Contains rules r × (r.word ≡ w)
+  pub all : (w : List ℕ) → IsMinimalReducible (IsMultiple zeros) L w → (word_order_of L).degree w ≤ d → (r : Rule) × Contains rules r × (r.word ≡ w)
 
 -- a monomial in the x of a degree from 1 to d
 pub record IsZero (degrees : List ℕ) (d : ℕ) (z : List ℕ) : Type 0 where

@@ -1,14 +1,13 @@
 -- Tables, and what is found for their next degree.
 use Rattle.std.specs.Prelude.{◌≡◌, ℕ, suc, ◌≤◌, List, length, map, take, drop, Contains}
-use Rattle.monomial_order.specs.Monomial.{Divides}
-use Rattle.monomial_order.specs.Words.{Letters, order_of, image_of, IsWord, IsMinimalReducible}
+use Rattle.monomial_order.specs.Monomial.{Divides, IsMultiple}
+use Rattle.word_laws.specs.Words.{Letters, word_order_of, image_of, IsWord, IsMinimalReducible}
 use Rattle.monomial_order.specs.MonomialOrder.{MonomialOrder}
 use Rattle.toric_ideal.specs.declared.table.Table.{Table}
 use Rattle.toric_ideal.specs.declared.imaged.Imaged.{Imaged}
 use Rattle.toric_ideal.specs.declared.rule.Rule.{Rule}
 use Rattle.toric_ideal.specs.Leads.{letters}
 use Rattle.toric_ideal.specs.Alphabet.{letters_of, IsAlphabet}
-use Rattle.monomial_order.specs.ReducibleLaws.{IsMultiple}
 use Rattle.toric_ideal.specs.Listing.{AreParted, AreRules, IsKept, IsLeastOrZero, IsSettled, Listing}
 use Rattle.toric_ideal.specs.Finding.{AreFound, HasAll}
 
@@ -46,7 +45,7 @@ pub record Finds (t : Table) (i : ℕ) (w : List ℕ) (e : ℕ) (old new : List 
 -- all minimal reducible words of the next degree are there
 abbrev pub IsComplete : Table → List (List ℕ) → Type 0
 IsComplete t ws = (w : List ℕ) → IsMinimalReducible (IsMultiple t.zeros.items) (letters_of t.alphabet) w →
-    (order_of (letters_of t.alphabet)).degree w ≡ suc t.degree → Contains ws w
+    (word_order_of (letters_of t.alphabet)).degree w ≡ suc t.degree → Contains ws w
 
 -- the tables are of the same letters and zeros
 pub record IsSameBut (old new : Table) : Type 0 where

@@ -1,6 +1,6 @@
 //! Minimal reducible words of the next degree.
 ghost use Rattle.std.specs.Prelude.{◌≡◌, ◌≤◌, ◌+◌, ◌↔◌, suc, IfOk, OnOk, IsTrue};
-ghost use Rattle.monomial_order.specs.Words.{order_of};
+ghost use Rattle.word_laws.specs.Words.{word_order_of};
 ghost use Rattle.toric_ideal.specs.Alphabet.{letters_of};
 ghost use Rattle.toric_ideal.specs.Tables.{AreNext, CanGrow, Finds, HasDivisor, IsComplete, IsImaged};
 
@@ -28,7 +28,7 @@ impl Table {
     fn find_word(&self, alloc: Global, w: &Imaged, found: &mut Vec<Monomial>) -> Result<(), Memory>
         requires table { CanGrow self.now }
         requires word { IsImaged (letters_of self.now.alphabet) w.now }
-        requires degree { (order_of (letters_of self.now.alphabet)).degree w.now.word ≡ suc self.now.degree }
+        requires degree { (word_order_of (letters_of self.now.alphabet)).degree w.now.word ≡ suc self.now.degree }
         requires found { AreNext self.now found.old.items }
         ensures { OnOk result (Finds self.now 0 w.now.word 0 found.old.items found.new.items) }
     {
@@ -55,8 +55,8 @@ impl Table {
     ) -> Result<(), Memory>
         requires table { CanGrow self.now }
         requires word { IsImaged (letters_of self.now.alphabet) w.now }
-        requires degree { (order_of (letters_of self.now.alphabet)).degree w.now.word + rest ≡ suc self.now.degree }
-        requires place { place ≤ (order_of (letters_of self.now.alphabet)).places }
+        requires degree { (word_order_of (letters_of self.now.alphabet)).degree w.now.word + rest ≡ suc self.now.degree }
+        requires place { place ≤ (word_order_of (letters_of self.now.alphabet)).places }
         requires found { AreNext self.now found.old.items }
         ensures { OnOk result (Finds self.now place w.now.word rest found.old.items found.new.items) }
     {

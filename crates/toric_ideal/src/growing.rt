@@ -1,6 +1,6 @@
 //! Tables of a greater degree.
 ghost use Rattle.std.specs.Prelude.{◌≡◌, ◌≤◌, ◌<◌, suc, IfOk, OnOk};
-ghost use Rattle.monomial_order.specs.Words.{order_of, IsWord};
+ghost use Rattle.word_laws.specs.Words.{word_order_of, IsWord};
 ghost use Rattle.toric_ideal.specs.Alphabet.{letters_of, IsAlphabet};
 ghost use Rattle.toric_ideal.specs.Listing.{AreRules};
 ghost use Rattle.toric_ideal.specs.Tables.{AreNextRules, CanGrow, IsGrown, IsListed, IsRuleOf, IsSameBut};
@@ -50,7 +50,7 @@ impl Table {
     fn rule(&self, alloc: Global, word: &Monomial) -> Result<Rule, Memory>
         requires alphabet { IsAlphabet self.now.alphabet }
         requires word { IsWord (letters_of self.now.alphabet) word.now }
-        requires small { (order_of (letters_of self.now.alphabet)).degree word.now ≤ 65535 }
+        requires small { (word_order_of (letters_of self.now.alphabet)).degree word.now ≤ 65535 }
         ensures { IfOk result (IsRuleOf self.now word.now) }
     {
         let least = self

@@ -1,8 +1,7 @@
 //! Least words.
 ghost use Rattle.std.specs.Prelude.{◌≡◌, ◌≤◌, ◌↔◌, length, true, false, IfOk, IsTrue};
-ghost use Rattle.monomial_order.specs.Monomial.{IsMonomial};
-ghost use Rattle.monomial_order.specs.Words.{image_of, order_of, IsReducible, IsSWord, IsWord};
-ghost use Rattle.monomial_order.specs.ReducibleLaws.{IsMultiple};
+ghost use Rattle.monomial_order.specs.Monomial.{IsMonomial, IsMultiple};
+ghost use Rattle.word_laws.specs.Words.{image_of, word_order_of, IsReducible, IsSWord, IsWord};
 ghost use Rattle.toric_ideal.specs.Alphabet.{letters_of, IsAlphabet};
 ghost use Rattle.toric_ideal.specs.Finding.{IsFactor, IsLeastFrom, IsLesser};
 ghost use Rattle.toric_ideal.specs.Listing.{IsLeastOrZero};
@@ -22,7 +21,7 @@ impl Alphabet {
     ) -> Result<Monomial, Memory>
         requires alphabet { IsAlphabet self.now }
         requires monomial { IsMonomial (length (letters_of self.now).degrees) m.now }
-        requires small { (order_of (letters_of self.now)).degree m.now ≤ 65535 }
+        requires small { (word_order_of (letters_of self.now)).degree m.now ≤ 65535 }
         requires within { i ≤ length (letters_of self.now).leads }
         ensures { IfOk result (IsLeastFrom (letters_of self.now) i m.now) }
     {
@@ -48,9 +47,9 @@ impl Alphabet {
         requires alphabet { IsAlphabet self.now }
         requires left { IsWord (letters_of self.now) v }
         requires right { IsWord (letters_of self.now) w }
-        requires left_small { (order_of (letters_of self.now)).degree v ≤ 65535 }
-        requires right_small { (order_of (letters_of self.now)).degree w ≤ 65535 }
-        ensures { IsLesser (order_of (letters_of self.now)) v w result }
+        requires left_small { (word_order_of (letters_of self.now)).degree v ≤ 65535 }
+        requires right_small { (word_order_of (letters_of self.now)).degree w ≤ 65535 }
+        ensures { IsLesser (word_order_of (letters_of self.now)) v w result }
     {
         if self.is_less(&w, &v) { w } else { v }
     }
@@ -64,7 +63,7 @@ impl Alphabet {
     ) -> Result<Option<Monomial>, Memory>
         requires alphabet { IsAlphabet self.now }
         requires word { IsWord (letters_of self.now) w.now }
-        requires small { (order_of (letters_of self.now)).degree w.now ≤ 65535 }
+        requires small { (word_order_of (letters_of self.now)).degree w.now ≤ 65535 }
         ensures { IfOk result (IsLeastOrZero zeros.now (letters_of self.now) (image_of (letters_of self.now) w.now)) }
     {
         let image = self.image(alloc, w)?;
@@ -78,7 +77,7 @@ impl Alphabet {
     pub(crate) fn factor(&self, alloc: Global, m: &Monomial) -> Result<Option<Monomial>, Memory>
         requires alphabet { IsAlphabet self.now }
         requires monomial { IsMonomial (length (letters_of self.now).degrees) m.now }
-        requires small { (order_of (letters_of self.now)).degree m.now ≤ 65535 }
+        requires small { (word_order_of (letters_of self.now)).degree m.now ≤ 65535 }
         ensures { IfOk result (IsFactor (letters_of self.now) m.now) }
     {
         let least = self.least_from(alloc, m, 0)?;
@@ -113,7 +112,7 @@ impl Alphabet {
     ) -> Result<bool, Memory>
         requires alphabet { IsAlphabet self.now }
         requires word { IsWord (letters_of self.now) w.now }
-        requires small { (order_of (letters_of self.now)).degree w.now ≤ 65535 }
+        requires small { (word_order_of (letters_of self.now)).degree w.now ≤ 65535 }
         requires image { image.now ≡ image_of (letters_of self.now) w.now }
         ensures { IfOk result (λ b. IsTrue b ↔ IsReducible (IsMultiple zeros.now) (letters_of self.now) w.now) }
     {

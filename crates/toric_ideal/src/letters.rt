@@ -1,9 +1,8 @@
 //! Single letters, images and comparisons of words.
 ghost use Rattle.std.specs.Prelude.{◌≡◌, ◌≤◌, ◌<◌, ◌+◌, ◌^◌, ◌↔◌, length, IfOk, IsTrue, Contains};
 ghost use Rattle.std.specs.declared.cmp.Ordering.TheVariants.{Less};
-ghost use Rattle.monomial_order.specs.Monomial.{exponent, product, variable, Divides, IsTrimmed};
-ghost use Rattle.monomial_order.specs.Words.{order_of, image_of, IsWord};
-ghost use Rattle.monomial_order.specs.ReducibleLaws.{IsMultiple};
+ghost use Rattle.monomial_order.specs.Monomial.{exponent, product, variable, Divides, IsTrimmed, IsMultiple};
+ghost use Rattle.word_laws.specs.Words.{word_order_of, image_of, IsWord};
 ghost use Rattle.toric_ideal.specs.Alphabet.{letters_of, IsAlphabet};
 
 use crate::alphabet::Alphabet;
@@ -49,7 +48,7 @@ impl Alphabet {
     /// How many letters there are.
     pub(crate) fn places(&self) -> usize
         requires { IsAlphabet self.now }
-        ensures { result ≡ (order_of (letters_of self.now)).places }
+        ensures { result ≡ (word_order_of (letters_of self.now)).places }
     {
         self.order.places()
     }
@@ -57,8 +56,8 @@ impl Alphabet {
     pub(crate) fn degree(&self, w: &Monomial) -> u32
         requires alphabet { IsAlphabet self.now }
         requires word { IsWord (letters_of self.now) w.now }
-        requires small { (order_of (letters_of self.now)).degree w.now ≤ 65535 }
-        ensures { result ≡ (order_of (letters_of self.now)).degree w.now }
+        requires small { (word_order_of (letters_of self.now)).degree w.now ≤ 65535 }
+        ensures { result ≡ (word_order_of (letters_of self.now)).degree w.now }
     {
         self.order.degree(w)
     }
@@ -67,9 +66,9 @@ impl Alphabet {
         requires alphabet { IsAlphabet self.now }
         requires left { IsWord (letters_of self.now) v.now }
         requires right { IsWord (letters_of self.now) w.now }
-        requires left_small { (order_of (letters_of self.now)).degree v.now ≤ 65535 }
-        requires right_small { (order_of (letters_of self.now)).degree w.now ≤ 65535 }
-        ensures { IsTrue result ↔ ((order_of (letters_of self.now)).compare v.now w.now ≡ Less) }
+        requires left_small { (word_order_of (letters_of self.now)).degree v.now ≤ 65535 }
+        requires right_small { (word_order_of (letters_of self.now)).degree w.now ≤ 65535 }
+        ensures { IsTrue result ↔ ((word_order_of (letters_of self.now)).compare v.now w.now ≡ Less) }
     {
         self.order.compare(v, w).is_lt()
     }
@@ -77,7 +76,7 @@ impl Alphabet {
     /// The image of the letter at a place.
     pub(crate) fn letter_image(&self, alloc: Global, place: usize) -> Result<Monomial, Memory>
         requires alphabet { IsAlphabet self.now }
-        requires place { place < (order_of (letters_of self.now)).places }
+        requires place { place < (word_order_of (letters_of self.now)).places }
         ensures { IfOk result (λ m. m ≡ image_of (letters_of self.now) (variable place)) }
     {
         let x_count = self.order.x_degrees.len();
@@ -91,7 +90,7 @@ impl Alphabet {
     /// The letter at a place, with its image.
     pub(crate) fn letter_with_image(&self, alloc: Global, place: usize) -> Result<Imaged, Memory>
         requires alphabet { IsAlphabet self.now }
-        requires place { place < (order_of (letters_of self.now)).places }
+        requires place { place < (word_order_of (letters_of self.now)).places }
         ensures word { IfOk result (λ l. l.word ≡ variable place) }
         ensures image { IfOk result (λ l. l.image ≡ image_of (letters_of self.now) (variable place)) }
     {
@@ -105,7 +104,7 @@ impl Alphabet {
     pub(crate) fn image(&self, alloc: Global, w: &Monomial) -> Result<Monomial, Memory>
         requires alphabet { IsAlphabet self.now }
         requires word { IsWord (letters_of self.now) w.now }
-        requires small { (order_of (letters_of self.now)).degree w.now ≤ 65535 }
+        requires small { (word_order_of (letters_of self.now)).degree w.now ≤ 65535 }
         ensures { IfOk result (λ m. m ≡ image_of (letters_of self.now) w.now) }
     {
         let mut rest = w.copy(alloc)?;

@@ -1,10 +1,9 @@
 //! Words to a degree.
 ghost use Rattle.std.specs.Prelude.{◌≡◌, ◌≤◌, ◌<◌, ◌≢◌, ◌++◌, ◌∷◌, [], ℕ, List, length, max, true, false, IfOk, OnOk, OnErr, IfSome, IsSome, IsNone};
-ghost use Rattle.monomial_order.specs.Monomial.{weighted_degree, IsMonomial};
+ghost use Rattle.monomial_order.specs.Monomial.{weighted_degree, IsMonomial, IsMultiple};
 ghost use Rattle.monomial_order.specs.MonomialOrder.{MonomialOrder};
 ghost use Rattle.monomial_order.specs.Ranges.{all_between};
-ghost use Rattle.monomial_order.specs.Words.{image_of, lead_degrees, order_of, IsLeast, IsSWord, IsWord};
-ghost use Rattle.monomial_order.specs.ReducibleLaws.{IsMultiple};
+ghost use Rattle.word_laws.specs.Words.{image_of, lead_degrees, word_order_of, IsLeast, IsSWord, IsWord};
 ghost use Rattle.toric_ideal.specs.Leads.{letters};
 ghost use Rattle.toric_ideal.specs.Listing.{AgreeTo, AreRules, AreZeros, Fits, IsKept, IsNewLead, IsSettled};
 
@@ -130,7 +129,7 @@ impl Words {
     /// The least word with the image of w, or None where that is a multiple of a zero.
     pub fn least(&self, alloc: Global, w: &Monomial) -> Result<Option<Monomial>, Memory>
         requires word { IsWord self.now.letters w.now }
-        requires degree { (order_of self.now.letters).degree w.now ≤ self.now.degree }
+        requires degree { (word_order_of self.now.letters).degree w.now ≤ self.now.degree }
         ensures least { IfOk result (λ v. IfSome v (IsLeast self.now.letters (image_of self.now.letters w.now))) }
         ensures standard { IfOk result (λ v. IsSome v → ¬ IsMultiple self.now.zeros (image_of self.now.letters w.now)) }
         ensures zero { IfOk result (λ v. IsNone v → IsMultiple self.now.zeros (image_of self.now.letters w.now)) }

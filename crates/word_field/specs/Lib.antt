@@ -1,5 +1,3 @@
 pub mod Field
 pub mod Residues
-pub mod Primes
-pub mod ResidueLaws
-pub mod FieldLaws
+pub mod laws

@@ -1,8 +1,7 @@
 //! What holds in every field, as contracts of functions that do nothing.
 
 ghost use Rattle.std.specs.Prelude.{◌≡◌};
-ghost use Rattle.word_field.specs.Field.{IsField};
-ghost use Rattle.word_field.specs.FieldLaws.{DerivedLaws};
+ghost use Rattle.word_field.specs.Field.{IsField, DerivedLaws};
 
 use super::{Field, WordField};
 

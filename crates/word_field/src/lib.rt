@@ -4,7 +4,7 @@
 ghost use Rattle.std.specs.Prelude.{◌≡◌, ◌↔◌, true, IsTrue, IsSome, IsNone, IfSome};
 ghost use Rattle.word_field.specs.Field.{FieldOps, IsField, IsValue};
 ghost use Rattle.word_field.specs.Residues.{residues, is_listed};
-ghost use Rattle.word_field.specs.ResidueLaws.{residues_field, residues_eq};
+ghost use Rattle.word_field.specs.laws.Residues.{residues_field, residues_eq};
 
 pub mod laws;
 #[cfg(test)]

@@ -1,11 +1,11 @@
 //! Lines in x and y over the field of 101 elements, with weights of 1 and lex.
 ghost use Rattle.std.specs.Prelude.{◌≡◌, [], ◌∷◌, IfOk};
-ghost use Rattle.poly_core.specs.declared.names.Names.TheVariants as ways;
+ghost use Rattle.poly_core.specs.declared.place_names.Names.TheVariants as ways;
 
 use super::*;
 use crate::text_kind::TextKind;
 use monomial_order::{Memory, Tie, WeightOrder};
-use poly_core::names::NameTable;
+use poly_core::NameTable;
 use std::test::Fail;
 use word_field::WordField;
 

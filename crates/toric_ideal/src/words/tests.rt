@@ -1,9 +1,8 @@
 //! Words of leads, worked out by hand. A monomial or word is written with a digit for each exponent, the x first.
 ghost use Rattle.std.specs.Prelude.{◌≡◌, ◌≢◌, ◌≤◌, ◌<◌, ℕ, List, All, Contains, length, true, IfOk, IfSome, IsNone, IsSome, IsTrue};
-ghost use Rattle.monomial_order.specs.Monomial.{weighted_degree, Divides, IsMonomial};
+ghost use Rattle.monomial_order.specs.Monomial.{weighted_degree, Divides, IsMonomial, IsMultiple};
 ghost use Rattle.monomial_order.specs.Ranges.{all_between};
-ghost use Rattle.monomial_order.specs.Words.{image_of, IsSWord};
-ghost use Rattle.monomial_order.specs.ReducibleLaws.{IsMultiple};
+ghost use Rattle.word_laws.specs.Words.{image_of, IsSWord};
 ghost use Rattle.toric_ideal.specs.Listing.{AreZeros, IsZero};
 
 use super::*;

@@ -1,4 +1,4 @@
-use Rattle.monomial_order.specs.Cofactors.{Divides-antisymm, Divides-product, divides_or_not, cofactor}
+use Rattle.monomial_order.specs.laws.Cofactors.{Divides-antisymm, Divides-product, divides_or_not, cofactor}
 use Rattle.monomial_order.proofs.laws.division_laws.Goals as goal
 
 pub returns-clause-antisymmetric : goal.returns-clause-antisymmetric

@@ -1,5 +1,5 @@
-use Rattle.monomial_order.specs.MonomialLaws.{IsTrimmed-least_common_multiple}
-use Rattle.monomial_order.specs.Cofactors.{Divides-least_common_multiple, Divides-least_common_multiple_right, least_common_multiple_least}
+use Rattle.monomial_order.specs.laws.Monomial.{IsTrimmed-least_common_multiple}
+use Rattle.monomial_order.specs.laws.Cofactors.{Divides-least_common_multiple, Divides-least_common_multiple_right, least_common_multiple_least}
 use Rattle.monomial_order.proofs.laws.least_common_multiple_laws.Goals as goal
 
 pub returns-clause-left : goal.returns-clause-left

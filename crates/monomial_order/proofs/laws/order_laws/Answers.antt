@@ -1,4 +1,4 @@
-use Rattle.monomial_order.specs.Comparing.{one_below, none_below_one}
+use Rattle.monomial_order.specs.laws.Comparing.{one_below, none_below_one}
 use Rattle.monomial_order.proofs.laws.order_laws.Goals as goal
 
 pub returns-clause-one_below : goal.returns-clause-one_below

@@ -1,5 +1,5 @@
-use Rattle.monomial_order.specs.MonomialLaws.{product_comm, product_assoc, product-one, IsTrimmed-product}
-use Rattle.monomial_order.specs.Cofactors.{product_cancel}
+use Rattle.monomial_order.specs.laws.Monomial.{product_comm, product_assoc, product-one, IsTrimmed-product}
+use Rattle.monomial_order.specs.laws.Cofactors.{product_cancel}
 use Rattle.monomial_order.proofs.laws.product_laws.Goals as goal
 
 pub returns-clause-commutative : goal.returns-clause-commutative

@@ -1,4 +1,4 @@
-use Rattle.monomial_order.specs.Rank.{rank_falls}
+use Rattle.monomial_order.specs.laws.Rank.{rank_falls}
 use Rattle.monomial_order.proofs.laws.rank_falls.Goals as goal
 
 pub returns : goal.returns

@@ -1,7 +1,7 @@
 use Rattle.std.proofs.Common.{◌∙◌}
-use Rattle.poly_core.specs.Poly.{times, Same}
-use Rattle.poly_core.specs.RingLaws.{times_comm}
-use Rattle.poly_core.specs.KeptLaws.{small_swap}
+use Rattle.polynomials.specs.Polynomial.{times, Same}
+use Rattle.polynomials.specs.laws.Ring.{times_comm}
+use Rattle.polynomials.specs.laws.Terms.{small_swap}
 use Rattle.poly_core.proofs.Steps.{if_ok}
 use Rattle.poly_core.proofs.products.multiply.Goals as goal
 

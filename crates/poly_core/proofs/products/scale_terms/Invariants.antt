@@ -1,5 +1,5 @@
 use Rattle.std.proofs.Common.{◌≡◌, take, []}
-use Rattle.poly_core.specs.Poly.{scaled, term_of}
+use Rattle.polynomials.specs.Polynomial.{scaled, term_of}
 use Rattle.poly_core.proofs.products.scale_terms.Given as goal
 
 abbrev pub invariant-loop-t : goal.invariant-loop-t

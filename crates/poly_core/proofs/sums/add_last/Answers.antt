@@ -1,5 +1,5 @@
 use Rattle.std.proofs.Common.{◌≡◌, ◌≢◌, ◌++◌, ◌∷◌, [], sym, ap, ◌∙◌, inl, inr}
-use Rattle.poly_core.specs.Poly.{term_of}
+use Rattle.polynomials.specs.Polynomial.{term_of}
 use Rattle.poly_core.proofs.Merging.{told_differ, told_same}
 use Rattle.poly_core.proofs.sums.add_last.Goals as goal
 

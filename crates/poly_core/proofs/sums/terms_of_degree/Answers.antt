@@ -1,6 +1,6 @@
 use Rattle.std.proofs.Common.{◌≡◌, ◌+◌, arith, ap, sym, subst, ◌∙◌, take}
-use Rattle.poly_core.specs.Poly.{IsMeasured, term_of, component}
-use Rattle.poly_core.specs.KeptLaws.{all_at}
+use Rattle.polynomials.specs.Polynomial.{IsMeasured, term_of, component}
+use Rattle.polynomials.specs.laws.Terms.{all_at}
 use Rattle.poly_core.proofs.Steps.{component_more, component_skip}
 use Rattle.poly_core.proofs.sums.terms_of_degree.Goals as goal
 use Rattle.poly_core.proofs.sums.terms_of_degree.Goals.{then-degree-d+in_ok-copy+in_ok-push, else-degree-d}

@@ -1,5 +1,5 @@
 use Rattle.std.proofs.Common.{◌≡◌, take}
-use Rattle.poly_core.specs.Poly.{component}
+use Rattle.polynomials.specs.Polynomial.{component}
 use Rattle.poly_core.proofs.sums.terms_of_degree.Given as goal
 
 abbrev pub invariant-loop-t : goal.invariant-loop-t

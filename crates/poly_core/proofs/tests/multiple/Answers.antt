@@ -1,4 +1,4 @@
-use Rattle.poly_core.specs.Poly.{term_of}
+use Rattle.polynomials.specs.Polynomial.{term_of}
 use Rattle.poly_core.proofs.SmallDegrees.{small_multiple}
 use Rattle.poly_core.proofs.tests.multiple.Goals as goal
 

@@ -1,6 +1,6 @@
 use Rattle.std.proofs.Common.{◌++◌, arith}
-use Rattle.poly_core.specs.Poly.{Same}
-use Rattle.poly_core.specs.Value.{value, term_value}
+use Rattle.polynomials.specs.Polynomial.{Same}
+use Rattle.polynomials.specs.Value.{value, term_value}
 use Rattle.poly_core.proofs.Steps.{if_ok, single}
 use Rattle.poly_core.proofs.Evaluating.{single_value, value_halves}
 use Rattle.poly_core.proofs.values.+sum_of_values.Goals as goal

@@ -1,5 +1,5 @@
 use Rattle.std.proofs.Common.{◌≡◌, ◌-◌, arith, sym, ap, subst, ◌∙◌}
-use Rattle.poly_core.specs.Poly.{coefficient, IsKept, IsSmall, times}
+use Rattle.polynomials.specs.Polynomial.{coefficient, IsCanonical, IsSmall, times}
 use Rattle.poly_core.proofs.Evaluating.{partial_at_end, place_skipped, place_power, place_small, place_multiplied}
 use Rattle.poly_core.proofs.values.value_of_term.Goals as goal
 
@@ -12,7 +12,7 @@ places-init g c = record {
 
 pub multiply-requires-clause-a : goal.multiply-requires-clause-a
 multiply-requires-clause-a g c =
-    subst (IsKept (g.F.Field.ops c.args.f.now) (g.O.Order.order c.args.o.now)) (sym c.terms.ensures)
+    subst (IsCanonical (g.F.Field.ops c.args.f.now) (g.O.Order.order c.args.o.now)) (sym c.terms.ensures)
     (place_power (g.F.Field.ops c.args.f.now) (g.met.F.Field.laws c.args.f.now) (g.O.Order.order c.args.o.now) (g.met.O.Order.laws c.args.o.now) c.args.t.now.by c.args.t.now.at c.args.at.now c.args.table.now c.requires.at c.requires.table c.requires.reached (c.places.place - 1) c.places.place (omega arith) (omega arith) (let w = c.requires.term.monomial.within in omega arith) c.places.product.items c.places.invariant.partial
     c.index-at-place.result c.index-table-place.result c.exponent-e.result c.power-power.result.now c.index-at-place.is c.index-table-place.is c.exponent-e.ensures (omega arith) c.power-power.ensures.first c.power-power.ensures.next).kept
 

@@ -3,7 +3,7 @@ use Rattle.std.proofs.lemmas.Bool.{true≢false}
 use Rattle.std.proofs.lemmas.Bool.Decides.{Decides-eqb}
 use Rattle.std.proofs.lemmas.Slice.Eq.{slice_eq-Decides}
 use Rattle.poly_core.specs.Text.{poly_text}
-use Rattle.poly_core.specs.TextLaws.{falling_values}
+use Rattle.poly_core.specs.laws.Text.{decreasing_values}
 use Rattle.polynomial_text.proofs.CanonicalReading.{poly_named, canonical_found, canonical_no_fault, canonical_only}
 use Rattle.polynomial_text.proofs.canonical.read_canonical.Goals as goal
 
@@ -17,7 +17,7 @@ returns-in-Err-Kind g c =
 
 pub write-requires-clause-values : goal.write-requires-clause-values
 write-requires-clause-values g c =
-    falling_values (g.F.Field.ops c.args.f.now) (g.O.Order.order c.args.o.now) c.in-Ok.found c.in-Ok.ensures.read.kept.falls
+    decreasing_values (g.F.Field.ops c.args.f.now) (g.O.Order.order c.args.o.now) c.in-Ok.found c.in-Ok.ensures.read.kept.decreasing
 
 pub write-requires-clause-named : goal.write-requires-clause-named
 write-requires-clause-named g c =

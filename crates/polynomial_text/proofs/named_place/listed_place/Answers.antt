@@ -1,6 +1,6 @@
 use Rattle.std.proofs.Common.{◌≡◌, ◌<◌, Some, refl, arith, length}
 use Rattle.std.specs.Prelude.{slice_get}
-use Rattle.poly_core.specs.declared.names.Names.TheVariants.{Listed}
+use Rattle.poly_core.specs.declared.place_names.Names.TheVariants.{Listed}
 use Rattle.polynomial_text.proofs.LinePlaces.{place_is, no_place, name_text, one_place, within, contains_place}
 use Rattle.polynomial_text.proofs.named_place.listed_place.Goals as goal
 

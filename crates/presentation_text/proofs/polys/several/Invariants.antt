@@ -1,6 +1,6 @@
 use Rattle.std.proofs.Common.{◌≡◌, ◌≤◌}
 use Rattle.word_field.specs.Residues.{residues}
-use Rattle.poly_core.specs.Presentation.{order_of}
+use Rattle.poly_core.specs.Presentation.{weight_order_of}
 use Rattle.presentation_text.specs.Giving.{head_of}
 use Rattle.presentation_text.specs.Reading.{poly_line, several}
 use Rattle.presentation_text.proofs.NextPolys.{HaveCome}
@@ -8,7 +8,7 @@ use Rattle.presentation_text.proofs.polys.several.Given as goal
 
 abbrev pub invariant-loop : goal.invariant-loop
 invariant-loop l = record {
-  come : HaveCome (residues l.h.field.modulus) (order_of l.h.order) l.fn.lines.missing (poly_line (head_of l.h) l.constant) l.count l.counter l.lines.due
+  come : HaveCome (residues l.h.field.modulus) (weight_order_of l.h.order) l.fn.lines.missing (poly_line (head_of l.h) l.constant) l.count l.counter l.lines.due
       (several l.fn.lines.missing (poly_line (head_of l.h) l.constant) l.count l.fn.lines.due) l.polys.items;
   missing : l.lines.missing ≡ l.fn.lines.missing;
   within : l.counter ≤ l.count;

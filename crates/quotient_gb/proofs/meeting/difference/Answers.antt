@@ -1,9 +1,9 @@
 use Rattle.std.proofs.Common.{sym, ◌∙◌, subst}
 use Rattle.monomial_order.specs.Monomial.{IsMonomial, Divides}
-use Rattle.monomial_order.specs.MonomialLaws.{IsMonomial-least_common_multiple}
-use Rattle.monomial_order.specs.Cofactors.{Divides-least_common_multiple, Divides-least_common_multiple_right}
-use Rattle.poly_core.specs.Poly.{term_of, scaled, lead}
-use Rattle.poly_core.specs.CongruenceLaws.{minus_same}
+use Rattle.monomial_order.specs.laws.Monomial.{IsMonomial-least_common_multiple}
+use Rattle.monomial_order.specs.laws.Cofactors.{Divides-least_common_multiple, Divides-least_common_multiple_right}
+use Rattle.polynomials.specs.Polynomial.{term_of, scaled, lead_monomial}
+use Rattle.polynomials.specs.laws.Congruence.{minus_same}
 use Rattle.quotient_gb.proofs.Basics.{monic_some}
 use Rattle.quotient_gb.proofs.Criterion.{lead_monomial}
 use Rattle.quotient_gb.proofs.meeting.difference.Goals as goal
@@ -14,8 +14,8 @@ common_multiple-requires-clause-g g c =
     let F = g.met.F.Field.laws c.args.f.now in
     let O = g.O.Order.order c.args.o.now in
     let L = g.met.O.Order.laws c.args.o.now in
-    let m = lead c.args.g.now in
-    let n = lead c.args.h.now in
+    let m = lead_monomial c.args.g.now in
+    let n = lead_monomial c.args.h.now in
     monic_some K F O L c.args.g.now c.requires.g_monic
 
 pub common_multiple-requires-clause-h : goal.common_multiple-requires-clause-h
@@ -24,8 +24,8 @@ common_multiple-requires-clause-h g c =
     let F = g.met.F.Field.laws c.args.f.now in
     let O = g.O.Order.order c.args.o.now in
     let L = g.met.O.Order.laws c.args.o.now in
-    let m = lead c.args.g.now in
-    let n = lead c.args.h.now in
+    let m = lead_monomial c.args.g.now in
+    let n = lead_monomial c.args.h.now in
     monic_some K F O L c.args.h.now c.requires.h_monic
 
 pub raised-requires-clause-some : goal.raised-requires-clause-some
@@ -34,8 +34,8 @@ raised-requires-clause-some g c =
     let F = g.met.F.Field.laws c.args.f.now in
     let O = g.O.Order.order c.args.o.now in
     let L = g.met.O.Order.laws c.args.o.now in
-    let m = lead c.args.g.now in
-    let n = lead c.args.h.now in
+    let m = lead_monomial c.args.g.now in
+    let n = lead_monomial c.args.h.now in
     monic_some K F O L c.args.g.now c.requires.g_monic
 
 pub raised-requires-2-clause-some : goal.raised-requires-2-clause-some
@@ -44,8 +44,8 @@ raised-requires-2-clause-some g c =
     let F = g.met.F.Field.laws c.args.f.now in
     let O = g.O.Order.order c.args.o.now in
     let L = g.met.O.Order.laws c.args.o.now in
-    let m = lead c.args.g.now in
-    let n = lead c.args.h.now in
+    let m = lead_monomial c.args.g.now in
+    let n = lead_monomial c.args.h.now in
     monic_some K F O L c.args.h.now c.requires.h_monic
 
 pub raised-requires-clause-top : goal.raised-requires-clause-top
@@ -54,10 +54,10 @@ raised-requires-clause-top g c =
     let F = g.met.F.Field.laws c.args.f.now in
     let O = g.O.Order.order c.args.o.now in
     let L = g.met.O.Order.laws c.args.o.now in
-    let m = lead c.args.g.now in
-    let n = lead c.args.h.now in
+    let m = lead_monomial c.args.g.now in
+    let n = lead_monomial c.args.h.now in
     subst (IsMonomial O.places) (sym c.in_ok-top.ensures)
-    (IsMonomial-least_common_multiple O.places m n (lead_monomial K F O L c.args.g.now c.requires.g.falls c.requires.g_monic) (lead_monomial K F O L c.args.h.now c.requires.h.falls c.requires.h_monic))
+    (IsMonomial-least_common_multiple O.places m n (lead_monomial K F O L c.args.g.now c.requires.g.decreasing c.requires.g_monic) (lead_monomial K F O L c.args.h.now c.requires.h.decreasing c.requires.h_monic))
 
 pub raised-requires-2-clause-top : goal.raised-requires-2-clause-top
 raised-requires-2-clause-top g c =
@@ -65,10 +65,10 @@ raised-requires-2-clause-top g c =
     let F = g.met.F.Field.laws c.args.f.now in
     let O = g.O.Order.order c.args.o.now in
     let L = g.met.O.Order.laws c.args.o.now in
-    let m = lead c.args.g.now in
-    let n = lead c.args.h.now in
+    let m = lead_monomial c.args.g.now in
+    let n = lead_monomial c.args.h.now in
     subst (IsMonomial O.places) (sym c.in_ok-top.ensures)
-    (IsMonomial-least_common_multiple O.places m n (lead_monomial K F O L c.args.g.now c.requires.g.falls c.requires.g_monic) (lead_monomial K F O L c.args.h.now c.requires.h.falls c.requires.h_monic))
+    (IsMonomial-least_common_multiple O.places m n (lead_monomial K F O L c.args.g.now c.requires.g.decreasing c.requires.g_monic) (lead_monomial K F O L c.args.h.now c.requires.h.decreasing c.requires.h_monic))
 
 pub raised-requires-clause-divides : goal.raised-requires-clause-divides
 raised-requires-clause-divides g c =
@@ -76,8 +76,8 @@ raised-requires-clause-divides g c =
     let F = g.met.F.Field.laws c.args.f.now in
     let O = g.O.Order.order c.args.o.now in
     let L = g.met.O.Order.laws c.args.o.now in
-    let m = lead c.args.g.now in
-    let n = lead c.args.h.now in
+    let m = lead_monomial c.args.g.now in
+    let n = lead_monomial c.args.h.now in
     subst (Divides m) (sym c.in_ok-top.ensures) (Divides-least_common_multiple m n)
 
 pub raised-requires-2-clause-divides : goal.raised-requires-2-clause-divides
@@ -86,8 +86,8 @@ raised-requires-2-clause-divides g c =
     let F = g.met.F.Field.laws c.args.f.now in
     let O = g.O.Order.order c.args.o.now in
     let L = g.met.O.Order.laws c.args.o.now in
-    let m = lead c.args.g.now in
-    let n = lead c.args.h.now in
+    let m = lead_monomial c.args.g.now in
+    let n = lead_monomial c.args.h.now in
     subst (Divides n) (sym c.in_ok-top.ensures) (Divides-least_common_multiple_right m n)
 
 pub returns-clause-difference : goal.returns-clause-difference
@@ -96,8 +96,8 @@ returns-clause-difference g c =
     let F = g.met.F.Field.laws c.args.f.now in
     let O = g.O.Order.order c.args.o.now in
     let L = g.met.O.Order.laws c.args.o.now in
-    let m = lead c.args.g.now in
-    let n = lead c.args.h.now in
+    let m = lead_monomial c.args.g.now in
+    let n = lead_monomial c.args.h.now in
     let u = c.in_ok-left.ensures.multiple in
     let v = c.in_ok-right.ensures.multiple in (
       u.0,

@@ -1,6 +1,6 @@
 use Rattle.std.proofs.Common.{◌≡◌, ◌+◌, ◌≤◌, sym, subst, arith}
 use Rattle.monomial_order.specs.Monomial.{IsMonomial, least_common_multiple}
-use Rattle.monomial_order.specs.MonomialLaws.{IsMonomial-least_common_multiple}
+use Rattle.monomial_order.specs.laws.Monomial.{IsMonomial-least_common_multiple}
 use Rattle.quotient_gb.proofs.Multiples.{degree-lcm}
 use Rattle.quotient_gb.proofs.meeting.meet.Goals as goal
 

@@ -1,5 +1,5 @@
 use Rattle.std.proofs.Common.{◌≡◌, ◌<◌, ◌≤◌, ◌+◌, sym, subst, ℕ, length, arith, inr, ⊎_elim}
-use Rattle.monomial_order.specs.Comparing.{le_or_not}
+use Rattle.monomial_order.specs.laws.Comparing.{le_or_not}
 use Rattle.quotient_gb.specs.Waiting.{IsNoted}
 use Rattle.quotient_gb.proofs.Notes.{begins_chain, begins_part, noted_part}
 use Rattle.quotient_gb.proofs.meeting.note_all.Goals as goal

@@ -1,5 +1,5 @@
 use Rattle.std.proofs.Common.{◌≡◌, ◌++◌, get_or, subst, sym, ◌∙◌, ap}
-use Rattle.poly_core.specs.Poly.{Same, term_of, scaled, IsTerm, IsSmall}
+use Rattle.polynomials.specs.Polynomial.{Same, term_of, scaled, IsTerm, IsSmall}
 use Rattle.quotient_gb.proofs.Reducing.{cancel_term, cancel_small, cancel_below, sum_with}
 use Rattle.quotient_gb.proofs.remainder.cancel.Goals as goal
 
@@ -23,7 +23,7 @@ returns-clause-below g c =
     let K = g.F.Field.ops c.args.f.now in
     let O = g.O.Order.order c.args.o.now in
     let first = subst (λ x. c.index-terms-0.result ≡ get_or x 0 c.index-terms-0.result) c.terms.ensures c.index-terms-0.is in
-    cancel_below K (g.met.F.Field.laws c.args.f.now) O (g.met.O.Order.laws c.args.o.now) c.args.p.now c.index-terms-0.result c.requires.p c.requires.some first c.args.g.now c.args.u.now c.requires.g c.requires.monic c.requires.trimmed c.requires.lead c.in_ok-sum.sum c.in_ok-sum.ensures.kept.falls
+    cancel_below K (g.met.F.Field.laws c.args.f.now) O (g.met.O.Order.laws c.args.o.now) c.args.p.now c.index-terms-0.result c.requires.p c.requires.some first c.args.g.now c.args.u.now c.requires.g c.requires.monic c.requires.trimmed c.requires.lead c.in_ok-sum.sum c.in_ok-sum.ensures.kept.decreasing
     (subst (λ x. Same K c.in_ok-sum.sum (c.args.p.now ++ scaled K (term_of c.args.u.now x) c.args.g.now)) (c.neg-c.ensures ∙ ap (λ x. K.negate x.by) (sym c.index-terms-0.is))
     (sum_with K (g.met.F.Field.laws c.args.f.now) c.in_ok-sum.sum c.args.p.now c.in_ok-part.part (scaled K (term_of c.args.u.now c.neg-c.result) c.args.g.now) c.in_ok-sum.ensures.sum c.in_ok-part.ensures.product))
 

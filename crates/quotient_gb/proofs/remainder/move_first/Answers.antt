@@ -1,5 +1,5 @@
 use Rattle.std.proofs.Common.{◌≡◌, ◌≢◌, ◌++◌, [], ◌∷◌, get_or, subst, sym, ◌∙◌, ap, ◌⊎◌}
-use Rattle.poly_core.specs.Poly.{coefficient, term_of, IsBelow, IsKept}
+use Rattle.polynomials.specs.Polynomial.{coefficient, term_of, IsBelow, IsCanonical}
 use Rattle.quotient_gb.proofs.Reducing.{negate_not_zero, first_term, first_nonzero, first_lead, one_kept, rest_below, moved_sum, moved_monomials}
 use Rattle.quotient_gb.proofs.remainder.move_first.Goals as goal
 
@@ -18,7 +18,7 @@ add-requires-clause-b g c =
     let minus_is : c.in_ok-minus.minus ≡ term_of t.at (K.negate t.by) ∷ [] =
     c.in_ok-minus.ensures.term (subst (λ x. x ≢ K.zero) (sym c.neg.ensures) negated) ∙
     (ap (λ x. term_of x c.neg.result ∷ []) c.in_ok-copy.ensures.same ∙ ap (λ x. term_of c.index-terms-0.result.at x ∷ []) c.neg.ensures) in
-    subst (IsKept K O) (sym minus_is) (one_kept K F O L p t c.requires.p c.requires.some first (K.negate t.by) (F.negate_value t.by) negated)
+    subst (IsCanonical K O) (sym minus_is) (one_kept K F O L p t c.requires.p c.requires.some first (K.negate t.by) (F.negate_value t.by) negated)
 
 pub add-requires-2-clause-b : goal.add-requires-2-clause-b
 add-requires-2-clause-b g c =
@@ -32,7 +32,7 @@ add-requires-2-clause-b g c =
     let nonzero = first_nonzero K F O L p t c.requires.p c.requires.some first in
     let plus_is : c.in_ok-plus.plus ≡ t ∷ [] =
     c.in_ok-plus.ensures.term nonzero ∙ ap (λ x. term_of x c.index-terms-0.result.by ∷ []) c.in_ok-copy-2.ensures.same in
-    subst (IsKept K O) (sym plus_is) (one_kept K F O L p t c.requires.p c.requires.some first t.by (first_term K F O L p t c.requires.p c.requires.some first).value nonzero)
+    subst (IsCanonical K O) (sym plus_is) (one_kept K F O L p t c.requires.p c.requires.some first t.by (first_term K F O L p t c.requires.p c.requires.some first).value nonzero)
 
 pub returns-clause-below : goal.returns-clause-below
 returns-clause-below g c =
@@ -50,7 +50,7 @@ returns-clause-below g c =
     c.in_ok-minus.ensures.term (subst (λ x. x ≢ K.zero) (sym c.neg.ensures) negated) ∙
     (ap (λ x. term_of x c.neg.result ∷ []) c.in_ok-copy.ensures.same ∙ ap (λ x. term_of c.index-terms-0.result.at x ∷ []) c.neg.ensures) in
     subst (λ x. IsBelow K O x c.in_ok-rest.rest) (sym (first_lead K F O L p t c.requires.p c.requires.some first))
-    (rest_below K F O L p t c.requires.p c.requires.some first c.in_ok-rest.rest c.in_ok-rest.ensures.kept.falls
+    (rest_below K F O L p t c.requires.p c.requires.some first c.in_ok-rest.rest c.in_ok-rest.ensures.kept.decreasing
     (λ m. c.in_ok-rest.ensures.sum m ∙ ap (λ x. coefficient K (p ++ x) m) minus_is))
 
 pub returns-clause-sum : goal.returns-clause-sum

@@ -1,8 +1,8 @@
 use Rattle.std.proofs.Common.{◌≡◌, ℕ, ◌<◌, ◌≤◌, List, [], length, get_or, subst, sym, ◌∙◌, refl, ap}
 use Rattle.std.specs.Prelude.{Contains}
-use Rattle.monomial_order.specs.declared.Term.{Term}
+use Rattle.monomial_order.specs.declared.terms.Term.{Term}
 use Rattle.monomial_order.specs.Monomial.{product, Divides}
-use Rattle.poly_core.specs.Poly.{IsKept, lead}
+use Rattle.polynomials.specs.Polynomial.{IsCanonical, lead_monomial}
 use Rattle.quotient_gb.specs.Combinations.{HasDivisor}
 use Rattle.quotient_gb.proofs.Criterion.{IsReducer}
 use Rattle.quotient_gb.proofs.Places.{place_of, same_place}
@@ -18,12 +18,12 @@ reduce-init g c =
     let p = c.args.p.now in
     let G = c.args.members.now in
     let HG : (x : List (Term g.row.F-Elem.Denot)) → Contains c.args.members.now x → IsReducer (g.F.Field.ops c.args.f.now) (g.O.Order.order c.args.o.now) x =
-    λ x h. record { falls = (c.requires.kept x h).falls; monic = c.requires.monic x h } in
+    λ x h. record { decreasing = (c.requires.kept x h).decreasing; monic = c.requires.monic x h } in
     record {
-      work = subst (IsKept K O) (sym c.in_ok-work.ensures) c.requires.p;
-      done = subst (IsKept K O) (sym c.zero-done.ensures) (record { falls = tt; small = tt });
+      work = subst (IsCanonical K O) (sym c.in_ok-work.ensures) c.requires.p;
+      done = subst (IsCanonical K O) (sym c.zero-done.ensures) (record { decreasing = tt; small = tt });
       reducing = subst (IsReducing K O G p c.in_ok-work.work) (sym c.zero-done.ensures)
-          (subst (λ w. IsReducing K O G p w []) (sym c.in_ok-work.ensures) (reducing_start K F O L G HG p c.requires.p.falls));
+          (subst (λ w. IsReducing K O G p w []) (sym c.in_ok-work.ensures) (reducing_start K F O L G HG p c.requires.p.decreasing));
     }
 
 pub reduce-smaller-in_ok-next-in-Some : goal.reduce-smaller-in_ok-next-in-Some
@@ -46,13 +46,13 @@ reduce-preserved-in_ok-next-in-Some g c =
     let p = c.args.p.now in
     let G = c.args.members.now in
     let HG : (x : List (Term g.row.F-Elem.Denot)) → Contains c.args.members.now x → IsReducer (g.F.Field.ops c.args.f.now) (g.O.Order.order c.args.o.now) x =
-    λ x h. record { falls = (c.requires.kept x h).falls; monic = c.requires.monic x h } in
+    λ x h. record { decreasing = (c.requires.kept x h).decreasing; monic = c.requires.monic x h } in
     let some : 0 < length c.reduce.work = subst (λ x. 0 < length x) c.terms.ensures c.reduce-test.true in
     let top = lead_first c.terms-in-reduce.result.now c.reduce.work c.index-terms-0.result c.terms-in-reduce.ensures some in
-    let place = place_of lead c.args.leads.now G c.in-Some.i c.requires.leads c.in-Some.ensures.place in
+    let place = place_of lead_monomial c.args.leads.now G c.in-Some.i c.requires.leads c.in-Some.ensures.place in
     let whole : product c.index-leads-i.result c.in-Some-2.u ≡ (get_or c.terms-in-reduce.result.now 0 c.index-terms-0.result).at = (rw c.in-Some-2.is at c.in_ok-u-in-Some.ensures.some) in
-    let is = same_place lead c.args.leads.now G c.in-Some.i c.index-members-i.result c.index-leads-i.result c.requires.leads c.in-Some.ensures.place c.index-leads-i.is c.index-members-i.is in
-    let at : product (lead c.index-members-i.result) c.in-Some-2.u ≡ lead c.reduce.work = ap (λ x. product x c.in-Some-2.u) is ∙ (whole ∙ sym top) in
+    let is = same_place lead_monomial c.args.leads.now G c.in-Some.i c.index-members-i.result c.index-leads-i.result c.requires.leads c.in-Some.ensures.place c.index-leads-i.is c.index-members-i.is in
+    let at : product (lead_monomial c.index-members-i.result) c.in-Some-2.u ≡ lead_monomial c.reduce.work = ap (λ x. product x c.in-Some-2.u) is ∙ (whole ∙ sym top) in
     record {
       work = c.in_ok-next-in-Some.ensures.kept;
       done = c.reduce.invariant.done;
@@ -80,13 +80,13 @@ reduce-preserved-in_ok-next-in-Some-2 g c =
     let p = c.args.p.now in
     let G = c.args.members.now in
     let HG : (x : List (Term g.row.F-Elem.Denot)) → Contains c.args.members.now x → IsReducer (g.F.Field.ops c.args.f.now) (g.O.Order.order c.args.o.now) x =
-    λ x h. record { falls = (c.requires.kept x h).falls; monic = c.requires.monic x h } in
+    λ x h. record { decreasing = (c.requires.kept x h).decreasing; monic = c.requires.monic x h } in
     let some : 0 < length c.reduce.work = subst (λ x. 0 < length x) c.terms.ensures c.reduce-test.true in
     let top = lead_first c.terms-in-reduce.result.now c.reduce.work c.index-terms-0.result c.terms-in-reduce.ensures some in
-    let place = place_of lead c.args.leads.now G c.in-Some.i c.requires.leads c.in-Some.ensures.place in
+    let place = place_of lead_monomial c.args.leads.now G c.in-Some.i c.requires.leads c.in-Some.ensures.place in
     let whole : product c.index-leads-i.result c.in-Some-2.u ≡ (get_or c.terms-in-reduce.result.now 0 c.index-terms-0.result).at = (rw c.in-Some-2.is at c.in_ok-u-in-Some.ensures.some) in
-    let is = same_place lead c.args.leads.now G c.in-Some.i c.index-members-i.result c.index-leads-i.result c.requires.leads c.in-Some.ensures.place c.index-leads-i.is c.index-members-i.is in
-    let at : product (lead c.index-members-i.result) c.in-Some-2.u ≡ lead c.reduce.work = ap (λ x. product x c.in-Some-2.u) is ∙ (whole ∙ sym top) in
+    let is = same_place lead_monomial c.args.leads.now G c.in-Some.i c.index-members-i.result c.index-leads-i.result c.requires.leads c.in-Some.ensures.place c.index-leads-i.is c.index-members-i.is in
+    let at : product (lead_monomial c.index-members-i.result) c.in-Some-2.u ≡ lead_monomial c.reduce.work = ap (λ x. product x c.in-Some-2.u) is ∙ (whole ∙ sym top) in
     record {
       work = c.in_ok-next-in-Some.ensures.kept;
       done = c.reduce.invariant.done;
@@ -114,10 +114,10 @@ reduce-preserved g c =
     let p = c.args.p.now in
     let G = c.args.members.now in
     let HG : (x : List (Term g.row.F-Elem.Denot)) → Contains c.args.members.now x → IsReducer (g.F.Field.ops c.args.f.now) (g.O.Order.order c.args.o.now) x =
-    λ x h. record { falls = (c.requires.kept x h).falls; monic = c.requires.monic x h } in
+    λ x h. record { decreasing = (c.requires.kept x h).decreasing; monic = c.requires.monic x h } in
     let some : 0 < length c.reduce.work = subst (λ x. 0 < length x) c.terms.ensures c.reduce-test.true in
     let top = lead_first c.terms-in-reduce.result.now c.reduce.work c.index-terms-0.result c.terms-in-reduce.ensures some in
-    let none : HasDivisor G (lead c.reduce.work) → ⊥ =
+    let none : HasDivisor G (lead_monomial c.reduce.work) → ⊥ =
     subst (λ x. HasDivisor G x → ⊥) (sym top)
     (divisor_of G (get_or c.terms-in-reduce.result.now 0 c.index-terms-0.result).at (subst (λ ys. (n : List ℕ) → Contains ys n → Divides n (get_or c.terms-in-reduce.result.now 0 c.index-terms-0.result).at → ⊥) c.requires.leads (c.in-None.ensures.none refl))) in
     record {
@@ -136,6 +136,6 @@ returns-clause-remainder g c =
     let p = c.args.p.now in
     let G = c.args.members.now in
     let HG : (x : List (Term g.row.F-Elem.Denot)) → Contains c.args.members.now x → IsReducer (g.F.Field.ops c.args.f.now) (g.O.Order.order c.args.o.now) x =
-    λ x h. record { falls = (c.requires.kept x h).falls; monic = c.requires.monic x h } in
+    λ x h. record { decreasing = (c.requires.kept x h).decreasing; monic = c.requires.monic x h } in
     reducing_end K F O L G HG p c.reduce.work c.reduce.done c.reduce.invariant.reducing
     (subst (λ x. length x ≤ 0) c.terms.ensures c.reduce-test.false) c.reduce.invariant.done

@@ -1,11 +1,11 @@
-use Rattle.poly_core.specs.Poly.{IsKept}
+use Rattle.polynomials.specs.Polynomial.{IsCanonical}
 use Rattle.quotient_gb.proofs.Reducing.{IsReducing, height}
 use Rattle.quotient_gb.proofs.remainder.remainder.Given as goal
 
 abbrev pub invariant-reduce : goal.invariant-reduce
 invariant-reduce g l = record {
-  work : IsKept (g.F.Field.ops l.f) (g.O.Order.order l.o) l.work;
-  done : IsKept (g.F.Field.ops l.f) (g.O.Order.order l.o) l.done;
+  work : IsCanonical (g.F.Field.ops l.f) (g.O.Order.order l.o) l.work;
+  done : IsCanonical (g.F.Field.ops l.f) (g.O.Order.order l.o) l.done;
   reducing : IsReducing (g.F.Field.ops l.f) (g.O.Order.order l.o) l.members l.p l.work l.done;
 }
 

@@ -1,7 +1,7 @@
 use Rattle.std.proofs.Common.{◌≡◌, ◌≤◌, ◌<◌, ℕ, length, arith, ⊎_elim}
 use Rattle.monomial_order.specs.Monomial.{exponent}
-use Rattle.monomial_order.specs.MonomialLaws.{exponent_past}
-use Rattle.monomial_order.specs.Comparing.{le_or_not}
+use Rattle.monomial_order.specs.laws.Monomial.{exponent_past}
+use Rattle.monomial_order.specs.laws.Comparing.{le_or_not}
 use Rattle.quotient_gb.proofs.Examples.{weighted_small}
 use Rattle.quotient_gb.proofs.tests.monomial.Goals as goal
 

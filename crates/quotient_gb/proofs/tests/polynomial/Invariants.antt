@@ -1,7 +1,7 @@
 use Rattle.word_field.specs.Residues.{residues}
-use Rattle.poly_core.specs.Poly.{IsKept}
-use Rattle.poly_core.specs.Presentation.{order_of}
+use Rattle.polynomials.specs.Polynomial.{IsCanonical}
+use Rattle.poly_core.specs.Presentation.{weight_order_of}
 use Rattle.quotient_gb.proofs.tests.polynomial.Given as goal
 
 abbrev pub invariant-terms : goal.invariant-terms
-invariant-terms g l = IsKept (residues l.f.modulus) (order_of l.o) l.sum
+invariant-terms g l = IsCanonical (residues l.f.modulus) (weight_order_of l.o) l.sum

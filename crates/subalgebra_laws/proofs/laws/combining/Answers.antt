@@ -3,7 +3,7 @@ use Rattle.subalgebra_laws.proofs.Normal.{normal_congruent, normal_plus, normal_
 use Rattle.subalgebra_laws.proofs.Combinations.{combination_normal, normal_combination}
 use Rattle.subalgebra_laws.proofs.laws.combining.Goals as goal
 use Rattle.std.proofs.Common.{◌++◌}
-use Rattle.poly_core.specs.Poly.{times, constant}
+use Rattle.polynomials.specs.Polynomial.{times, constant}
 
 pub returns-clause-sums : goal.returns-clause-sums
 returns-clause-sums g c P S H HS a b h k = normal_combination P H S HS (a ++ b) (normal_plus P H S HS a b (combination_normal P H S HS a h) (combination_normal P H S HS b k))

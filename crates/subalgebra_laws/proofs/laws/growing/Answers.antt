@@ -1,5 +1,5 @@
 use Rattle.std.proofs.Common.{◌≤◌, subst}
-use Rattle.monomial_order.specs.Lists.{contains_left, contains_right}
+use Rattle.monomial_order.specs.laws.Lists.{contains_left, contains_right}
 use Rattle.subalgebra_laws.proofs.Growing.{value_stays, degree_stays}
 use Rattle.subalgebra_laws.proofs.Grown.{minimal_grows, minimal_back, combination_grows, ends_exchange, element_combines}
 use Rattle.subalgebra_laws.proofs.Next.{products_split, next_reduced}
@@ -19,11 +19,11 @@ pub returns-clause-ends : goal.returns-clause-ends
 returns-clause-ends g c P S T U d H n HU above each a ha low h = ends_exchange P H S T U n.monic HU d n.degree n.new above each a ha low h
 
 pub returns-clause-elements : goal.returns-clause-elements
-returns-clause-elements g c P S T d H n t k le = element_combines P H S T n.after.monic d n.after.degree n.after.new n.standard n.rise t k le
+returns-clause-elements g c P S T d H n t k le = element_combines P H S T n.after.monic d n.after.degree n.after.new n.standard n.increasing t k le
 
 pub returns-clause-minimal : goal.returns-clause-minimal
 returns-clause-minimal g c P S T d H n u le = (
-  minimal_back P H S T n.after.monic d n.after.degree n.after.new n.standard n.rise u le,
+  minimal_back P H S T n.after.monic d n.after.degree n.after.new n.standard n.increasing u le,
   λ h. minimal_grows P H S T n.after.monic d n.after.degree n.after.new u (subst (λ x. x ≤ d) (degree_stays P S T u h.0.word.within) le) h,
 )
 

@@ -1,5 +1,5 @@
 use Rattle.std.proofs.Common.{subst, ⊎_elim}
-use Rattle.poly_core.specs.Subalgebra.{LeadsIdeal}
+use Rattle.polynomials.specs.Subalgebra.{LeadsIdeal}
 use Rattle.subalgebra_laws.proofs.Generated.{images_generated, generated_images, word_sub, value_sub}
 use Rattle.subalgebra_laws.proofs.laws.words.Goals as goal
 

@@ -1,7 +1,7 @@
 use Rattle.std.proofs.Common.{◌≡◌, ◌+◌, ◌∙◌, ℕ, zero, suc, ap, refl, List, ◌∷◌, set, arith, rules}
 use Rattle.std.specs.Prelude.{IfOk, Result, Ok, Err, replicate}
-use Rattle.monomial_order.specs.Cofactors.{same_exponents}
-use Rattle.monomial_order.specs.ImageLaws.{variable_trimmed}
+use Rattle.monomial_order.specs.laws.Cofactors.{same_exponents}
+use Rattle.word_laws.specs.laws.Images.{variable_trimmed}
 use Rattle.monomial_order.specs.Monomial.{exponent, variable, IsTrimmed}
 use Rattle.toric_ideal.proofs.letters.letter.Goals as goal
 

@@ -1,6 +1,6 @@
 use Rattle.std.proofs.Common.{◌<◌, ◌%◌, arith}
 use Rattle.std.proofs.Math.Nat.{mod-lt}
-use Rattle.word_field.specs.ResidueLaws.{inversion_step, remainder_positive}
+use Rattle.word_field.specs.laws.Residues.{inversion_step, remainder_positive}
 use Rattle.word_field.proofs.WordFieldField.inv.Goals as goal
 
 -- the next rest is a remainder by this one, and so smaller, and not 0 as the size is prime

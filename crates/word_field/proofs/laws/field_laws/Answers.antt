@@ -1,4 +1,4 @@
-use Rattle.word_field.specs.FieldLaws.{derived_laws}
+use Rattle.word_field.specs.laws.Field.{derived_laws}
 use Rattle.word_field.proofs.laws.field_laws.Goals as goal
 
 pub returns-clause-derived : goal.returns-clause-derived

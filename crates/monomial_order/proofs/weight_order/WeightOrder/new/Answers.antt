@@ -4,7 +4,7 @@ use Rattle.monomial_order.specs.declared.order_fault.OrderFault.{OrderFault}
 use Rattle.monomial_order.specs.declared.order_fault.OrderFault.TheVariants.{Memory}
 use Rattle.monomial_order.specs.Faults.{IsFault, IsWeighing}
 use Rattle.monomial_order.proofs.FaultLemmas.{fault_same, rows_from_all}
-use Rattle.monomial_order.specs.OrderLaws.{between_from_all}
+use Rattle.monomial_order.specs.laws.Orders.{between_from_all}
 use Rattle.monomial_order.proofs.weight_order.WeightOrder.new.Goals as goal
 
 no_fault : (ws : List ℕ) (rows : List (List ℕ)) (e : OrderFault) → IsWeighing ws rows → e ≢ Memory → IsFault ws rows e → ⊥

@@ -1,7 +1,7 @@
 use Rattle.std.proofs.Common.{◌≡◌, ◌<◌, ◌^◌, true, ℕ, List, length, sum, take, ap, ◌∙◌, subst, sym, arith}
 use Rattle.monomial_order.specs.Monomial.{weighted_degree}
 use Rattle.monomial_order.specs.Ranges.{all_between}
-use Rattle.monomial_order.specs.OrderLaws.{positive_weights}
+use Rattle.monomial_order.specs.laws.Orders.{positive_weights}
 use Rattle.monomial_order.proofs.Halves.{sum_at_most}
 use Rattle.monomial_order.proofs.word_order.WordOrder.compare_within_degree.Goals as goal
 

@@ -1,7 +1,7 @@
 use Rattle.std.proofs.Common.{◌≡◌, true, false, Bool, sym, subst, List, ℕ, ◌∷◌, [], ◌++◌}
 use Rattle.std.specs.Prelude.{is_ok, if◌then◌else◌}
 use Rattle.monomial_order.specs.Ranges.{all_between}
-use Rattle.monomial_order.specs.OrderLaws.{all_between-push}
+use Rattle.monomial_order.specs.laws.Orders.{all_between-push}
 use Rattle.monomial_order.proofs.word_order.WordOrder.push_place.Goals as goal
 
 -- with the degree pushed or not

@@ -1,7 +1,7 @@
 use Rattle.std.proofs.Common.{◌∙◌, sym, subst, [], ◌∷◌, arith}
 use Rattle.word_field.specs.Field.{IsValue}
 use Rattle.word_field.specs.Residues.{residues}
-use Rattle.word_field.specs.ResidueLaws.{residues_field}
+use Rattle.word_field.specs.laws.Residues.{residues_field}
 use Rattle.poly_core.proofs.text.tests.term_in_x_and_y.Goals as goal
 
 pub returns-clause-value : goal.returns-clause-value

@@ -1,5 +1,5 @@
 use Rattle.std.proofs.Common.{◌≡◌, ◌≤◌, ◌+◌, ◌*◌, length, arith, sym, ap, subst, ◌∙◌}
-use Rattle.poly_core.specs.Poly.{coefficient, degree_of, IsKept, IsSmall, times}
+use Rattle.polynomials.specs.Polynomial.{coefficient, degree_of, IsCanonical, IsSmall, times}
 use Rattle.poly_core.specs.Powers.{IsPowerOf}
 use Rattle.poly_core.proofs.Evaluating.{power_found, next_small, next_power}
 use Rattle.poly_core.proofs.values.Powers.next.Goals as goal
@@ -7,7 +7,7 @@ use Rattle.poly_core.proofs.values.Powers.next.Goals as goal
 pub multiply-requires-clause-b : goal.multiply-requires-clause-b
 multiply-requires-clause-b g c =
     let e : length c.self.inside.from_square.items ≡ length c.args.self.now = ap length c.self.view_is in
-    subst (IsKept (g.F.Field.ops c.args.f.now) (g.O.Order.order c.args.o.now)) (sym c.terms-2.ensures)
+    subst (IsCanonical (g.F.Field.ops c.args.f.now) (g.O.Order.order c.args.o.now)) (sym c.terms-2.ensures)
     (power_found (g.F.Field.ops c.args.f.now) (g.met.F.Field.laws c.args.f.now) (g.O.Order.order c.args.o.now) (g.met.O.Order.laws c.args.o.now) c.args.p.now c.args.self.now (c.len.result + 1) c.power-last.result.now
     c.requires.kept c.requires.powers (omega arith) (omega arith) c.power-last.ensures.first c.power-last.ensures.next).kept
 

@@ -1,6 +1,6 @@
 use Rattle.std.proofs.Common.{◌≡◌, refl, sym, ◌∙◌, ap, subst}
 use Rattle.std.specs.Prelude.{Contains}
-use Rattle.poly_core.specs.Poly.{lead}
+use Rattle.polynomials.specs.Polynomial.{lead_monomial}
 use Rattle.poly_core.specs.Presentation.{presented}
 use Rattle.quotient_gb.proofs.Basics.{monic_some}
 use Rattle.quotient_gb.proofs.Turns.{leads_monomial, leads_kept_small, insert_grows}
@@ -25,7 +25,7 @@ place-at-requires-clause-small g c =
 pub returns-clause-grows : goal.returns-clause-grows
 returns-clause-grows g c =
     let P = presented g.F.Field.ops g.O.Order.order c.args.p.now in
-    let is : c.in_ok-lead.lead ≡ lead c.args.member = c.in_ok-lead.ensures.same ∙ sym (ap lead c.in-Some.ensures.first.1) in
+    let is : c.in_ok-lead.lead ≡ lead_monomial c.args.member = c.in_ok-lead.ensures.same ∙ sym (ap lead_monomial c.in-Some.ensures.first.1) in
     insert_grows P c.requires.presentation c.args.turn c.args.self.now c.requires.grows c.args.member c.requires.member c.requires.at_most c.requires.fresh
     c.place-at.result c.as_slice.result.now c.in_ok-lead.lead c.as_slice.ensures.value is c.place-at.ensures.from c.place-at.ensures.within c.place-at.ensures.before c.place-at.ensures.after
     _ c.in_ok-insert-2.ensures.items c.in_ok-insert.ensures.items

@@ -1,7 +1,7 @@
 use Rattle.std.proofs.Common.{◌≢◌, ◌≤◌, sym, ◌∙◌, ap, subst, [], length}
 use Rattle.std.specs.Prelude.{Contains, map, nat_eq}
-use Rattle.monomial_order.specs.ReducibleLaws.{IsMultiple}
-use Rattle.poly_core.specs.Poly.{lead}
+use Rattle.monomial_order.specs.Monomial.{IsMultiple}
+use Rattle.polynomials.specs.Polynomial.{lead_monomial}
 use Rattle.poly_core.specs.Presentation.{presented}
 use Rattle.quotient_gb.specs.Combinations.{AtMost}
 use Rattle.quotient_gb.specs.Remainder.{IsRemainder}
@@ -31,8 +31,8 @@ returns-then-is_empty-clause-reduces g c =
     let G = c.args.self.now.members.items in
     let rest = c.in_ok-rest.rest in
     let a = c.args.a.now in
-    let rem = subst (λ xs. IsRemainder P.field P.order xs (AtMost P.order (lead a)) a rest) c.as_slice-2.ensures.value c.in_ok-rest.ensures.remainder in
-    nothing_left P H G c.requires.grows.growing.members a rest c.requires.kept.falls c.requires.inside rem
+    let rem = subst (λ xs. IsRemainder P.field P.order xs (AtMost P.order (lead_monomial a)) a rest) c.as_slice-2.ensures.value c.in_ok-rest.ensures.remainder in
+    nothing_left P H G c.requires.grows.growing.members a rest c.requires.kept.decreasing c.requires.inside rem
     (empty_is rest c.is_empty.result (c.is_empty.ensures ∙ ap (λ xs. nat_eq (length xs) 0) c.terms.ensures) c.if-is_empty.true)
 
 pub insert-requires-clause-member : goal.insert-requires-clause-member
@@ -42,11 +42,11 @@ insert-requires-clause-member g c =
     let G = c.args.self.now.members.items in
     let rest = c.in_ok-rest.rest in
     let a = c.args.a.now in
-    let rem = subst (λ xs. IsRemainder P.field P.order xs (AtMost P.order (lead a)) a rest) c.as_slice-2.ensures.value c.in_ok-rest.ensures.remainder in
+    let rem = subst (λ xs. IsRemainder P.field P.order xs (AtMost P.order (lead_monomial a)) a rest) c.as_slice-2.ensures.value c.in_ok-rest.ensures.remainder in
     let some : rest ≢ [] = not_empty_is rest c.is_empty.result (c.is_empty.ensures ∙ ap (λ xs. nat_eq (length xs) 0) c.terms.ensures) c.if-is_empty.false in
     let n = c.in_ok-member.member in
-    let fn = (c.in_ok-member.ensures.kept P.order c.in_ok-rest.ensures.kept).falls in
-    new_member P H G c.requires.grows.growing.members a rest c.requires.kept.falls c.requires.inside rem c.in_ok-rest.ensures.kept.falls some n fn c.in_ok-member.ensures.lead (c.in_ok-member.ensures.one some) c.in_ok-member.ensures.multiple
+    let fn = (c.in_ok-member.ensures.kept P.order c.in_ok-rest.ensures.kept).decreasing in
+    new_member P H G c.requires.grows.growing.members a rest c.requires.kept.decreasing c.requires.inside rem c.in_ok-rest.ensures.kept.decreasing some n fn c.in_ok-member.ensures.lead (c.in_ok-member.ensures.one some) c.in_ok-member.ensures.multiple
 
 pub insert-requires-clause-at_most : goal.insert-requires-clause-at_most
 insert-requires-clause-at_most g c =
@@ -55,9 +55,9 @@ insert-requires-clause-at_most g c =
     let G = c.args.self.now.members.items in
     let rest = c.in_ok-rest.rest in
     let a = c.args.a.now in
-    let rem = subst (λ xs. IsRemainder P.field P.order xs (AtMost P.order (lead a)) a rest) c.as_slice-2.ensures.value c.in_ok-rest.ensures.remainder in
+    let rem = subst (λ xs. IsRemainder P.field P.order xs (AtMost P.order (lead_monomial a)) a rest) c.as_slice-2.ensures.value c.in_ok-rest.ensures.remainder in
     let some : rest ≢ [] = not_empty_is rest c.is_empty.result (c.is_empty.ensures ∙ ap (λ xs. nat_eq (length xs) 0) c.terms.ensures) c.if-is_empty.false in
-    subst (λ m. P.order.degree m ≤ c.args.turn.degree) (sym c.in_ok-member.ensures.lead) (rest_degree P H G c.requires.grows.growing.members a rest c.requires.kept.falls c.requires.inside rem c.in_ok-rest.ensures.kept.falls some c.args.turn.degree c.requires.at_most)
+    subst (λ m. P.order.degree m ≤ c.args.turn.degree) (sym c.in_ok-member.ensures.lead) (rest_degree P H G c.requires.grows.growing.members a rest c.requires.kept.decreasing c.requires.inside rem c.in_ok-rest.ensures.kept.decreasing some c.args.turn.degree c.requires.at_most)
 
 pub insert-requires-clause-fresh : goal.insert-requires-clause-fresh
 insert-requires-clause-fresh g c =
@@ -66,9 +66,9 @@ insert-requires-clause-fresh g c =
     let G = c.args.self.now.members.items in
     let rest = c.in_ok-rest.rest in
     let a = c.args.a.now in
-    let rem = subst (λ xs. IsRemainder P.field P.order xs (AtMost P.order (lead a)) a rest) c.as_slice-2.ensures.value c.in_ok-rest.ensures.remainder in
+    let rem = subst (λ xs. IsRemainder P.field P.order xs (AtMost P.order (lead_monomial a)) a rest) c.as_slice-2.ensures.value c.in_ok-rest.ensures.remainder in
     let some : rest ≢ [] = not_empty_is rest c.is_empty.result (c.is_empty.ensures ∙ ap (λ xs. nat_eq (length xs) 0) c.terms.ensures) c.if-is_empty.false in
-    subst (λ m. IsMultiple (map lead G) m → ⊥) (sym c.in_ok-member.ensures.lead) (rest_fresh P H G c.requires.grows.growing.members a rest c.requires.kept.falls c.requires.inside rem c.in_ok-rest.ensures.kept.falls some)
+    subst (λ m. IsMultiple (map lead_monomial G) m → ⊥) (sym c.in_ok-member.ensures.lead) (rest_fresh P H G c.requires.grows.growing.members a rest c.requires.kept.decreasing c.requires.inside rem c.in_ok-rest.ensures.kept.decreasing some)
 
 pub returns-clause-reduces : goal.returns-clause-reduces
 returns-clause-reduces g c =
@@ -77,9 +77,9 @@ returns-clause-reduces g c =
     let G = c.args.self.now.members.items in
     let rest = c.in_ok-rest.rest in
     let a = c.args.a.now in
-    let rem = subst (λ xs. IsRemainder P.field P.order xs (AtMost P.order (lead a)) a rest) c.as_slice-2.ensures.value c.in_ok-rest.ensures.remainder in
+    let rem = subst (λ xs. IsRemainder P.field P.order xs (AtMost P.order (lead_monomial a)) a rest) c.as_slice-2.ensures.value c.in_ok-rest.ensures.remainder in
     let some : rest ≢ [] = not_empty_is rest c.is_empty.result (c.is_empty.ensures ∙ ap (λ xs. nat_eq (length xs) 0) c.terms.ensures) c.if-is_empty.false in
     let n = c.in_ok-member.member in
-    let fn = (c.in_ok-member.ensures.kept P.order c.in_ok-rest.ensures.kept).falls in
-    then_reduces P H G c.requires.grows.growing.members a rest c.requires.kept.falls c.requires.inside rem c.in_ok-rest.ensures.kept.falls some n fn c.in_ok-member.ensures.lead (c.in_ok-member.ensures.one some) c.in_ok-member.ensures.multiple
+    let fn = (c.in_ok-member.ensures.kept P.order c.in_ok-rest.ensures.kept).decreasing in
+    then_reduces P H G c.requires.grows.growing.members a rest c.requires.kept.decreasing c.requires.inside rem c.in_ok-rest.ensures.kept.decreasing some n fn c.in_ok-member.ensures.lead (c.in_ok-member.ensures.one some) c.in_ok-member.ensures.multiple
     _ c.in_ok-insert.ensures.more c.in_ok-insert.ensures.member

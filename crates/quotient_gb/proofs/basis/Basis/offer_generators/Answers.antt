@@ -1,7 +1,7 @@
 use Rattle.std.proofs.Common.{◌≡◌, ◌<◌, ◌≤◌, ◌+◌, refl, sym, ◌∙◌, ap, subst, ℕ, [], length, arith, get_or}
 use Rattle.std.specs.Prelude.{Contains}
 use borrow.Author.Count.{below_more}
-use Rattle.poly_core.specs.Poly.{IsHomogeneous}
+use Rattle.polynomials.specs.Polynomial.{IsHomogeneous}
 use Rattle.poly_core.specs.Presentation.{presented}
 use Rattle.quotient_gb.specs.Combinations.{ReducesToZero}
 use Rattle.quotient_gb.specs.Growing.{Grows, KeepsFront, IsPart}
@@ -71,7 +71,7 @@ generators-preserved g c =
         reduces = subst (λ s. (k : ℕ) → k < c.generators.r-index + 1 → IsHomogeneous P.field P.order c.args.turn.degree (get_or rs k []) → ReducesToZero P.field P.order s.members.items (get_or rs k [])) (sym w.self-is)
             (below_more (λ k. IsHomogeneous P.field P.order c.args.turn.degree (get_or rs k []) → ReducesToZero P.field P.order c.generators.self.members.items (get_or rs k [])) c.generators.r-index
             c.generators.invariant.reduces
-            (λ h. absurd (homogeneous_degree P H r c.args.turn.degree kept.kept.falls (subst (IsHomogeneous P.field P.order c.args.turn.degree) here h) (w.if-has_degree.ensures.no refl))));
+            (λ h. absurd (homogeneous_degree P H r c.args.turn.degree kept.kept.decreasing (subst (IsHomogeneous P.field P.order c.args.turn.degree) here h) (w.if-has_degree.ensures.no refl))));
       }
     ]
 

@@ -1,5 +1,5 @@
 use Rattle.std.proofs.Common.{ℕ, ◌<◌, [], get_or}
-use Rattle.poly_core.specs.Poly.{IsHomogeneous}
+use Rattle.polynomials.specs.Polynomial.{IsHomogeneous}
 use Rattle.poly_core.specs.Presentation.{presented}
 use Rattle.quotient_gb.specs.Combinations.{ReducesToZero}
 use Rattle.quotient_gb.specs.Growing.{Grows, KeepsFront, IsPart}

@@ -1,7 +1,7 @@
 use Rattle.std.proofs.Common.{◌≡◌, ◌<◌, ◌≤◌, ◌+◌, sym, ◌∙◌, ap, subst, ℕ, List, [], length, arith, get_or, slice_index_or}
 use borrow.Author.Count.{below_more}
-use Rattle.monomial_order.specs.Lists.{contains_at}
-use Rattle.monomial_order.specs.declared.Term.{Term}
+use Rattle.monomial_order.specs.laws.Lists.{contains_at}
+use Rattle.monomial_order.specs.declared.terms.Term.{Term}
 use Rattle.poly_core.specs.Presentation.{presented}
 use Rattle.quotient_gb.specs.Criterion.{IsReduced}
 use Rattle.quotient_gb.specs.Growing.{Grows, KeepsFront, IsPart}

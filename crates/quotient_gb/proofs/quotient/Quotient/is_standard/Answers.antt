@@ -1,5 +1,5 @@
 use Rattle.std.proofs.Common.{refl, sym, subst, slice_index_or, []}
-use Rattle.monomial_order.specs.Lists.{contains_at}
+use Rattle.monomial_order.specs.laws.Lists.{contains_at}
 use Rattle.quotient_gb.specs.IdealBasis.{AreIdealLeads}
 use Rattle.quotient_gb.proofs.Ready.{standard, not_standard, ready_stands}
 use Rattle.quotient_gb.proofs.quotient.Quotient.is_standard.Goals as goal

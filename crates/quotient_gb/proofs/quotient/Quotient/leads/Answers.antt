@@ -1,13 +1,13 @@
 use Rattle.std.proofs.Common.{sym, subst}
-use Rattle.poly_core.specs.Subalgebra.{Rise}
+use Rattle.monomial_order.specs.MonomialOrder.{IsIncreasing}
 use Rattle.quotient_gb.specs.IdealBasis.{AreIdealLeads}
 use Rattle.quotient_gb.proofs.Ready.{each_minimal, all_minimal, ready_stands}
 use Rattle.quotient_gb.proofs.quotient.Quotient.leads.Goals as goal
 
-pub returns-clause-rise : goal.returns-clause-rise
-returns-clause-rise g c = λ P H h.
+pub returns-clause-increasing : goal.returns-clause-increasing
+returns-clause-increasing g c = λ P H h.
     let q = c.args.self.now in
-    subst (Rise P) (sym c.as_slice.ensures.value) (ready_stands P H q.degree q.basis q.waiting.items h).ideal.rise
+    subst (IsIncreasing P.order) (sym c.as_slice.ensures.value) (ready_stands P H q.degree q.basis q.waiting.items h).ideal.increasing
 
 pub returns-clause-each : goal.returns-clause-each
 returns-clause-each g c = λ P H h.

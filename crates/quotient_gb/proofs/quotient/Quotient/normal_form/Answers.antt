@@ -1,6 +1,6 @@
 use Rattle.std.proofs.Common.{subst}
 use Rattle.std.specs.Prelude.{Contains}
-use Rattle.poly_core.specs.Poly.{lead}
+use Rattle.polynomials.specs.Polynomial.{lead_monomial}
 use Rattle.poly_core.specs.Presentation.{presented}
 use Rattle.quotient_gb.specs.Combinations.{AtMost}
 use Rattle.quotient_gb.specs.Remainder.{IsRemainder}
@@ -23,4 +23,4 @@ returns-clause-normal g c =
     let q = c.args.self.now in
     let a = c.args.a.now in
     remainder_normal P c.requires.presentation q.degree q.basis.members.items c.requires.fits.basis a c.in_ok-rest.rest c.requires.degree
-    (subst (λ xs. IsRemainder P.field P.order xs (AtMost P.order (lead a)) a c.in_ok-rest.rest) c.as_slice-2.ensures.value c.in_ok-rest.ensures.remainder)
+    (subst (λ xs. IsRemainder P.field P.order xs (AtMost P.order (lead_monomial a)) a c.in_ok-rest.rest) c.as_slice-2.ensures.value c.in_ok-rest.ensures.remainder)

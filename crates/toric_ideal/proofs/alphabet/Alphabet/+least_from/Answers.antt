@@ -2,7 +2,7 @@ use Rattle.std.proofs.Common.{◌≡◌, ◌+◌, ◌<◌, ◌≤◌, ◌∙◌,
 use Rattle.std.specs.Prelude.{IfSome, IsNone, Option, None, Some}
 use Rattle.std.proofs.lemmas.Result.{IfOk-weaker}
 use Rattle.monomial_order.specs.Monomial.{exponent, variable, product, Divides, IsTrimmed}
-use Rattle.monomial_order.specs.Words.{order_of, IsWord}
+use Rattle.word_laws.specs.Words.{word_order_of, IsWord}
 use Rattle.toric_ideal.specs.Alphabet.{letters_of}
 use Rattle.toric_ideal.specs.Finding.{IsLeastFrom, IsLesser}
 use Rattle.toric_ideal.proofs.Members.{get_or_any}
@@ -116,7 +116,7 @@ lesser-least-requires-clause-right_small t c =
     let tail : IsLeastFrom L (suc c.args.i) c.in-Some.next c.in_ok-tail.tail = subst (λ i. IsLeastFrom L i c.in-Some.next c.in_ok-tail.tail) (let o : c.args.i + 1 ≡ suc c.args.i = omega arith in o) c.in_ok-tail.ensures in
     let power : c.in_ok-power.power ≡ product c.powers.power (variable (length c.args.self.now.order.x_degrees.items + c.args.i)) = c.in_ok-power.ensures.product ∙ ap (product c.powers.power) letter in
     let word : c.in_ok-word.word ≡ product (product c.powers.power (variable (length c.args.self.now.order.x_degrees.items + c.args.i))) c.in_ok-tail.tail = c.in_ok-word.ensures.product ∙ ap (λ x. product x c.in_ok-tail.tail) power in
-    subst (λ x. (order_of L).degree x ≤ 65535) (sym word) (let d = degree_next L H c.args.i c.args.m.now c.powers.power c.powers.rest c.powers.least c.in-Some.next c.in_ok-tail.tail below c.powers.invariant whole taken.monomial tail in let m = c.requires.small in omega arith)
+    subst (λ x. (word_order_of L).degree x ≤ 65535) (sym word) (let d = degree_next L H c.args.i c.args.m.now c.powers.power c.powers.rest c.powers.least c.in-Some.next c.in_ok-tail.tail below c.powers.invariant whole taken.monomial tail in let m = c.requires.small in omega arith)
 
 pub powers-smaller-in_ok-word : goal.powers-smaller-in_ok-word
 powers-smaller-in_ok-word t c =
@@ -129,7 +129,7 @@ powers-smaller-in_ok-word t c =
     let whole : product (get_or leads c.args.i []) c.in-Some.next ≡ c.powers.rest = ap (λ x. product x c.in-Some.next) (sym lead) ∙ e in
     let trimmed = at_some c.in_ok-next.field-0 (λ k. IsTrimmed k) c.in-Some.next c.in-Some.is c.in_ok-next.ensures.trimmed in
     let taken = taken_out c.args.self.now c.requires.alphabet c.args.i c.args.m.now c.powers.power c.powers.rest c.powers.least c.in-Some.next below c.powers.invariant whole trimmed c.requires.small in
-    taken.falls
+    taken.decreasing
 
 pub powers-preserved-in_ok-word : goal.powers-preserved-in_ok-word
 powers-preserved-in_ok-word t c =
@@ -147,8 +147,8 @@ powers-preserved-in_ok-word t c =
     let tail : IsLeastFrom L (suc c.args.i) c.in-Some.next c.in_ok-tail.tail = subst (λ i. IsLeastFrom L i c.in-Some.next c.in_ok-tail.tail) (let o : c.args.i + 1 ≡ suc c.args.i = omega arith in o) c.in_ok-tail.ensures in
     let power : c.in_ok-power.power ≡ product c.powers.power (variable (length c.args.self.now.order.x_degrees.items + c.args.i)) = c.in_ok-power.ensures.product ∙ ap (product c.powers.power) letter in
     let word : c.in_ok-word.word ≡ product (product c.powers.power (variable (length c.args.self.now.order.x_degrees.items + c.args.i))) c.in_ok-tail.tail = c.in_ok-word.ensures.product ∙ ap (λ x. product x c.in_ok-tail.tail) power in
-    let lesser : IsLesser (order_of L) c.powers.least (product (product c.powers.power (variable (length c.args.self.now.order.x_degrees.items + c.args.i))) c.in_ok-tail.tail) c.lesser-least.result =
-    subst (λ x. IsLesser (order_of L) c.powers.least x c.lesser-least.result) word c.lesser-least.ensures in
+    let lesser : IsLesser (word_order_of L) c.powers.least (product (product c.powers.power (variable (length c.args.self.now.order.x_degrees.items + c.args.i))) c.in_ok-tail.tail) c.lesser-least.result =
+    subst (λ x. IsLesser (word_order_of L) c.powers.least x c.lesser-least.result) word c.lesser-least.ensures in
     subst (λ x. IsLeastSoFar L c.args.i c.args.m.now x c.in-Some.next c.lesser-least.result) (sym power) (least_next L H c.args.i c.args.m.now c.powers.power c.powers.rest c.powers.least c.in-Some.next c.in_ok-tail.tail below c.powers.invariant whole taken.monomial tail c.lesser-least.result lesser)
 
 pub powers-smaller : goal.powers-smaller
@@ -162,7 +162,7 @@ powers-smaller t c =
     let whole : product (get_or leads c.args.i []) c.in-Some.next ≡ c.powers.rest = ap (λ x. product x c.in-Some.next) (sym lead) ∙ e in
     let trimmed = at_some c.in_ok-next.field-0 (λ k. IsTrimmed k) c.in-Some.next c.in-Some.is c.in_ok-next.ensures.trimmed in
     let taken = taken_out c.args.self.now c.requires.alphabet c.args.i c.args.m.now c.powers.power c.powers.rest c.powers.least c.in-Some.next below c.powers.invariant whole trimmed c.requires.small in
-    taken.falls
+    taken.decreasing
 
 pub powers-preserved : goal.powers-preserved
 powers-preserved t c =
@@ -180,8 +180,8 @@ powers-preserved t c =
     let tail : IsLeastFrom L (suc c.args.i) c.in-Some.next c.in_ok-tail.tail = subst (λ i. IsLeastFrom L i c.in-Some.next c.in_ok-tail.tail) (let o : c.args.i + 1 ≡ suc c.args.i = omega arith in o) c.in_ok-tail.ensures in
     let power : c.in_ok-power.power ≡ product c.powers.power (variable (length c.args.self.now.order.x_degrees.items + c.args.i)) = c.in_ok-power.ensures.product ∙ ap (product c.powers.power) letter in
     let word : c.in_ok-word.word ≡ product (product c.powers.power (variable (length c.args.self.now.order.x_degrees.items + c.args.i))) c.in_ok-tail.tail = c.in_ok-word.ensures.product ∙ ap (λ x. product x c.in_ok-tail.tail) power in
-    let lesser : IsLesser (order_of L) c.powers.least (product (product c.powers.power (variable (length c.args.self.now.order.x_degrees.items + c.args.i))) c.in_ok-tail.tail) c.lesser-least.result =
-    subst (λ x. IsLesser (order_of L) c.powers.least x c.lesser-least.result) word c.lesser-least.ensures in
+    let lesser : IsLesser (word_order_of L) c.powers.least (product (product c.powers.power (variable (length c.args.self.now.order.x_degrees.items + c.args.i))) c.in_ok-tail.tail) c.lesser-least.result =
+    subst (λ x. IsLesser (word_order_of L) c.powers.least x c.lesser-least.result) word c.lesser-least.ensures in
     subst (λ x. IsLeastSoFar L c.args.i c.args.m.now x c.in-Some.next c.lesser-least.result) (sym power) (least_next L H c.args.i c.args.m.now c.powers.power c.powers.rest c.powers.least c.in-Some.next c.in_ok-tail.tail below c.powers.invariant whole taken.monomial tail c.lesser-least.result lesser)
 
 pub returns : goal.returns

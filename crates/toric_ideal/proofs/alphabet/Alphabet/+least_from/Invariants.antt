@@ -1,5 +1,5 @@
 use Rattle.std.proofs.Common.{◌-◌, length}
-use Rattle.monomial_order.specs.Words.{order_of}
+use Rattle.word_laws.specs.Words.{word_order_of}
 use Rattle.toric_ideal.specs.Alphabet.{letters_of}
 use Rattle.toric_ideal.proofs.LeastWords.{IsLeastSoFar}
 use Rattle.toric_ideal.proofs.alphabet.Alphabet.+least_from.Given as goal
@@ -11,4 +11,4 @@ abbrev pub invariant-powers : goal.invariant-powers
 invariant-powers l = IsLeastSoFar (letters_of l.self) l.i l.m l.power l.rest l.least
 
 abbrev pub decreases-powers : goal.decreases-powers
-decreases-powers l = (order_of (letters_of l.self)).degree l.rest
+decreases-powers l = (word_order_of (letters_of l.self)).degree l.rest

@@ -1,4 +1,4 @@
-use Rattle.monomial_order.specs.Words.{order_of}
+use Rattle.word_laws.specs.Words.{word_order_of}
 use Rattle.toric_ideal.specs.Alphabet.{letters_of}
 use Rattle.toric_ideal.proofs.Images.{IsImagedSoFar}
 use Rattle.toric_ideal.proofs.alphabet.Alphabet.image.Given as goal
@@ -7,4 +7,4 @@ abbrev pub invariant-letters : goal.invariant-letters
 invariant-letters l = IsImagedSoFar (letters_of l.self) l.w l.rest l.image
 
 abbrev pub decreases-letters : goal.decreases-letters
-decreases-letters l = (order_of (letters_of l.self)).degree l.rest
+decreases-letters l = (word_order_of (letters_of l.self)).degree l.rest

@@ -1,8 +1,7 @@
 use Rattle.std.proofs.Common.{◌≤◌, length, sym, subst, arith}
-use Rattle.monomial_order.specs.Monomial.{IsMonomial}
-use Rattle.monomial_order.specs.Words.{image_of, order_of}
-use Rattle.monomial_order.specs.WordLaws.{degree_image, image_x}
-use Rattle.monomial_order.specs.ReducibleLaws.{IsMultiple}
+use Rattle.monomial_order.specs.Monomial.{IsMonomial, IsMultiple}
+use Rattle.word_laws.specs.Words.{image_of, word_order_of}
+use Rattle.word_laws.specs.laws.Words.{degree_image, image_x}
 use Rattle.toric_ideal.specs.Alphabet.{letters_of}
 use Rattle.toric_ideal.specs.Finding.{IsLeastFrom}
 use Rattle.toric_ideal.proofs.Tests.{no_from}
@@ -18,7 +17,7 @@ least_from-requires-clause-monomial c =
 pub least_from-requires-clause-small : goal.least_from-requires-clause-small
 least_from-requires-clause-small c =
     let L = letters_of c.args.self.now in
-    subst (λ x. (order_of L).degree x ≤ 65535) (sym c.in_ok-image.ensures) (let d = degree_image L (alphabet_letters c.args.self.now c.requires.alphabet) c.args.w.now in let s = c.requires.small in omega arith)
+    subst (λ x. (word_order_of L).degree x ≤ 65535) (sym c.in_ok-image.ensures) (let d = degree_image L (alphabet_letters c.args.self.now c.requires.alphabet) c.args.w.now in let s = c.requires.small in omega arith)
 
 pub returns : goal.returns
 returns c =

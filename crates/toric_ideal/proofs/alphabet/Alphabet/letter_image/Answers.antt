@@ -1,7 +1,7 @@
 use Rattle.std.proofs.Common.{◌≡◌, ◌+◌, ◌-◌, ◌<◌, ◌∙◌, [], sym, ap, length, arith}
 use Rattle.std.proofs.lemmas.Result.{IfOk-weaker}
 use Rattle.monomial_order.specs.Monomial.{variable}
-use Rattle.monomial_order.specs.Words.{image_of, order_of}
+use Rattle.word_laws.specs.Words.{image_of, word_order_of}
 use Rattle.toric_ideal.specs.Alphabet.{letters_of}
 use Rattle.toric_ideal.proofs.Members.{get_or_any}
 use Rattle.toric_ideal.proofs.LetterLemmas.{alphabet_letters, image_lead, image_x, places_count}
@@ -19,7 +19,7 @@ returns-else-place-x_count c =
     let L = letters_of c.args.self.now in
     let n = length c.args.self.now.order.x_degrees.items in
     let leads = c.args.self.now.leads.items in
-    let p : (order_of L).places ≡ n + length leads = places_count L in
+    let p : (word_order_of L).places ≡ n + length leads = places_count L in
     let r = c.requires.place in
     let a = c.args.self.now.order.x_degrees.ok in
     let j = c.args.place - c.len-x_count.result in

@@ -1,5 +1,5 @@
 use Rattle.std.proofs.Common.{◌+◌, length, ◌≡◌, arith}
-use Rattle.monomial_order.specs.Words.{order_of}
+use Rattle.word_laws.specs.Words.{word_order_of}
 use Rattle.toric_ideal.specs.Alphabet.{letters_of}
 use Rattle.toric_ideal.proofs.LetterLemmas.{places_count}
 use Rattle.toric_ideal.proofs.alphabet.Alphabet.letter_with_image.Goals as goal
@@ -7,6 +7,6 @@ use Rattle.toric_ideal.proofs.alphabet.Alphabet.letter_with_image.Goals as goal
 pub letter-requires : goal.letter-requires
 letter-requires c =
     let L = letters_of c.args.self.now in
-    let p : (order_of L).places ≡ length c.args.self.now.order.x_degrees.items + length c.args.self.now.leads.items = places_count L in
+    let p : (word_order_of L).places ≡ length c.args.self.now.order.x_degrees.items + length c.args.self.now.leads.items = places_count L in
     let r = c.requires.place in
     let a = c.args.self.now.leads.small in let b = c.args.self.now.leads.ok in let d = c.args.self.now.order.x_degrees.small in let e = c.args.self.now.order.x_degrees.ok in omega arith

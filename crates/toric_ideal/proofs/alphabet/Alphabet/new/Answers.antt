@@ -1,8 +1,8 @@
 use Rattle.std.proofs.Common.{◌≡◌, ◌+◌, ◌<◌, ◌≤◌, ◌∙◌, suc, zero, ℕ, List, [], ◌∷◌, ◌++◌, length, length-append, sym, ap, subst, get_or, take, arith}
 use Rattle.std.specs.Prelude.{map, Contains}
 use Rattle.monomial_order.specs.Monomial.{weighted_degree}
-use Rattle.monomial_order.specs.ImageLaws.{weighted_front}
-use Rattle.monomial_order.specs.Lists.{contains_at}
+use Rattle.word_laws.specs.laws.Images.{weighted_front}
+use Rattle.monomial_order.specs.laws.Lists.{contains_at}
 use Rattle.toric_ideal.specs.Leads.{AreLeads, IsLead}
 use Rattle.toric_ideal.proofs.alphabet.Alphabet.new.Goals as goal
 

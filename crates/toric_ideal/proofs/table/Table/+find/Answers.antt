@@ -1,7 +1,7 @@
 use Rattle.std.proofs.Common.{◌≡◌, ◌+◌, ◌-◌, ◌<◌, ◌≤◌, ◌∙◌, ℕ, suc, List, sym, ap, subst, arith}
 use Rattle.monomial_order.specs.Monomial.{exponent, product, variable}
-use Rattle.monomial_order.specs.Words.{image_of, order_of}
-use Rattle.monomial_order.specs.WordLaws.{word_laws}
+use Rattle.word_laws.specs.Words.{image_of, word_order_of}
+use Rattle.word_laws.specs.laws.Words.{word_laws}
 use Rattle.toric_ideal.specs.declared.table.Table.{Table}
 use Rattle.toric_ideal.specs.Alphabet.{letters_of}
 use Rattle.toric_ideal.specs.Tables.{Finds, HasDivisor}
@@ -35,8 +35,8 @@ degree-factor_degree-requires-clause-small t c =
     let i = c.args.place in
     let old = c.args.found.now.items in
     let w = c.args.w.now.word in
-    let within : i < (order_of L).places = let p = c.places.ensures in let q = c.if-place-places.false in let r = c.requires.place in omega arith in
-    subst (λ x. (order_of L).degree x ≤ 65535) (sym c.in_ok-factor.ensures.word) (let l = letter_small u.alphabet A i within in omega arith)
+    let within : i < (word_order_of L).places = let p = c.places.ensures in let q = c.if-place-places.false in let r = c.requires.place in omega arith in
+    subst (λ x. (word_order_of L).degree x ≤ 65535) (sym c.in_ok-factor.ensures.word) (let l = letter_small u.alphabet A i within in omega arith)
 
 pub powers-init : goal.powers-init
 powers-init t c =
@@ -60,12 +60,12 @@ returns-then-left-factor_degree t c =
     let i = c.args.place in
     let old = c.args.found.now.items in
     let w = c.args.w.now.word in
-    let within : i < (order_of L).places = let p = c.places.ensures in let q = c.if-place-places.false in let r = c.requires.place in omega arith in
+    let within : i < (word_order_of L).places = let p = c.places.ensures in let q = c.if-place-places.false in let r = c.requires.place in omega arith in
     let mid = c.powers.found.items in
     let new = c.find.new.found.items in
     let F : HasFound L u.zeros.items u.degree (suc i) c.powers.power.word c.powers.left mid new =
     has u (suc i) c.powers.power.word c.powers.left mid new (subst (λ j. Finds u j c.powers.power.word c.powers.left mid new) (let o : i + 1 ≡ suc i = omega arith in o) c.in_ok-find.ensures) in
-    let degree : c.degree-factor_degree.result ≡ (order_of L).degree (variable i) = c.degree-factor_degree.ensures ∙ ap (order_of L).degree c.in_ok-factor.ensures.word in
+    let degree : c.degree-factor_degree.result ≡ (word_order_of L).degree (variable i) = c.degree-factor_degree.ensures ∙ ap (word_order_of L).degree c.in_ok-factor.ensures.word in
     finds u i w c.args.rest old new (search_end L H u.zeros.items u.degree u.rules.items c.requires.table.listed.rules i w c.args.rest old mid new c.powers.power.word c.powers.power.image c.powers.left c.requires.degree (let q = c.if-left-factor_degree.true in omega arith) c.powers.invariant F)
 
 pub times-requires-clause-word : goal.times-requires-clause-word
@@ -77,13 +77,13 @@ times-requires-clause-word t c =
     let i = c.args.place in
     let old = c.args.found.now.items in
     let w = c.args.w.now.word in
-    let within : i < (order_of L).places = let p = c.places.ensures in let q = c.if-place-places.false in let r = c.requires.place in omega arith in
+    let within : i < (word_order_of L).places = let p = c.places.ensures in let q = c.if-place-places.false in let r = c.requires.place in omega arith in
     let mid = c.powers.found.items in
     let new = c.find.new.found.items in
     let F : HasFound L u.zeros.items u.degree (suc i) c.powers.power.word c.powers.left mid new =
     has u (suc i) c.powers.power.word c.powers.left mid new (subst (λ j. Finds u j c.powers.power.word c.powers.left mid new) (let o : i + 1 ≡ suc i = omega arith in o) c.in_ok-find.ensures) in
-    let degree : c.degree-factor_degree.result ≡ (order_of L).degree (variable i) = c.degree-factor_degree.ensures ∙ ap (order_of L).degree c.in_ok-factor.ensures.word in
-    let more : (c.powers.left - c.degree-factor_degree.result) + (order_of L).degree (variable i) ≡ c.powers.left = let q = c.if-left-factor_degree.false in omega arith in
+    let degree : c.degree-factor_degree.result ≡ (word_order_of L).degree (variable i) = c.degree-factor_degree.ensures ∙ ap (word_order_of L).degree c.in_ok-factor.ensures.word in
+    let more : (c.powers.left - c.degree-factor_degree.result) + (word_order_of L).degree (variable i) ≡ c.powers.left = let q = c.if-left-factor_degree.false in omega arith in
     subst (λ x. (j : ℕ) → exponent c.powers.power.word j + exponent x j ≤ 65535) (sym c.in_ok-factor.ensures.word)
     (search_fits L H u.zeros.items u.degree u.rules.items c.requires.table.listed.rules i w c.args.rest old mid c.powers.power.word c.powers.power.image c.powers.left (c.powers.left - c.degree-factor_degree.result) within c.requires.table.small more c.powers.invariant)
 
@@ -96,13 +96,13 @@ times-requires-clause-image t c =
     let i = c.args.place in
     let old = c.args.found.now.items in
     let w = c.args.w.now.word in
-    let within : i < (order_of L).places = let p = c.places.ensures in let q = c.if-place-places.false in let r = c.requires.place in omega arith in
+    let within : i < (word_order_of L).places = let p = c.places.ensures in let q = c.if-place-places.false in let r = c.requires.place in omega arith in
     let mid = c.powers.found.items in
     let new = c.find.new.found.items in
     let F : HasFound L u.zeros.items u.degree (suc i) c.powers.power.word c.powers.left mid new =
     has u (suc i) c.powers.power.word c.powers.left mid new (subst (λ j. Finds u j c.powers.power.word c.powers.left mid new) (let o : i + 1 ≡ suc i = omega arith in o) c.in_ok-find.ensures) in
-    let degree : c.degree-factor_degree.result ≡ (order_of L).degree (variable i) = c.degree-factor_degree.ensures ∙ ap (order_of L).degree c.in_ok-factor.ensures.word in
-    let more : (c.powers.left - c.degree-factor_degree.result) + (order_of L).degree (variable i) ≡ c.powers.left = let q = c.if-left-factor_degree.false in omega arith in
+    let degree : c.degree-factor_degree.result ≡ (word_order_of L).degree (variable i) = c.degree-factor_degree.ensures ∙ ap (word_order_of L).degree c.in_ok-factor.ensures.word in
+    let more : (c.powers.left - c.degree-factor_degree.result) + (word_order_of L).degree (variable i) ≡ c.powers.left = let q = c.if-left-factor_degree.false in omega arith in
     subst (λ x. (j : ℕ) → exponent c.powers.power.image j + exponent x j ≤ 65535) (sym c.in_ok-factor.ensures.image)
     (search_image_fits L H u.zeros.items u.degree u.rules.items c.requires.table.listed.rules i w c.args.rest old mid c.powers.power.word c.powers.power.image c.powers.left (c.powers.left - c.degree-factor_degree.result) within c.requires.table.small more c.powers.invariant)
 
@@ -115,7 +115,7 @@ returns-then-has_divisor t c =
     let i = c.args.place in
     let old = c.args.found.now.items in
     let w = c.args.w.now.word in
-    let within : i < (order_of L).places = let p = c.places.ensures in let q = c.if-place-places.false in let r = c.requires.place in omega arith in
+    let within : i < (word_order_of L).places = let p = c.places.ensures in let q = c.if-place-places.false in let r = c.requires.place in omega arith in
     let mid = c.powers.found.items in
     let new = c.find.new.found.items in
     let F : HasFound L u.zeros.items u.degree (suc i) c.powers.power.word c.powers.left mid new =
@@ -135,8 +135,8 @@ powers-smaller t c =
     let i = c.args.place in
     let old = c.args.found.now.items in
     let w = c.args.w.now.word in
-    let within : i < (order_of L).places = let p = c.places.ensures in let q = c.if-place-places.false in let r = c.requires.place in omega arith in
-    let degree : c.degree-factor_degree.result ≡ (order_of L).degree (variable i) = c.degree-factor_degree.ensures ∙ ap (order_of L).degree c.in_ok-factor.ensures.word in
+    let within : i < (word_order_of L).places = let p = c.places.ensures in let q = c.if-place-places.false in let r = c.requires.place in omega arith in
+    let degree : c.degree-factor_degree.result ≡ (word_order_of L).degree (variable i) = c.degree-factor_degree.ensures ∙ ap (word_order_of L).degree c.in_ok-factor.ensures.word in
     let p = (word_laws L H).degree_positive i within in let q = c.if-left-factor_degree.false in omega arith
 
 pub powers-preserved : goal.powers-preserved
@@ -148,13 +148,13 @@ powers-preserved t c =
     let i = c.args.place in
     let old = c.args.found.now.items in
     let w = c.args.w.now.word in
-    let within : i < (order_of L).places = let p = c.places.ensures in let q = c.if-place-places.false in let r = c.requires.place in omega arith in
+    let within : i < (word_order_of L).places = let p = c.places.ensures in let q = c.if-place-places.false in let r = c.requires.place in omega arith in
     let mid = c.powers.found.items in
     let new = c.find.new.found.items in
     let F : HasFound L u.zeros.items u.degree (suc i) c.powers.power.word c.powers.left mid new =
     has u (suc i) c.powers.power.word c.powers.left mid new (subst (λ j. Finds u j c.powers.power.word c.powers.left mid new) (let o : i + 1 ≡ suc i = omega arith in o) c.in_ok-find.ensures) in
-    let degree : c.degree-factor_degree.result ≡ (order_of L).degree (variable i) = c.degree-factor_degree.ensures ∙ ap (order_of L).degree c.in_ok-factor.ensures.word in
-    let more : (c.powers.left - c.degree-factor_degree.result) + (order_of L).degree (variable i) ≡ c.powers.left = let q = c.if-left-factor_degree.false in omega arith in
+    let degree : c.degree-factor_degree.result ≡ (word_order_of L).degree (variable i) = c.degree-factor_degree.ensures ∙ ap (word_order_of L).degree c.in_ok-factor.ensures.word in
+    let more : (c.powers.left - c.degree-factor_degree.result) + (word_order_of L).degree (variable i) ≡ c.powers.left = let q = c.if-left-factor_degree.false in omega arith in
     let power : c.in_ok-power-2.power.word ≡ product c.powers.power.word (variable i) = c.in_ok-power-2.ensures.word ∙ ap (product c.powers.power.word) c.in_ok-factor.ensures.word in
     let image : c.in_ok-power-2.power.image ≡ product c.powers.power.image (image_of L (variable i)) = c.in_ok-power-2.ensures.image ∙ ap (product c.powers.power.image) c.in_ok-factor.ensures.image in
     subst (λ p. IsSearched L u.zeros.items u.degree i w c.args.rest old new p c.in_ok-power-2.power.image (c.powers.left - c.degree-factor_degree.result)) (sym power)

@@ -1,11 +1,11 @@
 use Rattle.std.proofs.Common.{◌-◌}
-use Rattle.monomial_order.specs.Words.{order_of}
+use Rattle.word_laws.specs.Words.{word_order_of}
 use Rattle.toric_ideal.specs.Alphabet.{letters_of}
 use Rattle.toric_ideal.proofs.FindingWords.{IsSearched}
 use Rattle.toric_ideal.proofs.table.Table.+find.Given as goal
 
 abbrev pub decreases-find : goal.decreases-find
-decreases-find l = (order_of (letters_of l.self.now.alphabet)).places - l.place
+decreases-find l = (word_order_of (letters_of l.self.now.alphabet)).places - l.place
 
 abbrev pub invariant-powers : goal.invariant-powers
 invariant-powers l =

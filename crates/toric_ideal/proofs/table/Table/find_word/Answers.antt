@@ -1,8 +1,8 @@
 use Rattle.std.proofs.Common.{sym, subst}
 use Rattle.std.proofs.lemmas.Result.{on_ok_weaker}
-use Rattle.monomial_order.specs.Words.{order_of, IsReducible}
+use Rattle.word_laws.specs.Words.{word_order_of, IsReducible}
 use Rattle.monomial_order.specs.Orders.{word_order}
-use Rattle.monomial_order.specs.ReducibleLaws.{IsMultiple}
+use Rattle.monomial_order.specs.Monomial.{IsMultiple}
 use Rattle.toric_ideal.specs.Alphabet.{letters_of}
 use Rattle.toric_ideal.specs.Rising.{IsPut, Rises}
 use Rattle.toric_ideal.specs.Tables.{Finds, HasDivisor}
@@ -28,7 +28,7 @@ returns-then-not-branch c =
 pub put-requires-clause-rises : goal.put-requires-clause-rises
 put-requires-clause-rises c =
     let t = c.args.self.now in
-    subst (λ o. Rises o c.args.found.now.items) (sym (alphabet_order t.alphabet c.requires.table.listed.alphabet)) c.requires.found.rise
+    subst (λ o. Rises o c.args.found.now.items) (sym (alphabet_order t.alphabet c.requires.table.listed.alphabet)) c.requires.found.increasing
 
 pub returns : goal.returns
 returns c =
@@ -42,7 +42,7 @@ returns c =
     let m = undivided L (alphabet_letters t.alphabet c.requires.table.listed.alphabet) t.zeros.items t.degree t.rules.items c.requires.table.listed.rules w c.requires.word.word c.requires.degree none red in
     on_ok_weaker c.put.result
     (λ p.
-    let q : IsPut (order_of L) old c.put.new.list.items w =
+    let q : IsPut (word_order_of L) old c.put.new.list.items w =
     subst (λ o. IsPut o old c.put.new.list.items w) (alphabet_order t.alphabet c.requires.table.listed.alphabet) (subst (λ x. IsPut (word_order t.alphabet.order.x_degrees.items t.alphabet.order.s_degrees.items) old c.put.new.list.items x) c.in_ok-copy.ensures.same p) in
     let h = found_put L (alphabet_letters t.alphabet c.requires.table.listed.alphabet) t.zeros.items t.degree t.rules.items c.requires.table.listed.rules 0 w old c.put.new.list.items c.requires.found c.requires.degree m q in
     let r : Finds t 0 w 0 old c.put.new.list.items = record { found = h.found; keeps = h.keeps; all = h.all } in r)

@@ -1,6 +1,6 @@
 use Rattle.std.proofs.Common.{◌≡◌, ◌<◌, ◌+◌, suc, List, ℕ, sym, subst, length, get_or, arith}
 use Rattle.std.specs.Prelude.{Contains}
-use Rattle.monomial_order.specs.Lists.{contains_at}
+use Rattle.monomial_order.specs.laws.Lists.{contains_at}
 use Rattle.toric_ideal.proofs.TableSteps.{rules_next, AreRulesSoFar}
 use Rattle.toric_ideal.proofs.table.Table.next_rules.Goals as goal
 

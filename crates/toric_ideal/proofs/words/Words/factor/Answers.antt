@@ -1,6 +1,6 @@
 use Rattle.std.proofs.Common.{◌≤◌, length, sym, subst, arith}
 use Rattle.monomial_order.specs.Monomial.{weighted_degree, IsMonomial}
-use Rattle.monomial_order.specs.WordLaws.{degree_x}
+use Rattle.word_laws.specs.laws.Words.{degree_x}
 use Rattle.toric_ideal.specs.Alphabet.{letters_of}
 use Rattle.toric_ideal.specs.Listing.{Listing}
 use Rattle.toric_ideal.proofs.LetterLemmas.{alphabet_letters}

@@ -1,8 +1,8 @@
 use Rattle.std.proofs.Common.{List, ℕ, subst}
 use Rattle.std.specs.Prelude.{IfOk, IsSome, IsNone, Option, Some, None}
 use Rattle.std.proofs.lemmas.Result.{IfOk-weaker}
-use Rattle.monomial_order.specs.Words.{image_of, Letters}
-use Rattle.monomial_order.specs.ReducibleLaws.{IsMultiple}
+use Rattle.word_laws.specs.Words.{image_of, Letters}
+use Rattle.monomial_order.specs.Monomial.{IsMultiple}
 use Rattle.toric_ideal.specs.Alphabet.{letters_of}
 use Rattle.toric_ideal.specs.Listing.{IsLeastOrZero, Listing}
 use Rattle.toric_ideal.proofs.words.Words.least.Goals as goal

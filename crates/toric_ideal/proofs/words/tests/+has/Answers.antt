@@ -1,6 +1,6 @@
 use Rattle.std.proofs.Common.{sym, subst}
 use Rattle.std.specs.Prelude.{Contains}
-use Rattle.monomial_order.specs.Lists.{contains_there}
+use Rattle.monomial_order.specs.laws.Lists.{contains_there}
 use Rattle.toric_ideal.proofs.words.tests.+has.Goals as goal
 
 pub returns-else-eq : goal.returns-else-eq

@@ -1,6 +1,6 @@
 use Rattle.std.proofs.Common.{subst, arith}
-use Rattle.monomial_order.specs.WordLaws.{degree_x, image_same}
-use Rattle.monomial_order.specs.ReducibleLaws.{IsMultiple}
+use Rattle.word_laws.specs.laws.Words.{degree_x, image_same}
+use Rattle.monomial_order.specs.Monomial.{IsMultiple}
 use Rattle.toric_ideal.proofs.words.tests.least.Goals as goal
 
 pub least-requires-clause-degree : goal.least-requires-clause-degree

@@ -1,0 +1,22 @@
+//! Out of memory.
+use std::alloc::{AllocError, AllocFailed};
+
+/// Out of memory: the one fault that no call can rule out.
+#[derive(Clone, Copy, Debug, PartialEq, Eq)]
+pub struct Memory;
+
+impl From<AllocError> for Memory {
+    ghost from_gives = { λ _ _. Unit {0} };
+
+    fn from(_error: AllocError) -> Memory {
+        Memory
+    }
+}
+
+impl<T: Drop> From<AllocFailed<T>> for Memory {
+    ghost from_gives = { λ _ _. Unit {0} };
+
+    fn from(_failed: AllocFailed<T>) -> Memory {
+        Memory
+    }
+}

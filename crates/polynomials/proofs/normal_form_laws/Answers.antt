@@ -1,0 +1,12 @@
+use Rattle.polynomials.specs.laws.NormalForm.{lead_times, lead_component, normal_form_unique}
+use Rattle.polynomials.specs.Polynomial.{component}
+use Rattle.polynomials.proofs.normal_form_laws.Goals as goal
+
+pub returns-clause-multiples : goal.returns-clause-multiples
+returns-clause-multiples g c P k m H hk h = lead_times P H k m hk h
+
+pub returns-clause-unique : goal.returns-clause-unique
+returns-clause-unique g c P a b d H h k = normal_form_unique P H a b d h k
+
+pub returns-clause-parts : goal.returns-clause-parts
+returns-clause-parts g c P m H h = (component P.order (P.order.degree m) h.member, lead_component P H m h)

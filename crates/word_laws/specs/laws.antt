@@ -1,0 +1,4 @@
+-- Lemmas on words that proofs here and in the crates above cite.
+pub mod Images
+pub mod Words
+pub mod Reducible
