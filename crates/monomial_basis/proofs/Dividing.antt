@@ -5,10 +5,10 @@ use Rattle.std.proofs.lemmas.Bool.{ltb-true, ltb-false}
 use Rattle.std.specs.declared.alloc.Global.{Global}
 use Rattle.monomial_order.specs.Monomial.{exponent, product, IsTrimmed, IsMonomial, Divides}
 use Rattle.monomial_order.specs.MonomialOrder.{MonomialOrder, IsMonomialOrder}
-use Rattle.monomial_order.specs.MonomialLaws.{product_assoc, product_comm, exponent-product, exponent_past, IsMonomial-product}
-use Rattle.monomial_order.specs.Cofactors.{same_exponents, length-product_right}
-use Rattle.monomial_order.specs.Lists.{contains_cases}
-use Rattle.poly_core.specs.Subalgebra.{IsGenerated, AllIn, product_of}
+use Rattle.monomial_order.specs.laws.Monomial.{product_assoc, product_comm, exponent-product, exponent_past, IsMonomial-product}
+use Rattle.monomial_order.specs.laws.Cofactors.{same_exponents, length-product_right}
+use Rattle.monomial_order.specs.laws.Lists.{contains_cases}
+use Rattle.polynomials.specs.Subalgebra.{IsGenerated, AllIn, product_of}
 use Rattle.monomial_basis.specs.Products.{AreFactors, IsQuotient, SomePending, IsPending}
 
 pub product_cancel : (g k r : List ℕ) → IsTrimmed k → IsTrimmed r → product g k ≡ product g r → k ≡ r

@@ -7,10 +7,10 @@ use Rattle.std.specs.declared.cmp.Ordering.{Ordering}
 use Rattle.std.specs.declared.cmp.Ordering.TheVariants.{Less, Equal, Greater}
 use Rattle.monomial_order.specs.Monomial.{product, IsMonomial}
 use Rattle.monomial_order.specs.MonomialOrder.{MonomialOrder, IsMonomialOrder}
-use Rattle.monomial_order.specs.MonomialLaws.{product_comm, product_assoc, product-one}
-use Rattle.monomial_order.specs.Comparing.{less_or_not, not_below_self, three_ways, degree_falls}
-use Rattle.monomial_order.specs.Lists.{contains_cases, contains_here, contains_there, contains_none, contains_left, contains_right}
-use Rattle.poly_core.specs.Subalgebra.{IsGenerated, AllIn, product_of}
+use Rattle.monomial_order.specs.laws.Monomial.{product_comm, product_assoc, product-one}
+use Rattle.monomial_order.specs.laws.Comparing.{less_or_not, not_below_self, three_ways, degree_falls}
+use Rattle.monomial_order.specs.laws.Lists.{contains_cases, contains_here, contains_there, contains_none, contains_left, contains_right}
+use Rattle.polynomials.specs.Subalgebra.{IsGenerated, AllIn, product_of}
 use Rattle.monomial_basis.specs.Products.{AreFactors, IsFactor}
 use Rattle.monomial_basis.specs.MinimalGenerators.{Rises, IsMinimal, IsLeastAbove, HasNoneAbove, AddsUnlessGenerated}
 use Rattle.monomial_basis.proofs.Dividing.{product_of_monomial, degree_zero, degree_one, any_default}
@@ -75,7 +75,7 @@ IsIrreducible ks = (fs : List (List ℕ)) → AllIn ks fs → Contains ks (produ
 module _ (O : MonomialOrder) where
   -- ks has what is needed of the members of ms up to `last`
   pub record IsMinimalSoFar (ms : List (List ℕ)) (bound : ℕ) (last : List ℕ) (ks : List (List ℕ)) : Type 0 where
-    pub rise : Rises O ks
+    pub increasing : Rises O ks
     pub members : (m : List ℕ) → Contains ks m → Contains ms m × (O.degree m ≤ bound)
     pub irreducible : IsIrreducible ks
     pub below : (m k : List ℕ) → Contains ks m → O.compare last k ≡ Less → O.compare m k ≡ Less
@@ -153,7 +153,7 @@ module _ (O : MonomialOrder) (L : IsMonomialOrder O) where
   module _ (ms : List (List ℕ)) (bound : ℕ) (F : AreFactors O ms) (S : (m : List ℕ) → Contains ms m → O.degree m ≤ 65535) where
     pub so_far_none : IsMinimalSoFar O ms bound [] []
     so_far_none = record {
-      rise = tt;
+      increasing = tt;
       members = λ m c. absurd (contains_none m c);
       irreducible = λ fs h c. absurd (contains_none (product_of fs) c);
       below = λ m k c h. absurd (contains_none m c);
@@ -178,7 +178,7 @@ module _ (O : MonomialOrder) (L : IsMonomialOrder O) where
     so_far_more last x ks ls h n le adds =
         ⊎_elim
         (λ (same : IsGenerated ks x × (ls ≡ ks)). subst (IsMinimalSoFar O ms bound x) (sym same.1) (record {
-          rise = h.rise;
+          increasing = h.increasing;
           members = h.members;
           irreducible = h.irreducible;
           below = λ m k c l. L.total.trans m x k (h.below m x c n.above) l;
@@ -187,7 +187,7 @@ module _ (O : MonomialOrder) (L : IsMonomialOrder O) where
           small = S x n.member;
         }))
         (λ (more : (¬ IsGenerated ks x) × (ls ≡ ks ++ (x ∷ []))). subst (IsMinimalSoFar O ms bound x) (sym more.1) (record {
-          rise = rises_more ks x h.rise (λ k c. h.below k x c n.above);
+          increasing = rises_more ks x h.increasing (λ k c. h.below k x c n.above);
           members = λ m c. ⊎_elim (λ k. h.members m k) (λ e. subst (λ y. Contains ms y × (O.degree y ≤ bound)) e (n.member, le)) (contains_end ks x m c);
           irreducible = irreducible_more ks x (so_far_factors last ks h) (F x n.member) (λ k c. h.below k x c n.above) more.0 h.irreducible;
           below = λ m k c l. ⊎_elim (λ i. L.total.trans m x k (h.below m x i n.above) l) (λ e. subst (λ y. O.compare y k ≡ Less) e l) (contains_end ks x m c);

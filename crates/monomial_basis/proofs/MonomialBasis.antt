@@ -1,23 +1,24 @@
--- A subalgebra of monomials: its lead monomials are the products of its generators, and the generators that are needed are its reduced basis.
+-- A subalgebra of monomials: its lead_monomial monomials are the products of its generators, and the generators that are needed are its reduced basis.
 use Rattle.std.proofs.Common.{◌≡◌, ◌≢◌, ℕ, zero, suc, ◌+◌, ◌<◌, ◌≤◌, refl, sym, ◌∙◌, ap, subst, List, [], ◌∷◌, ◌++◌, length, take, arith, cond, ⊎_elim, true, false, get_or}
 use Rattle.std.specs.Prelude.{Contains, map}
 use Rattle.std.proofs.lemmas.List.{map-append, append-nil, take_more}
 use Rattle.word_field.specs.Field.{FieldOps, IsField}
-use Rattle.word_field.specs.FieldLaws.{zero-plus-zero}
-use Rattle.monomial_order.specs.declared.Term.{Term}
+use Rattle.word_field.specs.laws.Field.{zero-plus-zero}
+use Rattle.monomial_order.specs.declared.terms.Term.{Term}
 use Rattle.monomial_order.specs.Monomial.{variable, IsMonomial, IsTrimmed}
 use Rattle.monomial_order.specs.MonomialOrder.{MonomialOrder, IsMonomialOrder}
-use Rattle.monomial_order.specs.Lists.{contains_cases, contains_here, contains_there, contains_none}
-use Rattle.poly_core.specs.Poly.{same_monomial, coefficient, Same, term_of, scaled, times, constant, minus, IsTerm, lead}
-use Rattle.poly_core.specs.Ideal.{Multiple, AreMultiples, sum_of, InIdeal}
-use Rattle.poly_core.specs.Value.{power, monomial_value, value}
-use Rattle.poly_core.specs.Subalgebra.{Presented, IsPresentation, IsGenerator, AreGenerators, product_of, AllIn, IsGenerated, LeadsIdeal, IsStandard, InSubalgebra, LeadsSubalgebra, IsElement, Rise, IsReducedBasis}
-use Rattle.poly_core.specs.Presentation.{AreKeptGenerators}
-use Rattle.poly_core.specs.RingLaws.{times_comm}
-use Rattle.poly_core.specs.SameLaws.{same_true, same_refl}
-use Rattle.poly_core.specs.ValueLaws.{one_times}
-use Rattle.poly_core.specs.CongruenceLaws.{minus_zero, congruent_same}
-use Rattle.poly_core.specs.ReducedBasisLaws.{generated_times, map_contains}
+use Rattle.monomial_order.specs.laws.Lists.{contains_cases, contains_here, contains_there, contains_none}
+use Rattle.polynomials.specs.Polynomial.{Polynomial, same_monomial, coefficient, Same, term_of, scaled, times, constant, minus, IsTerm, lead_monomial}
+use Rattle.polynomials.specs.Ideal.{Multiple, AreMultiples, sum_of, InIdeal}
+use Rattle.polynomials.specs.Value.{power, monomial_value, value}
+use Rattle.polynomials.specs.Subalgebra.{Presented, IsPresentation, IsGenerator, AreGenerators, product_of, AllIn, IsGenerated, LeadsIdeal, IsStandard, InSubalgebra, LeadsSubalgebra, IsElement, IsReducedBasis}
+use Rattle.monomial_order.specs.MonomialOrder.{IsIncreasing}
+use Rattle.poly_core.specs.Presentation.{AreCanonicalGenerators}
+use Rattle.polynomials.specs.laws.Ring.{times_comm}
+use Rattle.polynomials.specs.laws.Same.{same_true, same_refl}
+use Rattle.polynomials.specs.laws.Value.{one_times}
+use Rattle.polynomials.specs.laws.Congruence.{minus_zero, congruent_same}
+use Rattle.polynomials.specs.laws.ReducedBasis.{generated_times, map_contains}
 use Rattle.monomial_basis.specs.Products.{AreFactors}
 use Rattle.monomial_basis.specs.MinimalGenerators.{Rises, IsMinimal}
 use Rattle.monomial_basis.specs.MonomialGenerators.{monomial_poly, AreMonomials, leads_of}
@@ -25,38 +26,38 @@ use Rattle.monomial_basis.proofs.Dividing.{generated_one}
 use Rattle.monomial_basis.proofs.Minimality.{generated_member}
 
 -- the monomial of each term is a product of members of G
-abbrev AllGenerated : {E : Type 0} → List (List ℕ) → List (Term E) → Type 0
+abbrev AllGenerated : {E : Type 0} → List (List ℕ) → Polynomial E → Type 0
 AllGenerated G [] = Unit {0}
 AllGenerated G (t ∷ p) = IsGenerated G t.at × AllGenerated G p
 
 module _ {E : Type 0} (K : FieldOps E) (G : List (List ℕ)) where
-  generated_append : (p q : List (Term E)) → AllGenerated G p → AllGenerated G q → AllGenerated G (p ++ q)
+  generated_append : (p q : Polynomial E) → AllGenerated G p → AllGenerated G q → AllGenerated G (p ++ q)
   generated_append [] q h k = k
   generated_append (t ∷ p) q h k = (h.0, generated_append p q h.1 k)
 
-  generated_scaled : (t : Term E) (q : List (Term E)) → IsGenerated G t.at → AllGenerated G q → AllGenerated G (scaled K t q)
+  generated_scaled : (t : Term E) (q : Polynomial E) → IsGenerated G t.at → AllGenerated G q → AllGenerated G (scaled K t q)
   generated_scaled t [] h k = tt
   generated_scaled t (u ∷ q) h k = (generated_times G t.at u.at h k.0, generated_scaled t q h k.1)
 
-  generated_product : (p q : List (Term E)) → AllGenerated G p → AllGenerated G q → AllGenerated G (times K p q)
+  generated_product : (p q : Polynomial E) → AllGenerated G p → AllGenerated G q → AllGenerated G (times K p q)
   generated_product [] q h k = tt
   generated_product (t ∷ p) q h k = generated_append (scaled K t q) (times K p q) (generated_scaled t q h.0 k) (generated_product p q h.1 k)
 
   generated_constant : (c : E) → AllGenerated G (constant K c)
   generated_constant c = (generated_one G, tt)
 
-  generated_power : (f : List (Term E)) (e : ℕ) → AllGenerated G f → AllGenerated G (power K f e)
+  generated_power : (f : Polynomial E) (e : ℕ) → AllGenerated G f → AllGenerated G (power K f e)
   generated_power f zero h = generated_constant K.one
   generated_power f (suc e) h = generated_product f (power K f e) h (generated_power f e h)
 
-  generated_monomial_value : (m : List ℕ) (fs : List (List (Term E))) → ((f : List (Term E)) → Contains fs f → AllGenerated G f) → AllGenerated G (monomial_value K m fs)
+  generated_monomial_value : (m : List ℕ) (fs : List (Polynomial E)) → ((f : Polynomial E) → Contains fs f → AllGenerated G f) → AllGenerated G (monomial_value K m fs)
   generated_monomial_value [] fs h = generated_constant K.one
   generated_monomial_value (e ∷ m) [] h = generated_constant K.one
   generated_monomial_value (e ∷ m) (f ∷ fs) h =
       generated_product (power K f e) (monomial_value K m fs) (generated_power f e (h f (contains_here f fs)))
       (generated_monomial_value m fs (λ g c. h g (contains_there f fs g c)))
 
-  generated_value : (w : List (Term E)) (fs : List (List (Term E))) → ((f : List (Term E)) → Contains fs f → AllGenerated G f) → AllGenerated G (value K w fs)
+  generated_value : (w : Polynomial E) (fs : List (Polynomial E)) → ((f : Polynomial E) → Contains fs f → AllGenerated G f) → AllGenerated G (value K w fs)
   generated_value [] fs h = tt
   generated_value (t ∷ w) fs h =
       generated_append (times K (constant K t.by) (monomial_value K t.at fs)) (value K w fs)
@@ -64,7 +65,7 @@ module _ {E : Type 0} (K : FieldOps E) (G : List (List ℕ)) where
       (generated_value w fs h)
 
   -- a monomial with a nonzero coefficient is that of some term
-  generated_found : IsField K → (p : List (Term E)) (m : List ℕ) → AllGenerated G p → coefficient K p m ≢ K.zero → IsGenerated G m
+  generated_found : IsField K → (p : Polynomial E) (m : List ℕ) → AllGenerated G p → coefficient K p m ≢ K.zero → IsGenerated G m
   unfolding coefficient
   generated_found F [] m h n = absurd (n refl)
   generated_found F (t ∷ p) m h n =
@@ -96,15 +97,15 @@ length-variable zero = refl
 length-variable (suc i) = ap suc (length-variable i)
 
 module _ {E : Type 0} (K : FieldOps E) (F : IsField K) where
-  times_one : (p : List (Term E)) → Same K (times K p (constant K K.one)) p
+  times_one : (p : Polynomial E) → Same K (times K p (constant K K.one)) p
   times_one p m = times_comm K F p (constant K K.one) m ∙ one_times K F p m
 
-  value_variable : (fs : List (List (Term E))) (i : ℕ) (f : List (Term E)) → i < length fs → get_or fs i f ≡ f → Same K (monomial_value K (variable i) fs) f
+  value_variable : (fs : List (Polynomial E)) (i : ℕ) (f : Polynomial E) → i < length fs → get_or fs i f ≡ f → Same K (monomial_value K (variable i) fs) f
   value_variable [] i f l e m = absurd (omega arith)
   value_variable (g ∷ fs) zero f l e m = times_one (power K g 1) m ∙ (times_one g m ∙ ap (λ p. coefficient K p m) e)
   value_variable (g ∷ fs) (suc i) f l e m = one_times K F (monomial_value K (variable i) fs) m ∙ value_variable fs i f (omega arith) e m
 
-  generator_value : (fs : List (List (Term E))) (i : ℕ) (f : List (Term E)) → i < length fs → get_or fs i f ≡ f → Same K (value K (monomial_poly K (variable i)) fs) f
+  generator_value : (fs : List (Polynomial E)) (i : ℕ) (f : Polynomial E) → i < length fs → get_or fs i f ≡ f → Same K (value K (monomial_poly K (variable i)) fs) f
   generator_value fs i f l e m =
       ap (λ p. coefficient K p m) (append-nil (times K (constant K K.one) (monomial_value K (variable i) fs))) ∙
       (one_times K F (monomial_value K (variable i) fs) m ∙ value_variable fs i f l e m)
@@ -122,8 +123,8 @@ module _ {E : Type 0} (K : FieldOps E) (F : IsField K) where
         | false ↦ λ e. absurd (h (ap (λ b. K.plus (cond b K.one K.zero) K.zero) e ∙ zero-plus-zero K F))
       ] refl
 
--- a lead among monomials is that of a generator
-lead_of_generator : {E : Type 0} (K : FieldOps E) (fs : List (List (Term E))) → AreMonomials K fs → (m : List ℕ) → Contains (leads_of fs) m → Contains fs (monomial_poly K m)
+-- a lead_monomial among monomials is that of a generator
+lead_of_generator : {E : Type 0} (K : FieldOps E) (fs : List (Polynomial E)) → AreMonomials K fs → (m : List ℕ) → Contains (leads_of fs) m → Contains fs (monomial_poly K m)
 lead_of_generator K [] M m h = absurd (contains_none m h)
 lead_of_generator K ([] ∷ fs) M m h = contains_there [] fs (monomial_poly K m) (lead_of_generator K fs (λ f c. M f (contains_there [] fs f c)) m h)
 lead_of_generator {E = E} K ((t ∷ p) ∷ fs) M m h =
@@ -132,37 +133,37 @@ lead_of_generator {E = E} K ((t ∷ p) ∷ fs) M m h =
     (λ k. contains_there (t ∷ p) fs (monomial_poly K m) (lead_of_generator K fs (λ f c. M f (contains_there (t ∷ p) fs f c)) m k))
     (contains_cases t.at (leads_of fs) m h)
   where
-    first : (p q : List (Term E)) → p ≡ q → lead p ≡ lead q
-    first p q e = ap lead e
+    first : (p q : Polynomial E) → p ≡ q → lead_monomial p ≡ lead_monomial q
+    first p q e = ap lead_monomial e
 
     is : t.at ≡ m → t ∷ p ≡ monomial_poly K m
     is e = ⊎_elim (λ z. absurd cc)
         (λ r. r.1 ∙ ap (monomial_poly K) (sym (first (t ∷ p) (monomial_poly K r.0) r.1) ∙ e))
         (M (t ∷ p) (contains_here (t ∷ p) fs))
 
-generators_generated : {E : Type 0} (fs : List (List (Term E))) (K : FieldOps E) → AreMonomials K fs → (G : List (List ℕ)) → ((m : List ℕ) → Contains (leads_of fs) m → Contains G m) →
-    (f : List (Term E)) → Contains fs f → AllGenerated G f
+generators_generated : {E : Type 0} (fs : List (Polynomial E)) (K : FieldOps E) → AreMonomials K fs → (G : List (List ℕ)) → ((m : List ℕ) → Contains (leads_of fs) m → Contains G m) →
+    (f : Polynomial E) → Contains fs f → AllGenerated G f
 generators_generated [] K M G w f c = absurd (contains_none f c)
 generators_generated ([] ∷ fs) K M G w f c =
     ⊎_elim (λ e. subst (AllGenerated G) e tt) (λ k. generators_generated fs K (λ g i. M g (contains_there [] fs g i)) G w f k) (contains_cases [] fs f c)
 generators_generated ((t ∷ p) ∷ fs) K M G w f c =
     ⊎_elim
     (λ e. subst (AllGenerated G) e (⊎_elim (λ z. absurd cc)
-    (λ r. subst (AllGenerated G) (sym r.1) (generated_member G r.0 (subst (Contains G) (ap lead r.1) (w t.at (contains_here t.at (leads_of fs)))), tt))
+    (λ r. subst (AllGenerated G) (sym r.1) (generated_member G r.0 (subst (Contains G) (ap lead_monomial r.1) (w t.at (contains_here t.at (leads_of fs)))), tt))
     (M (t ∷ p) (contains_here (t ∷ p) fs))))
     (λ k. generators_generated fs K (λ g i. M g (contains_there (t ∷ p) fs g i)) G (λ m i. w m (contains_there t.at (leads_of fs) m i)) f k)
     (contains_cases (t ∷ p) fs f c)
 
-generator_at : {E : Type 0} (K : FieldOps E) (O : MonomialOrder) (fs : List (List (Term E))) → AreGenerators K O fs → (f : List (Term E)) → Contains fs f → IsGenerator K O f
+generator_at : {E : Type 0} (K : FieldOps E) (O : MonomialOrder) (fs : List (Polynomial E)) → AreGenerators K O fs → (f : Polynomial E) → Contains fs f → IsGenerator K O f
 generator_at K O [] h f c = absurd (contains_none f c)
 generator_at K O (g ∷ fs) h f c = ⊎_elim (λ e. subst (IsGenerator K O) e h.0) (λ k. generator_at K O fs h.1 f k) (contains_cases g fs f c)
 
-map-lead : {E : Type 0} (K : FieldOps E) (ks : List (List ℕ)) → map lead (map (monomial_poly K) ks) ≡ ks
+map-lead : {E : Type 0} (K : FieldOps E) (ks : List (List ℕ)) → map lead_monomial (map (monomial_poly K) ks) ≡ ks
 map-lead K [] = refl
 map-lead K (k ∷ ks) = ap (λ l. k ∷ l) (map-lead K ks)
 
 -- where the ideal has no generator, its members are zero
-in_nothing : {E : Type 0} (K : FieldOps E) (n : ℕ) (rs : List (List (Term E))) (a : List (Term E)) → rs ≡ [] → InIdeal K n rs a → Same K a []
+in_nothing : {E : Type 0} (K : FieldOps E) (n : ℕ) (rs : List (Polynomial E)) (a : Polynomial E) → rs ≡ [] → InIdeal K n rs a → Same K a []
 in_nothing {E = E} K n rs a none h = by_parts h.parts h.multiples h.sums
   where
     by_parts : (ws : List (Multiple E)) → AreMultiples K n rs ws → Same K a (sum_of K ws) → Same K a []
@@ -217,7 +218,7 @@ module _ {E : Type 0} (P : Presented E) (H : IsPresentation P) (none : P.ideal �
       let factor = leads_are_factors m i in
       let term : IsTerm P.field P.order.places (term_of m P.field.one) = record { monomial = factor.monomial; value = H.field.one_value } in
       record {
-        falls = (record { term = term; nonzero = H.field.one_not_zero; above = tt }, tt);
+        decreasing = (record { term = term; nonzero = H.field.one_not_zero; above = tt }, tt);
         inside = generator_inside m i;
         monic = coefficient_monomial P.field H.field m;
         homogeneous = record {
@@ -230,7 +231,7 @@ module _ {E : Type 0} (P : Presented E) (H : IsPresentation P) (none : P.ideal �
         tail = λ n h ne. absurd (ne (sym (monomial_alone P.field H.field m n h)));
       }
 
-  rise_of : (ks : List (List ℕ)) → Rises P.order ks → Rise P ks
+  rise_of : (ks : List (List ℕ)) → Rises P.order ks → IsIncreasing P.order ks
   rise_of [] h = tt
   rise_of (k ∷ []) h = tt
   rise_of (k ∷ (l ∷ ks)) h = (h.0, rise_of (l ∷ ks) h.1)
@@ -239,46 +240,46 @@ module _ {E : Type 0} (P : Presented E) (H : IsPresentation P) (none : P.ideal �
   pub monomial_basis : (c : ℕ) (ks : List (List ℕ)) → Rises P.order ks → ((m : List ℕ) → Contains ks m → Contains (leads_of P.generators) m × (P.order.degree m ≤ c)) → IsMinimal ks →
       ((m : List ℕ) → Contains (leads_of P.generators) m → P.order.degree m ≤ c → IsGenerated ks m) → IsReducedBasis P c (map (monomial_poly P.field) ks)
   monomial_basis c ks rises members minimal generates = record {
-    rise = subst (Rise P) (sym (map-lead P.field ks)) (rise_of ks rises);
+    increasing = subst (IsIncreasing P.order) (sym (map-lead P.field ks)) (rise_of ks rises);
     elements = λ s i. let r = map_contains (monomial_poly P.field) ks s i in
         let k = members r.0 r.1 in
         subst (IsElement P c) r.2 (element c r.0 k.0 k.1);
-    minimal = λ before after s e w. minimal (map lead before) (map lead after) (lead s)
-        (sym (map-lead P.field ks) ∙ (ap (map lead) e ∙ map-append lead before (s ∷ after)))
-        (subst (λ l. IsGenerated l (lead s)) (map-append lead before after) w);
+    minimal = λ before after s e w. minimal (map lead_monomial before) (map lead_monomial after) (lead_monomial s)
+        (sym (map-lead P.field ks) ∙ (ap (map lead_monomial) e ∙ map-append lead_monomial before (s ∷ after)))
+        (subst (λ l. IsGenerated l (lead_monomial s)) (map-append lead_monomial before after) w);
     generates = λ m h l. subst (λ x. IsGenerated x m) (sym (map-lead P.field ks))
         (generated_bounded P.order H.order (leads_of P.generators) ks c generates m (leads_generated m h) l);
   }
 
 -- the lists that the program makes of them
-leads_of-append : {E : Type 0} (fs gs : List (List (Term E))) → leads_of (fs ++ gs) ≡ leads_of fs ++ leads_of gs
+leads_of-append : {E : Type 0} (fs gs : List (Polynomial E)) → leads_of (fs ++ gs) ≡ leads_of fs ++ leads_of gs
 leads_of-append [] gs = refl
 leads_of-append ([] ∷ fs) gs = leads_of-append fs gs
 leads_of-append ((t ∷ f) ∷ fs) gs = ap (λ l. t.at ∷ l) (leads_of-append fs gs)
 
-leads_of_more : {E : Type 0} (fs : List (List (Term E))) (i : ℕ) (f : List (Term E)) → i < length fs → f ≡ get_or fs i f → leads_of (take (i + 1) fs) ≡ leads_of (take i fs) ++ leads_of (f ∷ [])
+leads_of_more : {E : Type 0} (fs : List (Polynomial E)) (i : ℕ) (f : Polynomial E) → i < length fs → f ≡ get_or fs i f → leads_of (take (i + 1) fs) ≡ leads_of (take i fs) ++ leads_of (f ∷ [])
 leads_of_more fs i f l e =
     ap leads_of (take_more fs i f l) ∙ (leads_of-append (take i fs) (get_or fs i f ∷ []) ∙ ap (λ g. leads_of (take i fs) ++ leads_of (g ∷ [])) (sym e))
 
-pub leads_of_nonzero : {E : Type 0} (fs : List (List (Term E))) (i : ℕ) (f : List (Term E)) (ls ms : List (List ℕ)) (t : Term E) (k : List ℕ) → i < length fs → f ≡ get_or fs i f →
-    ls ≡ leads_of (take i fs) → (rest : List (Term E)) × (f ≡ t ∷ rest) → k ≡ t.at → ms ≡ ls ++ (k ∷ []) → ms ≡ leads_of (take (i + 1) fs)
+pub leads_of_nonzero : {E : Type 0} (fs : List (Polynomial E)) (i : ℕ) (f : Polynomial E) (ls ms : List (List ℕ)) (t : Term E) (k : List ℕ) → i < length fs → f ≡ get_or fs i f →
+    ls ≡ leads_of (take i fs) → (rest : Polynomial E) × (f ≡ t ∷ rest) → k ≡ t.at → ms ≡ ls ++ (k ∷ []) → ms ≡ leads_of (take (i + 1) fs)
 leads_of_nonzero fs i f ls ms t k l e so first is more =
     more ∙ (ap (λ x. ls ++ (x ∷ [])) is ∙ (ap (λ x. x ++ (t.at ∷ [])) so ∙
     (ap (λ g. leads_of (take i fs) ++ leads_of (g ∷ [])) (sym first.1) ∙ sym (leads_of_more fs i f l e))))
 
-pub leads_of_zero : {E : Type 0} (fs : List (List (Term E))) (i : ℕ) (f : List (Term E)) (ls ms : List (List ℕ)) → i < length fs → f ≡ get_or fs i f →
+pub leads_of_zero : {E : Type 0} (fs : List (Polynomial E)) (i : ℕ) (f : Polynomial E) (ls ms : List (List ℕ)) → i < length fs → f ≡ get_or fs i f →
     ls ≡ leads_of (take i fs) → f ≡ [] → ms ≡ ls → ms ≡ leads_of (take (i + 1) fs)
 leads_of_zero fs i f ls ms l e so zero_is same =
     same ∙ (so ∙ (sym (append-nil (leads_of (take i fs))) ∙
     (ap (λ g. leads_of (take i fs) ++ leads_of (g ∷ [])) (sym zero_is) ∙ sym (leads_of_more fs i f l e))))
 
-pub leads_small : {E : Type 0} (K : FieldOps E) (O : MonomialOrder) (fs : List (List (Term E))) → AreKeptGenerators K O fs → (m : List ℕ) → Contains (leads_of fs) m → O.degree m ≤ 65535
+pub leads_small : {E : Type 0} (K : FieldOps E) (O : MonomialOrder) (fs : List (Polynomial E)) → AreCanonicalGenerators K O fs → (m : List ℕ) → Contains (leads_of fs) m → O.degree m ≤ 65535
 leads_small K O [] h m c = absurd (contains_none m c)
 leads_small K O ([] ∷ fs) h m c = leads_small K O fs h.1 m c
 leads_small K O ((t ∷ f) ∷ fs) h m c =
     ⊎_elim (λ e. subst (λ x. O.degree x ≤ 65535) e h.0.kept.small.0) (λ k. leads_small K O fs h.1 m k) (contains_cases t.at (leads_of fs) m c)
 
-pub polynomials_more : {E : Type 0} (K : FieldOps E) → IsField K → (ms : List (List ℕ)) (ps qs : List (List (Term E))) (m : List ℕ) (c : E) (p : List (Term E)) → c ≡ K.one →
+pub polynomials_more : {E : Type 0} (K : FieldOps E) → IsField K → (ms : List (List ℕ)) (ps qs : List (Polynomial E)) (m : List ℕ) (c : E) (p : Polynomial E) → c ≡ K.one →
     (c ≢ K.zero → p ≡ term_of m c ∷ []) → ps ≡ map (monomial_poly K) ms → qs ≡ ps ++ (p ∷ []) → qs ≡ map (monomial_poly K) (ms ++ (m ∷ []))
 polynomials_more K F ms ps qs m c p one is so more =
     more ∙ (ap (λ l. l ++ (p ∷ [])) so ∙

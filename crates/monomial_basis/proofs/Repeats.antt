@@ -2,7 +2,7 @@
 use Rattle.std.proofs.Common.{◌≡◌, List, [], ◌∷◌, refl, sym, ◌∙◌, subst, cond, Bool, true, false, ⊎_elim}
 use Rattle.std.specs.Prelude.{Contains}
 use Rattle.std.specs.List.{dedup, dedup_from}
-use Rattle.monomial_order.specs.Lists.{contains_cases, contains_here, contains_there}
+use Rattle.monomial_order.specs.laws.Lists.{contains_cases, contains_here, contains_there}
 
 module _ {A : Type 0} (same : A → A → Bool) where
   keeps_from : ((a b : A) → same a b ≡ true → a ≡ b) → (y : A) (xs : List A) (k : A) → Contains (y ∷ xs) k → Contains (dedup_from same y xs) k

@@ -2,7 +2,7 @@
 use Rattle.std.specs.Prelude.{◌≡◌, ℕ, ◌⊎◌, List, [], ◌∷◌, ◌++◌, Contains}
 use Rattle.std.specs.declared.cmp.Ordering.TheVariants.{Less}
 use Rattle.monomial_order.specs.MonomialOrder.{MonomialOrder}
-use Rattle.poly_core.specs.Subalgebra.{IsGenerated}
+use Rattle.polynomials.specs.Subalgebra.{IsGenerated}
 
 -- each is less than the next
 abbrev pub Rises : MonomialOrder → List (List ℕ) → Type 0

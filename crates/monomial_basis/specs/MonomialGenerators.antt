@@ -1,23 +1,23 @@
 -- Generators that are monomials.
 use Rattle.std.specs.Prelude.{◌≡◌, ℕ, ◌⊎◌, List, [], ◌∷◌, Contains}
 use Rattle.word_field.specs.Field.{FieldOps}
-use Rattle.monomial_order.specs.declared.Term.{Term}
-use Rattle.poly_core.specs.Poly.{term_of}
+use Rattle.monomial_order.specs.declared.terms.Term.{Term}
+use Rattle.polynomials.specs.Polynomial.{Polynomial, term_of}
 
 module _ {E : Type 0} (K : FieldOps E) where
   -- the polynomial m, with the coefficient 1
-  abbrev pub monomial_poly : List ℕ → List (Term E)
+  abbrev pub monomial_poly : List ℕ → Polynomial E
   monomial_poly m = term_of m K.one ∷ []
 
   -- f is zero or a monomial
-  abbrev pub IsMonomialOrZero : List (Term E) → Type 0
+  abbrev pub IsMonomialOrZero : Polynomial E → Type 0
   IsMonomialOrZero f = (f ≡ []) ⊎ ((m : List ℕ) × (f ≡ monomial_poly m))
 
-  abbrev pub AreMonomials : List (List (Term E)) → Type 0
-  AreMonomials fs = (f : List (Term E)) → Contains fs f → IsMonomialOrZero f
+  abbrev pub AreMonomials : List (Polynomial E) → Type 0
+  AreMonomials fs = (f : Polynomial E) → Contains fs f → IsMonomialOrZero f
 
 -- the leads of those that are not zero
-abbrev pub leads_of : {E : Type 0} → List (List (Term E)) → List (List ℕ)
+abbrev pub leads_of : {E : Type 0} → List (Polynomial E) → List (List ℕ)
 leads_of [] = []
 leads_of ([] ∷ fs) = leads_of fs
 leads_of ((t ∷ f) ∷ fs) = t.at ∷ leads_of fs

@@ -3,7 +3,7 @@ use Rattle.std.specs.Prelude.{◌≡◌, ◌≢◌, ℕ, ◌<◌, ◌≤◌, Lis
 use Rattle.std.specs.declared.alloc.Global.{Global}
 use Rattle.monomial_order.specs.Monomial.{IsMonomial}
 use Rattle.monomial_order.specs.MonomialOrder.{MonomialOrder}
-use Rattle.poly_core.specs.Subalgebra.{IsGenerated}
+use Rattle.polynomials.specs.Subalgebra.{IsGenerated}
 
 -- a monomial of positive degree
 pub record IsFactor (O : MonomialOrder) (g : List ℕ) : Type 0 where

@@ -2,7 +2,7 @@
 ghost use Rattle.std.specs.Prelude.{◌≡◌, ℕ, ◌≤◌, List, Contains, MatchOption, IfSome, IfOk, OnOk, IsTrue, ◌↔◌};
 ghost use Rattle.std.specs.declared.cmp.Ordering.TheVariants.{Less};
 ghost use Rattle.monomial_order.specs.Monomial.{IsMonomial};
-ghost use Rattle.poly_core.specs.Subalgebra.{IsGenerated};
+ghost use Rattle.polynomials.specs.Subalgebra.{IsGenerated};
 ghost use Rattle.monomial_basis.specs.Products.{AreFactors};
 ghost use Rattle.monomial_basis.specs.MinimalGenerators.{Rises, IsMinimal, IsLeastAbove, HasNoneAbove, AddsUnlessGenerated};
 
@@ -19,7 +19,7 @@ pub fn minimal_generators<O: Order>(
 ) -> Result<Vec<Monomial>, Memory>
     requires factors { AreFactors (O.order o.now) monomials.now }
     requires small { (m : List ℕ) → Contains monomials.now m → (O.order o.now).degree m ≤ 65535 }
-    ensures rise { IfOk result (λ s. Rises (O.order o.now) s.items) }
+    ensures increasing { IfOk result (λ s. Rises (O.order o.now) s.items) }
     ensures members { IfOk result (λ s. (m : List ℕ) → Contains s.items m
         → Contains monomials.now m × ((O.order o.now).degree m ≤ bound)) }
     ensures minimal { IfOk result (λ s. IsMinimal s.items) }

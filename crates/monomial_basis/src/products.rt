@@ -1,7 +1,7 @@
 //! Whether a monomial is a product of others.
 ghost use Rattle.std.specs.Prelude.{◌≡◌, ◌≢◌, ℕ, ◌+◌, ◌<◌, ◌≤◌, ◌↔◌, ◌⊎◌, List, [], length, false, Contains, IsTrue, IfOk, OnOk, IfSome, IsNone};
 ghost use Rattle.monomial_order.specs.Monomial.{exponent, product, Divides, IsMonomial, IsTrimmed};
-ghost use Rattle.poly_core.specs.Subalgebra.{IsGenerated};
+ghost use Rattle.polynomials.specs.Subalgebra.{IsGenerated};
 ghost use Rattle.monomial_basis.specs.Products.{AreFactors, IsDividend, IsPending, IsQuotient, SomePending};
 
 use monomial_order::{Memory, Monomial, Order};

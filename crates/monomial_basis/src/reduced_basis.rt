@@ -1,13 +1,13 @@
 //! The reduced basis of a subalgebra of monomials.
 ghost use Rattle.std.specs.Prelude.{◌≡◌, ℕ, ◌++◌, List, [], ◌∷◌, map, IfOk, OnOk};
 ghost use Rattle.poly_core.specs.Presentation.{presented, IsValid};
-ghost use Rattle.poly_core.specs.Subalgebra.{IsReducedBasis};
+ghost use Rattle.polynomials.specs.Subalgebra.{IsReducedBasis};
 ghost use Rattle.monomial_basis.specs.MonomialGenerators.{monomial_poly, AreMonomials, leads_of};
 
 use crate::minimal_generators;
 use monomial_order::{Memory, Monomial, Order};
-use poly_core::poly::Poly;
-use poly_core::presentation::Presentation;
+use poly_core::Poly;
+use poly_core::Presentation;
 use std::alloc::Global;
 use word_field::Field;
 

@@ -6,7 +6,7 @@ use Rattle.word_field.specs.Residues.{residues}
 use Rattle.word_field.specs.declared.WordField.{WordField}
 use Rattle.monomial_order.specs.declared.weight_order.WeightOrder.{WeightOrder}
 use Rattle.poly_core.specs.Presentation.{IsSame}
-use Rattle.poly_core.specs.declared.presentation.Presentation.{Presentation}
+use Rattle.poly_core.specs.declared.presentations.Presentation.{Presentation}
 use Rattle.polynomial_text.specs.declared.text_kind.TextKind.{TextKind}
 use Rattle.polynomial_text.specs.Results.{Fault}
 use Rattle.presentation_text.specs.Reading.{reading}

@@ -2,15 +2,16 @@
 use Rattle.std.proofs.Common.{◌≡◌, ℕ, suc, ◌+◌, ◌<◌, ◌≤◌, List, ◌∷◌, ◌++◌, length, get_or, drop, Option, Result, Ok, Err, sym, ap, subst, ◌∙◌, add-one, append_assoc, drop-cons}
 use Rattle.std.specs.Prelude.{codes}
 use Rattle.std.specs.Fmt.{decimal}
-use Rattle.monomial_order.specs.declared.Term.{Term}
-use Rattle.poly_core.specs.declared.names.Names.{Names}
-use Rattle.poly_core.specs.Subalgebra.{Presented}
+use Rattle.monomial_order.specs.declared.terms.Term.{Term}
+use Rattle.poly_core.specs.declared.place_names.Names.{Names}
+use Rattle.polynomials.specs.Subalgebra.{Presented}
 use Rattle.sagbi_cli.specs.declared.print_fault.PrintFault.{PrintFault}
 use Rattle.sagbi_cli.specs.declared.print_fault.PrintFault.TheVariants.{Sink, Memory}
 use Rattle.sagbi_cli.specs.Printing.{Prints}
 use Rattle.sagbi_cli.specs.ReportText.{element_line, element_lines, report_text}
 use Rattle.sagbi_cli.specs.SinkChange.{SinkChange, change, TakesWhole}
 use Rattle.sagbi_cli.proofs.Putting.{continues-append, front-append, front-after, failed-after}
+use Rattle.polynomials.specs.Polynomial.{Polynomial}
 
 -- a text that was not printed whole, with one behind it
 pub prints-before : (e : PrintFault) (xs ys : List ℕ) (p : SinkChange) → Prints (Err e) xs p → Prints (Err e) (xs ++ ys) p
@@ -37,7 +38,7 @@ module _ {S : Type 0} (taken : S → Option (List ℕ)) (faults : S → ℕ) whe
 
 module _ {E : Type 0} (P : Presented E) (names : Names) where
   -- the lines from an element on are its line and those after it
-  pub next-line : (all front : List ℕ) (basis : List (List (Term E))) (i : ℕ) (s : List (Term E)) → i < length basis → s ≡ get_or basis i s
+  pub next-line : (all front : List ℕ) (basis : List (Polynomial E)) (i : ℕ) (s : Polynomial E) → i < length basis → s ≡ get_or basis i s
       → all ≡ front ++ element_lines P names (i + 1) (drop i basis)
       → all ≡ (front ++ element_line P names (i + 1) s) ++ element_lines P names ((i + 1) + 1) (drop (i + 1) basis)
   next-line all front basis i s lt at is =
@@ -51,10 +52,10 @@ module _ {E : Type 0} (P : Presented E) (names : Names) where
   head_text bound count = codes "report 1\nbound " ++ (decimal bound ++ (codes "\nbasis " ++ (decimal count ++ codes "\n")))
 
   -- the head, the lines and the end
-  report-parts : (bound : ℕ) (S : List (List (Term E))) → report_text P names bound S ≡ head_text bound (length S) ++ (element_lines P names 1 S ++ codes "end\n")
+  report-parts : (bound : ℕ) (S : List (Polynomial E)) → report_text P names bound S ≡ head_text bound (length S) ++ (element_lines P names 1 S ++ codes "end\n")
   report-parts bound S = sym (simp append_assoc)
 
   -- the same after any head that has that text
-  pub report-whole : (bound : ℕ) (S : List (List (Term E))) (head : List ℕ) → head ≡ head_text bound (length S)
+  pub report-whole : (bound : ℕ) (S : List (Polynomial E)) (head : List ℕ) → head ≡ head_text bound (length S)
       → report_text P names bound S ≡ head ++ (element_lines P names 1 S ++ codes "end\n")
   report-whole bound S head is = report-parts bound S ∙ ap (λ (l : List ℕ). l ++ (element_lines P names 1 S ++ codes "end\n")) (sym is)

@@ -3,7 +3,7 @@ use Rattle.std.specs.Prelude.{◌≡◌, ◌<◌, ◌≤◌, ◌⊎◌, ℕ, Lis
 use Rattle.std.specs.FinMap as map
 use Rattle.word_field.specs.declared.WordField.{WordField}
 use Rattle.monomial_order.specs.declared.weight_order.WeightOrder.{WeightOrder}
-use Rattle.poly_core.specs.declared.presentation.Presentation.{Presentation}
+use Rattle.poly_core.specs.declared.presentations.Presentation.{Presentation}
 use Rattle.presentation_text.specs.Reading.{reading}
 use Rattle.presentation_text.specs.Meaning.{text_max, IsRead}
 use Rattle.shelf_io.specs.Shelf.{Files}

@@ -1,7 +1,7 @@
 //! What a run does with the bytes of its presentation.
 ghost use Rattle.std.specs.Prelude.{◌≢◌, ℕ, List};
 ghost use Rattle.word_field.specs.Residues.{residues};
-ghost use Rattle.poly_core.specs.Presentation.{order_of, IsValid};
+ghost use Rattle.poly_core.specs.Presentation.{weight_order_of, IsValid};
 ghost use Rattle.presentation_text.specs.Meaning.{IsRead};
 ghost use Rattle.sagbi_cli.specs.Built.{IsBuilt};
 ghost use Rattle.sagbi_cli.specs.Command.{IsBound};
@@ -13,7 +13,7 @@ use crate::report::print;
 use crate::{Outcome, PrintFault};
 use monomial_basis::complete;
 use monomial_order::WeightOrder;
-use poly_core::presentation::Presentation;
+use poly_core::Presentation;
 use presentation_text::{TextFault, read};
 use shelf_io::Sink;
 use std::alloc::Global;
@@ -40,7 +40,7 @@ fn report_if_built<K: Sink>(
     bound: u32,
     out: &mut K,
 ) -> Outcome
-    requires valid { IsValid (λ f. residues f.modulus) order_of p.now }
+    requires valid { IsValid (λ f. residues f.modulus) weight_order_of p.now }
     requires bound { IsBound bound }
     ensures puts { (bytes : List ℕ) → IsRead bytes p.now → IsShort bytes
         → PutsOn bytes bound result (change K.taken K.faults out.old out.new) }
@@ -60,7 +60,7 @@ fn report<K: Sink>(
     bound: u32,
     out: &mut K,
 ) -> Outcome
-    requires valid { IsValid (λ f. residues f.modulus) order_of p.now }
+    requires valid { IsValid (λ f. residues f.modulus) weight_order_of p.now }
     requires built { IsBuilt p.now }
     requires bound { IsBound bound }
     ensures puts { (bytes : List ℕ) → IsRead bytes p.now → IsShort bytes

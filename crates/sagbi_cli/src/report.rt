@@ -9,9 +9,9 @@ ghost use Rattle.sagbi_cli.specs.SinkChange.{change};
 use crate::PrintFault;
 use crate::put::put_all;
 use monomial_order::{Memory, Order};
-use poly_core::poly::Poly;
-use poly_core::presentation::Presentation;
-use poly_core::text::write_word;
+use poly_core::Poly;
+use poly_core::Presentation;
+use poly_core::write_monomial;
 use shelf_io::Sink;
 use std::alloc::{AllocError, Global};
 use word_field::Field;
@@ -44,7 +44,7 @@ fn line<F: Field, O: Order>(
         unreachable!()
     };
     let numbers = numbers(alloc, index, p.order.degree(&first.at))?;
-    let word = write_word(alloc, &first.at, &p.names)?;
+    let word = write_monomial(alloc, &first.at, &p.names)?;
     let text = Poly::write(alloc, &p.field, element, &p.names)?;
     let mut line = Vec::from_slice(alloc, numbers.as_bytes())?;
     line.extend_from_slice(&word)?;

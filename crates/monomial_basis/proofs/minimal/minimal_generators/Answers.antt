@@ -26,8 +26,8 @@ rising-smaller g c =
 
 pub returns-then-degree-bound-clause-minimal : goal.returns-then-degree-bound-clause-minimal
 returns-then-degree-bound-clause-minimal g c =
-    minimal (g.O.Order.order c.args.o.now) (g.met.O.Order.laws c.args.o.now) c.rising.minimal.items c.rising.invariant.rise c.rising.invariant.irreducible
+    minimal (g.O.Order.order c.args.o.now) (g.met.O.Order.laws c.args.o.now) c.rising.minimal.items c.rising.invariant.increasing c.rising.invariant.irreducible
 
 pub returns-clause-minimal : goal.returns-clause-minimal
 returns-clause-minimal g c =
-    minimal (g.O.Order.order c.args.o.now) (g.met.O.Order.laws c.args.o.now) c.rising.minimal.items c.rising.invariant.rise c.rising.invariant.irreducible
+    minimal (g.O.Order.order c.args.o.now) (g.met.O.Order.laws c.args.o.now) c.rising.minimal.items c.rising.invariant.increasing c.rising.invariant.irreducible

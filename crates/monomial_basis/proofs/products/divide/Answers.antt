@@ -1,6 +1,6 @@
 use Rattle.std.proofs.Common.{◌≡◌, ◌≢◌, ℕ, ◌-◌, List, [], ◌∷◌, length, arith, refl, sym, ap, ◌∙◌, subst, inr, ⊎_elim}
 use Rattle.monomial_order.specs.Monomial.{exponent, IsTrimmed, product}
-use Rattle.poly_core.specs.Subalgebra.{IsGenerated}
+use Rattle.polynomials.specs.Subalgebra.{IsGenerated}
 use Rattle.monomial_basis.specs.Products.{IsPending, IsQuotient}
 use Rattle.monomial_basis.proofs.Dividing.{found_more, product_cancel, divides_product, generated_more, generated_one, quotient_monomial, quotient_is, some_place, last_exponent, some_pending}
 use Rattle.monomial_basis.proofs.products.divide.Goals as goal

@@ -1,7 +1,6 @@
-use Rattle.std.proofs.Common.{ℕ, ◌≤◌, List, length, arith, sym, ◌∙◌, subst, inl, inr, ⊎_elim, drop}
+use Rattle.std.proofs.Common.{ℕ, ◌≤◌, List, length, arith, sym, ◌∙◌, subst, inl, inr, ⊎_elim, drop, length-drop}
 use Rattle.std.specs.Prelude.{Contains}
-use Rattle.std.proofs.Common.{length-drop}
-use Rattle.poly_core.specs.Subalgebra.{IsGenerated}
+use Rattle.polynomials.specs.Subalgebra.{IsGenerated}
 use Rattle.monomial_basis.specs.Products.{SomePending}
 use Rattle.monomial_basis.proofs.Dividing.{rest_cases}
 use Rattle.monomial_basis.proofs.products.divide_pending.Goals as goal

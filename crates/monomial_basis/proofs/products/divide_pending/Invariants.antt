@@ -1,6 +1,6 @@
 use Rattle.std.proofs.Common.{◌≡◌, ℕ, ◌+◌, ◌⊎◌, List, length, drop}
 use Rattle.std.specs.Prelude.{Contains}
-use Rattle.poly_core.specs.Subalgebra.{IsGenerated}
+use Rattle.polynomials.specs.Subalgebra.{IsGenerated}
 use Rattle.monomial_basis.specs.Products.{IsPending, IsQuotient, SomePending}
 use Rattle.monomial_basis.proofs.products.divide_pending.Given as goal
 

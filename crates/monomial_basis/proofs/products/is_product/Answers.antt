@@ -1,6 +1,6 @@
 use Rattle.std.proofs.Common.{◌≡◌, ◌+◌, ◌-◌, length, arith, refl, sym, ap, ◌∙◌, subst, ⊎_elim}
 use Rattle.monomial_order.specs.Monomial.{IsMonomial}
-use Rattle.poly_core.specs.Subalgebra.{IsGenerated}
+use Rattle.polynomials.specs.Subalgebra.{IsGenerated}
 use Rattle.monomial_basis.specs.Products.{SomePending}
 use Rattle.monomial_basis.proofs.Dividing.{degree_zero}
 use Rattle.monomial_basis.proofs.products.is_product.Goals as goal

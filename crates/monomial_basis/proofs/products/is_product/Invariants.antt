@@ -1,5 +1,5 @@
 use Rattle.std.proofs.Common.{◌≡◌, ℕ, ◌+◌, ◌-◌, List, length}
-use Rattle.poly_core.specs.Subalgebra.{IsGenerated}
+use Rattle.polynomials.specs.Subalgebra.{IsGenerated}
 use Rattle.monomial_basis.specs.Products.{IsPending, IsQuotient, SomePending}
 use Rattle.monomial_basis.proofs.products.is_product.Given as goal
 

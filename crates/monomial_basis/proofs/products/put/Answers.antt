@@ -1,6 +1,6 @@
 use Rattle.std.proofs.Common.{[], ◌∷◌, sym, subst}
 use Rattle.std.specs.Prelude.{Contains}
-use Rattle.monomial_order.specs.Lists.{contains_left}
+use Rattle.monomial_order.specs.laws.Lists.{contains_left}
 use Rattle.monomial_basis.proofs.products.put.Goals as goal
 
 pub returns-clause-keeps : goal.returns-clause-keeps

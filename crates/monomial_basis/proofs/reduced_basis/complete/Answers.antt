@@ -2,7 +2,7 @@ use Rattle.std.proofs.Common.{◌≡◌, sym, ◌∙◌, ap, subst}
 use Rattle.std.proofs.lemmas.Result.{IfOk-weaker}
 use Rattle.std.specs.Prelude.{Contains, map}
 use Rattle.poly_core.specs.Presentation.{presented}
-use Rattle.poly_core.specs.Subalgebra.{IsReducedBasis}
+use Rattle.polynomials.specs.Subalgebra.{IsReducedBasis}
 use Rattle.monomial_basis.specs.Products.{AreFactors}
 use Rattle.monomial_basis.specs.MonomialGenerators.{monomial_poly, leads_of}
 use Rattle.monomial_basis.proofs.MonomialBasis.{monomial_basis, leads_are_factors, leads_small}
@@ -25,7 +25,7 @@ returns g c =
     let k = c.in_ok-needed.ensures in
     IfOk-weaker c.polynomials.result (λ s. s.items ≡ map (monomial_poly P.field) c.in_ok-needed.needed.items) (λ s. IsReducedBasis P c.args.bound s.items)
     (λ s e. subst (IsReducedBasis P c.args.bound) (sym e)
-    (monomial_basis P c.requires.valid.presentation c.requires.no_ideal c.requires.monomials c.args.bound c.in_ok-needed.needed.items k.rise
+    (monomial_basis P c.requires.valid.presentation c.requires.no_ideal c.requires.monomials c.args.bound c.in_ok-needed.needed.items k.increasing
     (λ m i. let r = k.members m i in (subst (λ l. Contains l m) is r.0, r.1)) k.minimal
     (λ m i l. k.generates m (subst (λ x. Contains x m) (sym is) i) l)))
     c.polynomials.ensures

@@ -1,5 +1,5 @@
 use Rattle.std.proofs.Common.{inr, arith}
-use Rattle.poly_core.specs.Subalgebra.{IsReducedBasis}
+use Rattle.polynomials.specs.Subalgebra.{IsReducedBasis}
 use Rattle.sagbi_cli.specs.Report.{meaning_of}
 use Rattle.sagbi_cli.proofs.Printable.{basis_printable, reported}
 use Rattle.sagbi_cli.proofs.answer.report.Goals as goal

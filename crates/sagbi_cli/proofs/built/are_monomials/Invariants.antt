@@ -1,8 +1,9 @@
 use Rattle.std.proofs.Common.{ℕ, List, ◌≡◌, ◌<◌, slice_index_or}
-use Rattle.monomial_order.specs.declared.Term.{Term}
+use Rattle.monomial_order.specs.declared.terms.Term.{Term}
 use Rattle.word_field.specs.Residues.{residues}
 use Rattle.monomial_basis.specs.MonomialGenerators.{IsMonomialOrZero}
 use Rattle.sagbi_cli.proofs.built.are_monomials.Given as goal
+use Rattle.polynomials.specs.Polynomial.{Polynomial}
 
 abbrev pub invariant-loop-p : goal.invariant-loop-p
-invariant-loop-p l = (f : List (Term ℕ)) (k : ℕ) → k < l.p-index → slice_index_or l.list k f ≡ f → IsMonomialOrZero (residues l.f.modulus) f
+invariant-loop-p l = (f : Polynomial ℕ) (k : ℕ) → k < l.p-index → slice_index_or l.list k f ≡ f → IsMonomialOrZero (residues l.f.modulus) f
