@@ -8,6 +8,7 @@ use Rattle.monomial_order.specs.MonomialOrder.{MonomialOrder, IsMonomialOrder}
 use Rattle.monomial_order.specs.laws.Monomial.{product_assoc, product_comm, exponent-product, exponent_past, IsMonomial-product}
 use Rattle.monomial_order.specs.laws.Cofactors.{same_exponents, length-product_right}
 use Rattle.monomial_order.specs.laws.Lists.{contains_cases}
+use Rattle.monomial_order.specs.laws.Comparing.{degree_one}
 use Rattle.polynomials.specs.Subalgebra.{IsGenerated, AllIn, product_of}
 use Rattle.monomial_basis.specs.Products.{AreFactors, IsQuotient, SomePending, IsPending}
 
@@ -109,11 +110,8 @@ module _ (O : MonomialOrder) (L : IsMonomialOrder O) (gs : List (List ℕ)) (F :
         | false ↦ λ f. let w = h.within in let l : O.places ≤ i = ltb-false i O.places f in let z = exponent_past k i (omega arith) in omega arith
       ] refl)
 
-  pub degree_one : O.degree [] ≡ 0
-  degree_one = let e = L.degree_product [] [] in omega arith
-
   pub some_place : (m : List ℕ) → 1 ≤ O.degree m → 1 ≤ length m
-  some_place [] h = absurd (let z = degree_one in omega arith)
+  some_place [] h = absurd (let z = degree_one O L in omega arith)
   some_place (a ∷ m) h = omega arith
 
   -- a product that has the place p has a pending quotient

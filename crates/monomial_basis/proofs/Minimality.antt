@@ -1,4 +1,4 @@
--- Lists of monomials that rise, and in which a member is a product of members only where it is one of the factors.
+-- Increasing lists of monomials in which a member is a product of members only if it is one of the factors.
 use Rattle.std.proofs.Common.{◌≡◌, ℕ, suc, ◌+◌, ◌<◌, ◌≤◌, refl, sym, ◌∙◌, ap, subst, List, [], ◌∷◌, ◌++◌, length, arith, cond, ◌⊎◌, inl, inr, ⊎_elim, Bool, true, false, get_or}
 use Rattle.std.specs.Prelude.{Contains, Option, Some, None, MatchOption, IsTrue, ◌↔◌}
 use Rattle.std.proofs.lemmas.Bool.{true≢false}
@@ -6,33 +6,29 @@ use Rattle.std.specs.Ordering.{is_lt}
 use Rattle.std.specs.declared.cmp.Ordering.{Ordering}
 use Rattle.std.specs.declared.cmp.Ordering.TheVariants.{Less, Equal, Greater}
 use Rattle.monomial_order.specs.Monomial.{product, IsMonomial}
-use Rattle.monomial_order.specs.MonomialOrder.{MonomialOrder, IsMonomialOrder}
+use Rattle.monomial_order.specs.MonomialOrder.{MonomialOrder, IsMonomialOrder, IsIncreasing}
 use Rattle.monomial_order.specs.laws.Monomial.{product_comm, product_assoc, product-one}
-use Rattle.monomial_order.specs.laws.Comparing.{less_or_not, not_below_self, three_ways, degree_falls}
+use Rattle.monomial_order.specs.laws.Comparing.{less_or_not, not_below_self, three_ways, degree_falls, degree_one, increasing_below, increasing_tail}
 use Rattle.monomial_order.specs.laws.Lists.{contains_cases, contains_here, contains_there, contains_none, contains_left, contains_right}
 use Rattle.polynomials.specs.Subalgebra.{IsGenerated, AllIn, product_of}
 use Rattle.monomial_basis.specs.Products.{AreFactors, IsFactor}
-use Rattle.monomial_basis.specs.MinimalGenerators.{Rises, IsMinimal, IsLeastAbove, HasNoneAbove, AddsUnlessGenerated}
-use Rattle.monomial_basis.proofs.Dividing.{product_of_monomial, degree_zero, degree_one, any_default}
-
-pub contains_append : {A : Type 0} (xs ys : List A) (x : A) → Contains (xs ++ ys) x → Contains xs x ⊎ Contains ys x
-contains_append [] ys x h = inr h
-contains_append (z ∷ xs) ys x h =
-    ⊎_elim (λ e. inl (subst (Contains (z ∷ xs)) e (contains_here z xs)))
-    (λ k. ⊎_elim (λ l. inl (contains_there z xs x l)) inr (contains_append xs ys x k)) (contains_cases z (xs ++ ys) x h)
+use Rattle.monomial_basis.specs.MinimalGenerators.{IsMinimal, IsLeastAbove, HasNoneAbove, AddsUnlessGenerated}
+use Rattle.monomial_basis.proofs.Dividing.{product_of_monomial, degree_zero, any_default}
 
 split_at : (i j : ℕ) → j < i + 1 → (j ≡ i) ⊎ (j < i)
 split_at i j h = grind arith
 
-contains_one : {A : Type 0} (y x : A) → Contains (y ∷ []) x → y ≡ x
-contains_one y x h = ⊎_elim (λ e. e) (λ k. absurd (contains_none x k)) (contains_cases y [] x h)
-
 contains_end : {A : Type 0} (xs : List A) (y x : A) → Contains (xs ++ (y ∷ [])) x → Contains xs x ⊎ (y ≡ x)
-contains_end xs y x h = ⊎_elim inl (λ k. inr (contains_one y x k)) (contains_append xs (y ∷ []) x h)
+contains_end [] y x h = ⊎_elim inr (λ k. absurd (contains_none x k)) (contains_cases y [] x h)
+contains_end (z ∷ xs) y x h =
+    ⊎_elim (λ e. inl (subst (Contains (z ∷ xs)) e (contains_here z xs)))
+    (λ k. ⊎_elim (λ l. inl (contains_there z xs x l)) inr (contains_end xs y x k)) (contains_cases z (xs ++ (y ∷ [])) x h)
 
 contains_middle : {A : Type 0} (before after : List A) (m x : A) → Contains (before ++ after) x → Contains (before ++ (m ∷ after)) x
-contains_middle before after m x h =
-    ⊎_elim (λ k. contains_left before (m ∷ after) x k) (λ k. contains_right before (m ∷ after) x (contains_there m after x k)) (contains_append before after x h)
+contains_middle [] after m x h = contains_there m after x h
+contains_middle (b ∷ before) after m x h =
+    ⊎_elim (λ e. subst (Contains (b ∷ (before ++ (m ∷ after)))) e (contains_here b (before ++ (m ∷ after))))
+    (λ k. contains_there b (before ++ (m ∷ after)) x (contains_middle before after m x k)) (contains_cases b (before ++ after) x h)
 
 -- factors
 all_in_weaker : (M N : List (List ℕ)) → ((g : List ℕ) → Contains M g → Contains N g) → (fs : List (List ℕ)) → AllIn M fs → AllIn N fs
@@ -75,7 +71,7 @@ IsIrreducible ks = (fs : List (List ℕ)) → AllIn ks fs → Contains ks (produ
 module _ (O : MonomialOrder) where
   -- ks has what is needed of the members of ms up to `last`
   pub record IsMinimalSoFar (ms : List (List ℕ)) (bound : ℕ) (last : List ℕ) (ks : List (List ℕ)) : Type 0 where
-    pub increasing : Rises O ks
+    pub increasing : IsIncreasing O ks
     pub members : (m : List ℕ) → Contains ks m → Contains ms m × (O.degree m ≤ bound)
     pub irreducible : IsIrreducible ks
     pub below : (m k : List ℕ) → Contains ks m → O.compare last k ≡ Less → O.compare m k ≡ Less
@@ -99,32 +95,23 @@ module _ (O : MonomialOrder) where
   IsSought now ms m i (Some k) = IsLeastBefore ms m i (now k)
 
 module _ (O : MonomialOrder) (L : IsMonomialOrder O) where
-  rises_tail : (a : List ℕ) (ks : List (List ℕ)) → Rises O (a ∷ ks) → Rises O ks
-  rises_tail a [] h = tt
-  rises_tail a (b ∷ ks) h = h.1
-
-  rises_above : (a : List ℕ) (ks : List (List ℕ)) (k : List ℕ) → Rises O (a ∷ ks) → Contains ks k → O.compare a k ≡ Less
-  rises_above a [] k h c = absurd (contains_none k c)
-  rises_above a (b ∷ ks) k h c =
-      ⊎_elim (λ e. subst (λ y. O.compare a y ≡ Less) e h.0) (λ r. L.total.trans a b k h.0 (rises_above b ks k h.1 r)) (contains_cases b ks k c)
-
-  rises_distinct : (before after : List (List ℕ)) (m : List ℕ) → Rises O (before ++ (m ∷ after)) → Contains (before ++ after) m → ⊥
-  rises_distinct [] after m h c = not_below_self O L m (rises_above m after m h c)
-  rises_distinct (b ∷ before) after m h c =
+  increasing_distinct : (before after : List (List ℕ)) (m : List ℕ) → IsIncreasing O (before ++ (m ∷ after)) → Contains (before ++ after) m → ⊥
+  increasing_distinct [] after m h c = not_below_self O L m (increasing_below O L m after h m c)
+  increasing_distinct (b ∷ before) after m h c =
       ⊎_elim
       (λ e. not_below_self O L m (subst (λ y. O.compare y m ≡ Less) e
-      (rises_above b (before ++ (m ∷ after)) m h (contains_right before (m ∷ after) m (contains_here m after)))))
-      (λ r. rises_distinct before after m (rises_tail b (before ++ (m ∷ after)) h) r)
+      (increasing_below O L b (before ++ (m ∷ after)) h m (contains_right before (m ∷ after) m (contains_here m after)))))
+      (λ r. increasing_distinct before after m (increasing_tail O b (before ++ (m ∷ after)) h) r)
       (contains_cases b (before ++ after) m c)
 
-  rises_more : (ks : List (List ℕ)) (x : List ℕ) → Rises O ks → ((k : List ℕ) → Contains ks k → O.compare k x ≡ Less) → Rises O (ks ++ (x ∷ []))
-  rises_more [] x h below = tt
-  rises_more (a ∷ []) x h below = (below a (contains_here a []), tt)
-  rises_more (a ∷ (b ∷ ks)) x h below = (h.0, rises_more (b ∷ ks) x h.1 (λ k c. below k (contains_there a (b ∷ ks) k c)))
+  increasing_more : (ks : List (List ℕ)) (x : List ℕ) → IsIncreasing O ks → ((k : List ℕ) → Contains ks k → O.compare k x ≡ Less) → IsIncreasing O (ks ++ (x ∷ []))
+  increasing_more [] x h below = tt
+  increasing_more (a ∷ []) x h below = (below a (contains_here a []), tt)
+  increasing_more (a ∷ (b ∷ ks)) x h below = (h.0, increasing_more (b ∷ ks) x h.1 (λ k c. below k (contains_there a (b ∷ ks) k c)))
 
-  pub minimal : (ks : List (List ℕ)) → Rises O ks → IsIrreducible ks → IsMinimal ks
+  pub minimal : (ks : List (List ℕ)) → IsIncreasing O ks → IsIrreducible ks → IsMinimal ks
   minimal ks h irreducible before after m e w =
-      rises_distinct before after m (subst (Rises O) e h)
+      increasing_distinct before after m (subst (IsIncreasing O) e h)
       (subst (Contains (before ++ after)) w.product (all_in_member (before ++ after) w.factors (product_of w.factors) w.members
       (irreducible w.factors
       (all_in_weaker (before ++ after) ks (λ g c. subst (λ l. Contains l g) (sym e) (contains_middle before after m g c)) w.factors w.members)
@@ -157,9 +144,9 @@ module _ (O : MonomialOrder) (L : IsMonomialOrder O) where
       members = λ m c. absurd (contains_none m c);
       irreducible = λ fs h c. absurd (contains_none (product_of fs) c);
       below = λ m k c h. absurd (contains_none m c);
-      generated = λ m c n. absurd (n (L.degree_first [] m (let p = (F m c).positive in let z = degree_one O L [] (λ g k. absurd (contains_none g k)) in omega arith)));
+      generated = λ m c n. absurd (n (L.degree_first [] m (let p = (F m c).positive in let z = degree_one O L in omega arith)));
       monomial = record { trimmed = tt; within = omega arith };
-      small = let z = degree_one O L [] (λ g k. absurd (contains_none g k)) in omega arith;
+      small = let z = degree_one O L in omega arith;
     }
 
     pub so_far_factors : (last : List ℕ) (ks : List (List ℕ)) → IsMinimalSoFar O ms bound last ks → AreFactors O ks
@@ -187,7 +174,7 @@ module _ (O : MonomialOrder) (L : IsMonomialOrder O) where
           small = S x n.member;
         }))
         (λ (more : (¬ IsGenerated ks x) × (ls ≡ ks ++ (x ∷ []))). subst (IsMinimalSoFar O ms bound x) (sym more.1) (record {
-          increasing = rises_more ks x h.increasing (λ k c. h.below k x c n.above);
+          increasing = increasing_more ks x h.increasing (λ k c. h.below k x c n.above);
           members = λ m c. ⊎_elim (λ k. h.members m k) (λ e. subst (λ y. Contains ms y × (O.degree y ≤ bound)) e (n.member, le)) (contains_end ks x m c);
           irreducible = irreducible_more ks x (so_far_factors last ks h) (F x n.member) (λ k c. h.below k x c n.above) more.0 h.irreducible;
           below = λ m k c l. ⊎_elim (λ i. L.total.trans m x k (h.below m x i n.above) l) (λ e. subst (λ y. O.compare y k ≡ Less) e l) (contains_end ks x m c);

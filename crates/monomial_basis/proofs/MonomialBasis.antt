@@ -1,4 +1,5 @@
--- A subalgebra of monomials: its lead_monomial monomials are the products of its generators, and the generators that are needed are its reduced basis.
+-- A subalgebra of monomials: its lead monomials are the products of its generators, and the minimal generators are its
+-- reduced basis.
 use Rattle.std.proofs.Common.{◌≡◌, ◌≢◌, ℕ, zero, suc, ◌+◌, ◌<◌, ◌≤◌, refl, sym, ◌∙◌, ap, subst, List, [], ◌∷◌, ◌++◌, length, take, arith, cond, ⊎_elim, true, false, get_or}
 use Rattle.std.specs.Prelude.{Contains, map}
 use Rattle.std.proofs.lemmas.List.{map-append, append-nil, take_more}
@@ -20,7 +21,7 @@ use Rattle.polynomials.specs.laws.Value.{one_times}
 use Rattle.polynomials.specs.laws.Congruence.{minus_zero, congruent_same}
 use Rattle.polynomials.specs.laws.ReducedBasis.{generated_times, map_contains}
 use Rattle.monomial_basis.specs.Products.{AreFactors}
-use Rattle.monomial_basis.specs.MinimalGenerators.{Rises, IsMinimal}
+use Rattle.monomial_basis.specs.MinimalGenerators.{IsMinimal}
 use Rattle.monomial_basis.specs.MonomialGenerators.{monomial_poly, AreMonomials, leads_of}
 use Rattle.monomial_basis.proofs.Dividing.{generated_one}
 use Rattle.monomial_basis.proofs.Minimality.{generated_member}
@@ -97,12 +98,11 @@ length-variable zero = refl
 length-variable (suc i) = ap suc (length-variable i)
 
 module _ {E : Type 0} (K : FieldOps E) (F : IsField K) where
-  times_one : (p : Polynomial E) → Same K (times K p (constant K K.one)) p
-  times_one p m = times_comm K F p (constant K K.one) m ∙ one_times K F p m
-
   value_variable : (fs : List (Polynomial E)) (i : ℕ) (f : Polynomial E) → i < length fs → get_or fs i f ≡ f → Same K (monomial_value K (variable i) fs) f
   value_variable [] i f l e m = absurd (omega arith)
-  value_variable (g ∷ fs) zero f l e m = times_one (power K g 1) m ∙ (times_one g m ∙ ap (λ p. coefficient K p m) e)
+  value_variable (g ∷ fs) zero f l e m =
+      times_comm K F (power K g 1) (constant K K.one) m ∙ (one_times K F (power K g 1) m
+      ∙ (times_comm K F g (constant K K.one) m ∙ (one_times K F g m ∙ ap (λ p. coefficient K p m) e)))
   value_variable (g ∷ fs) (suc i) f l e m = one_times K F (monomial_value K (variable i) fs) m ∙ value_variable fs i f (omega arith) e m
 
   generator_value : (fs : List (Polynomial E)) (i : ℕ) (f : Polynomial E) → i < length fs → get_or fs i f ≡ f → Same K (value K (monomial_poly K (variable i)) fs) f
@@ -162,7 +162,7 @@ map-lead : {E : Type 0} (K : FieldOps E) (ks : List (List ℕ)) → map lead_mon
 map-lead K [] = refl
 map-lead K (k ∷ ks) = ap (λ l. k ∷ l) (map-lead K ks)
 
--- where the ideal has no generator, its members are zero
+-- if the ideal has no generator, its members are zero
 in_nothing : {E : Type 0} (K : FieldOps E) (n : ℕ) (rs : List (Polynomial E)) (a : Polynomial E) → rs ≡ [] → InIdeal K n rs a → Same K a []
 in_nothing {E = E} K n rs a none h = by_parts h.parts h.multiples h.sums
   where
@@ -231,16 +231,11 @@ module _ {E : Type 0} (P : Presented E) (H : IsPresentation P) (none : P.ideal �
         tail = λ n h ne. absurd (ne (sym (monomial_alone P.field H.field m n h)));
       }
 
-  rise_of : (ks : List (List ℕ)) → Rises P.order ks → IsIncreasing P.order ks
-  rise_of [] h = tt
-  rise_of (k ∷ []) h = tt
-  rise_of (k ∷ (l ∷ ks)) h = (h.0, rise_of (l ∷ ks) h.1)
-
-  -- the generators that are needed are the reduced basis
-  pub monomial_basis : (c : ℕ) (ks : List (List ℕ)) → Rises P.order ks → ((m : List ℕ) → Contains ks m → Contains (leads_of P.generators) m × (P.order.degree m ≤ c)) → IsMinimal ks →
+  -- the minimal generators are the reduced basis
+  pub monomial_basis : (c : ℕ) (ks : List (List ℕ)) → IsIncreasing P.order ks → ((m : List ℕ) → Contains ks m → Contains (leads_of P.generators) m × (P.order.degree m ≤ c)) → IsMinimal ks →
       ((m : List ℕ) → Contains (leads_of P.generators) m → P.order.degree m ≤ c → IsGenerated ks m) → IsReducedBasis P c (map (monomial_poly P.field) ks)
-  monomial_basis c ks rises members minimal generates = record {
-    increasing = subst (IsIncreasing P.order) (sym (map-lead P.field ks)) (rise_of ks rises);
+  monomial_basis c ks increasing members minimal generates = record {
+    increasing = subst (IsIncreasing P.order) (sym (map-lead P.field ks)) increasing;
     elements = λ s i. let r = map_contains (monomial_poly P.field) ks s i in
         let k = members r.0 r.1 in
         subst (IsElement P c) r.2 (element c r.0 k.0 k.1);
@@ -277,7 +272,7 @@ pub leads_small : {E : Type 0} (K : FieldOps E) (O : MonomialOrder) (fs : List (
 leads_small K O [] h m c = absurd (contains_none m c)
 leads_small K O ([] ∷ fs) h m c = leads_small K O fs h.1 m c
 leads_small K O ((t ∷ f) ∷ fs) h m c =
-    ⊎_elim (λ e. subst (λ x. O.degree x ≤ 65535) e h.0.kept.small.0) (λ k. leads_small K O fs h.1 m k) (contains_cases t.at (leads_of fs) m c)
+    ⊎_elim (λ e. subst (λ x. O.degree x ≤ 65535) e h.0.canonical.small.0) (λ k. leads_small K O fs h.1 m k) (contains_cases t.at (leads_of fs) m c)
 
 pub polynomials_more : {E : Type 0} (K : FieldOps E) → IsField K → (ms : List (List ℕ)) (ps qs : List (Polynomial E)) (m : List ℕ) (c : E) (p : Polynomial E) → c ≡ K.one →
     (c ≢ K.zero → p ≡ term_of m c ∷ []) → ps ≡ map (monomial_poly K) ms → qs ≡ ps ++ (p ∷ []) → qs ≡ map (monomial_poly K) (ms ++ (m ∷ []))

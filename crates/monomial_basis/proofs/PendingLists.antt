@@ -1,5 +1,6 @@
 -- A list of lists in which one list is written.
 use Rattle.std.proofs.Common.{◌≡◌, ◌≢◌, ℕ, zero, suc, ◌<◌, refl, sym, ◌∙◌, ap, subst, List, [], ◌∷◌, ◌++◌, length, arith, get_or, ◌⊎◌, inl, inr, ⊎_elim, Some, true, false, Vec}
+use Rattle.std.proofs.lemmas.Option.{same_Some}
 use Rattle.std.specs.Prelude.{Contains, slice_get, slice_set, nat_eq}
 use Rattle.std.proofs.lemmas.Bool.{eqb-true, eq-eqb, true≢false}
 use Rattle.std.specs.declared.alloc.Global.{Global}
@@ -28,9 +29,6 @@ same_or_not i j = elim (nat_eq i j) as (λ b. nat_eq i j ≡ b → (i ≡ j) ⊎
   | false ↦ λ e. inr (λ k. true≢false (sym (eq-eqb i j k) ∙ e))
 ] refl
 
-some_injective : {A : Type 0} (x y : A) → Some x ≡ Some y → x ≡ y
-some_injective x y e = cc
-
 -- the list at i was `before` and is `after`
 module _ (lists : List (Vec (List ℕ) Global)) (i : ℕ) (before after : Vec (List ℕ) Global) (l : i < length lists) (at : before ≡ get_or lists i before) where
   was : slice_get lists i ≡ Some before
@@ -43,7 +41,7 @@ module _ (lists : List (Vec (List ℕ) Global)) (i : ℕ) (before after : Vec (L
   pending_keeps keeps e k w =
       ⊎_elim
       (λ same. subst (λ x. IsPending (slice_set lists i after) x k) (sym same)
-      (pending_here k (keeps k (subst (λ v. Contains v.items k) (some_injective w.0 before (sym w.1 ∙ (ap (slice_get lists) same ∙ was))) w.2))))
+      (pending_here k (keeps k (subst (λ v. Contains v.items k) (same_Some w.0 before (sym w.1 ∙ (ap (slice_get lists) same ∙ was))) w.2))))
       (λ other. (w.0, slice_get-set_other lists i e after other ∙ w.1, w.2))
       (same_or_not e i)
 
@@ -54,7 +52,7 @@ module _ (lists : List (Vec (List ℕ) Global)) (i : ℕ) (before after : Vec (L
       (λ same. ⊎_elim
       (λ h. inl (before, ap (slice_get lists) same ∙ was, h))
       (λ h. inr (same, h))
-      (others k (subst (λ v. Contains v.items k) (some_injective w.0 after (sym w.1 ∙ (ap (slice_get (slice_set lists i after)) same ∙ slice_get-set_same lists i after l))) w.2)))
+      (others k (subst (λ v. Contains v.items k) (same_Some w.0 after (sym w.1 ∙ (ap (slice_get (slice_set lists i after)) same ∙ slice_get-set_same lists i after l))) w.2)))
       (λ other. inl (w.0, sym (slice_get-set_other lists i e after other) ∙ w.1, w.2))
       (same_or_not e i)
 
@@ -66,7 +64,7 @@ module _ (lists : List (Vec (List ℕ) Global)) (i : ℕ) (before after : Vec (L
   taken_others none e k w =
       ⊎_elim
       (λ same. absurd (nothing k (subst (λ xs. Contains xs k) none
-      (subst (λ v. Contains v.items k) (some_injective w.0 after (sym w.1 ∙ (ap (slice_get (slice_set lists i after)) same ∙ slice_get-set_same lists i after l))) w.2))))
+      (subst (λ v. Contains v.items k) (same_Some w.0 after (sym w.1 ∙ (ap (slice_get (slice_set lists i after)) same ∙ slice_get-set_same lists i after l))) w.2))))
       (λ other. (w.0, sym (slice_get-set_other lists i e after other) ∙ w.1, w.2))
       (same_or_not e i)
     where
@@ -76,7 +74,7 @@ module _ (lists : List (Vec (List ℕ) Global)) (i : ℕ) (before after : Vec (L
   pub taken_parted : (e : ℕ) (k : List ℕ) → IsPending lists e k → ((e ≢ i) × IsPending (slice_set lists i after) e k) ⊎ ((e ≡ i) × Contains before.items k)
   taken_parted e k w =
       ⊎_elim
-      (λ same. inr (same, subst (λ v. Contains v.items k) (some_injective w.0 before (sym w.1 ∙ (ap (slice_get lists) same ∙ was))) w.2))
+      (λ same. inr (same, subst (λ v. Contains v.items k) (same_Some w.0 before (sym w.1 ∙ (ap (slice_get lists) same ∙ was))) w.2))
       (λ other. inl (other, (w.0, slice_get-set_other lists i e after other ∙ w.1, w.2)))
       (same_or_not e i)
 
@@ -89,7 +87,7 @@ pending_pushed lists v none before e k w = ⊎_elim (λ h. before e k (w.0, h, w
     empty h = let c : Contains [] k = subst (λ xs. Contains xs k) none h in let l = c.1 in omega arith
 
     pushed_cases : (lists : List (Vec (List ℕ) Global)) (e : ℕ) (x : Vec (List ℕ) Global) → slice_get (lists ++ v ∷ []) e ≡ Some x → (slice_get lists e ≡ Some x) ⊎ (x ≡ v)
-    pushed_cases [] zero x h = inr (sym (some_injective v x h))
+    pushed_cases [] zero x h = inr (sym (same_Some v x h))
     pushed_cases [] (suc e) x h = absurd cc
     pushed_cases (y ∷ lists) zero x h = inl h
     pushed_cases (y ∷ lists) (suc e) x h = pushed_cases lists e x h

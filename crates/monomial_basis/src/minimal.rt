@@ -1,10 +1,11 @@
 //! The monomials of a list that the others do not generate.
-ghost use Rattle.std.specs.Prelude.{◌≡◌, ℕ, ◌≤◌, List, Contains, MatchOption, IfSome, IfOk, OnOk, IsTrue, ◌↔◌};
+ghost use Rattle.std.specs.Prelude.{◌≡◌, ◌≤◌, Contains, MatchOption, IfSome, IfOk, OnOk, IsTrue, ◌↔◌};
 ghost use Rattle.std.specs.declared.cmp.Ordering.TheVariants.{Less};
-ghost use Rattle.monomial_order.specs.Monomial.{IsMonomial};
+ghost use Rattle.monomial_order.specs.MonomialOrder.{IsIncreasing};
+ghost use Rattle.monomial_order.specs.Monomial.{Exponents, IsMonomial};
 ghost use Rattle.polynomials.specs.Subalgebra.{IsGenerated};
 ghost use Rattle.monomial_basis.specs.Products.{AreFactors};
-ghost use Rattle.monomial_basis.specs.MinimalGenerators.{Rises, IsMinimal, IsLeastAbove, HasNoneAbove, AddsUnlessGenerated};
+ghost use Rattle.monomial_basis.specs.MinimalGenerators.{IsMinimal, IsLeastAbove, HasNoneAbove, AddsUnlessGenerated};
 
 use crate::is_product;
 use monomial_order::{Memory, Monomial, Order};
@@ -18,12 +19,12 @@ pub fn minimal_generators<O: Order>(
     bound: u32,
 ) -> Result<Vec<Monomial>, Memory>
     requires factors { AreFactors (O.order o.now) monomials.now }
-    requires small { (m : List ℕ) → Contains monomials.now m → (O.order o.now).degree m ≤ 65535 }
-    ensures increasing { IfOk result (λ s. Rises (O.order o.now) s.items) }
-    ensures members { IfOk result (λ s. (m : List ℕ) → Contains s.items m
+    requires small { (m : Exponents) → Contains monomials.now m → (O.order o.now).degree m ≤ 65535 }
+    ensures increasing { IfOk result (λ s. IsIncreasing (O.order o.now) s.items) }
+    ensures members { IfOk result (λ s. (m : Exponents) → Contains s.items m
         → Contains monomials.now m × ((O.order o.now).degree m ≤ bound)) }
     ensures minimal { IfOk result (λ s. IsMinimal s.items) }
-    ensures generates { IfOk result (λ s. (m : List ℕ) → Contains monomials.now m
+    ensures generates { IfOk result (λ s. (m : Exponents) → Contains monomials.now m
         → (O.order o.now).degree m ≤ bound → IsGenerated s.items m) }
 {
     let mut minimal = Vec::new(alloc);
@@ -41,7 +42,7 @@ pub fn minimal_generators<O: Order>(
 /// The least monomial of the list above m.
 fn least_above<'a, O: Order>(o: &O, monomials: &'a [Monomial], m: &Monomial) -> Option<&'a Monomial>
     requires factors { AreFactors (O.order o.now) monomials.now }
-    requires small { (k : List ℕ) → Contains monomials.now k → (O.order o.now).degree k ≤ 65535 }
+    requires small { (k : Exponents) → Contains monomials.now k → (O.order o.now).degree k ≤ 65535 }
     requires monomial { IsMonomial (O.order o.now).places m.now }
     requires degree { (O.order o.now).degree m.now ≤ 65535 }
     ensures { MatchOption result (HasNoneAbove (O.order o.now) monomials.now m.now)

@@ -1,6 +1,6 @@
 //! Whether a monomial is a product of others.
-ghost use Rattle.std.specs.Prelude.{◌≡◌, ◌≢◌, ℕ, ◌+◌, ◌<◌, ◌≤◌, ◌↔◌, ◌⊎◌, List, [], length, false, Contains, IsTrue, IfOk, OnOk, IfSome, IsNone};
-ghost use Rattle.monomial_order.specs.Monomial.{exponent, product, Divides, IsMonomial, IsTrimmed};
+ghost use Rattle.std.specs.Prelude.{◌≡◌, ◌≢◌, ℕ, ◌+◌, ◌<◌, ◌≤◌, ◌↔◌, ◌⊎◌, [], length, false, Contains, IsTrue, IfOk, OnOk, IfSome, IsNone};
+ghost use Rattle.monomial_order.specs.Monomial.{Exponents, exponent, product, Divides, IsMonomial, IsTrimmed};
 ghost use Rattle.polynomials.specs.Subalgebra.{IsGenerated};
 ghost use Rattle.monomial_basis.specs.Products.{AreFactors, IsDividend, IsPending, IsQuotient, SomePending};
 
@@ -38,7 +38,7 @@ pub fn is_product<O: Order>(
 /// So many empty lists.
 fn empty_lists(alloc: Global, n: usize) -> Result<Vec<Vec<Monomial>>, Memory>
     ensures long { IfOk result (λ lists. length lists.items ≡ n) }
-    ensures empty { IfOk result (λ lists. (e : ℕ) (k : List ℕ) → IsPending lists.items e k → ⊥) }
+    ensures empty { IfOk result (λ lists. (e : ℕ) (k : Exponents) → IsPending lists.items e k → ⊥) }
 {
     let mut lists = Vec::new(alloc);
     for _ in 0..n {
@@ -58,15 +58,15 @@ fn divide_pending<O: Order>(
     requires factors { AreFactors (O.order o.now) factors.now }
     requires room { degree < length pending.old.items }
     requires small { (1 ≤ degree) × (degree ≤ 65535) }
-    requires monomials { (m : List ℕ) → IsPending pending.old.items degree m
+    requires monomials { (m : Exponents) → IsPending pending.old.items degree m
         → IsMonomial (O.order o.now).places m × ((O.order o.now).degree m ≡ degree) }
     ensures yes { IfOk result (λ b. IsTrue b
-        → (m : List ℕ) × IsPending pending.old.items degree m × IsGenerated factors.now m) }
+        → (m : Exponents) × IsPending pending.old.items degree m × IsGenerated factors.now m) }
     ensures no { IfOk result (λ b. b ≡ false → SomePending (O.order o.now) factors.now pending.old.items (degree + 1)
         → SomePending (O.order o.now) factors.now pending.new.items degree) }
     ensures long { OnOk result (length pending.new.items ≡ length pending.old.items) }
-    ensures others { OnOk result ((e : ℕ) (k : List ℕ) → IsPending pending.new.items e k → IsPending pending.old.items e k
-        ⊎ ((m : List ℕ) × IsPending pending.old.items degree m × IsQuotient (O.order o.now) factors.now m e k)) }
+    ensures others { OnOk result ((e : ℕ) (k : Exponents) → IsPending pending.new.items e k → IsPending pending.old.items e k
+        ⊎ ((m : Exponents) × IsPending pending.old.items degree m × IsQuotient (O.order o.now) factors.now m e k)) }
 {
     let monomials = take_degree(alloc, pending, degree);
     for m in &monomials {
@@ -80,10 +80,10 @@ fn divide_pending<O: Order>(
 /// Takes the monomials of the degree out of the pending ones, each once.
 fn take_degree(alloc: Global, pending: &mut Vec<Vec<Monomial>>, degree: usize) -> Vec<Monomial>
     requires { degree < length pending.old.items }
-    ensures taken { (k : List ℕ) → Contains result.items k → IsPending pending.old.items degree k }
+    ensures taken { (k : Exponents) → Contains result.items k → IsPending pending.old.items degree k }
     ensures long { length pending.new.items ≡ length pending.old.items }
-    ensures others { (e : ℕ) (k : List ℕ) → IsPending pending.new.items e k → IsPending pending.old.items e k }
-    ensures parted { (e : ℕ) (k : List ℕ) → IsPending pending.old.items e k
+    ensures others { (e : ℕ) (k : Exponents) → IsPending pending.new.items e k → IsPending pending.old.items e k }
+    ensures parted { (e : ℕ) (k : Exponents) → IsPending pending.old.items e k
         → ((e ≢ degree) × IsPending pending.new.items e k) ⊎ ((e ≡ degree) × Contains result.items k) }
 {
     let mut monomials = mem::replace(&mut pending[degree], Vec::new(alloc));
@@ -107,8 +107,8 @@ fn divide<O: Order>(
     ensures no { IfOk result (λ b. b ≡ false → IsGenerated factors.now m.now
         → SomePending (O.order o.now) factors.now pending.new.items ((O.order o.now).degree m.now)) }
     ensures long { OnOk result (length pending.new.items ≡ length pending.old.items) }
-    ensures keeps { OnOk result ((e : ℕ) (k : List ℕ) → IsPending pending.old.items e k → IsPending pending.new.items e k) }
-    ensures others { OnOk result ((e : ℕ) (k : List ℕ) → IsPending pending.new.items e k → IsPending pending.old.items e k
+    ensures keeps { OnOk result ((e : ℕ) (k : Exponents) → IsPending pending.old.items e k → IsPending pending.new.items e k) }
+    ensures others { OnOk result ((e : ℕ) (k : Exponents) → IsPending pending.new.items e k → IsPending pending.old.items e k
         ⊎ IsQuotient (O.order o.now) factors.now m.now e k) }
 {
     let place = m.places() - 1;
@@ -146,8 +146,8 @@ fn add(pending: &mut Vec<Vec<Monomial>>, degree: usize, m: Monomial) -> Result<(
     requires { degree < length pending.old.items }
     ensures has { OnOk result (IsPending pending.new.items degree m) }
     ensures long { length pending.new.items ≡ length pending.old.items }
-    ensures keeps { (e : ℕ) (k : List ℕ) → IsPending pending.old.items e k → IsPending pending.new.items e k }
-    ensures others { (e : ℕ) (k : List ℕ) → IsPending pending.new.items e k
+    ensures keeps { (e : ℕ) (k : Exponents) → IsPending pending.old.items e k → IsPending pending.new.items e k }
+    ensures others { (e : ℕ) (k : Exponents) → IsPending pending.new.items e k
         → IsPending pending.old.items e k ⊎ ((e ≡ degree) × (k ≡ m)) }
 {
     put(&mut pending[degree], m)
@@ -156,8 +156,8 @@ fn add(pending: &mut Vec<Vec<Monomial>>, degree: usize, m: Monomial) -> Result<(
 /// Puts a monomial at the end of a list.
 fn put(list: &mut Vec<Monomial>, m: Monomial) -> Result<(), Memory>
     ensures has { OnOk result (Contains list.new.items m) }
-    ensures keeps { (k : List ℕ) → Contains list.old.items k → Contains list.new.items k }
-    ensures others { (k : List ℕ) → Contains list.new.items k → Contains list.old.items k ⊎ (k ≡ m) }
+    ensures keeps { (k : Exponents) → Contains list.old.items k → Contains list.new.items k }
+    ensures others { (k : Exponents) → Contains list.new.items k → Contains list.old.items k ⊎ (k ≡ m) }
 {
     make_room(list)?;
     list.push(m)?;
@@ -166,8 +166,8 @@ fn put(list: &mut Vec<Monomial>, m: Monomial) -> Result<(), Memory>
 
 /// Drops the repeats of a full list, and makes room for as many again as are left.
 fn make_room(list: &mut Vec<Monomial>) -> Result<(), Memory>
-    ensures keeps { (k : List ℕ) → Contains list.old.items k → Contains list.new.items k }
-    ensures others { (k : List ℕ) → Contains list.new.items k → Contains list.old.items k }
+    ensures keeps { (k : Exponents) → Contains list.old.items k → Contains list.new.items k }
+    ensures others { (k : Exponents) → Contains list.new.items k → Contains list.old.items k }
 {
     if list.len() < list.capacity() {
         return Ok(());
@@ -180,8 +180,8 @@ fn make_room(list: &mut Vec<Monomial>) -> Result<(), Memory>
 
 /// Sorts a list and drops its repeats.
 fn drop_repeats(list: &mut Vec<Monomial>)
-    ensures keeps { (k : List ℕ) → Contains list.old.items k → Contains list.new.items k }
-    ensures others { (k : List ℕ) → Contains list.new.items k → Contains list.old.items k }
+    ensures keeps { (k : Exponents) → Contains list.old.items k → Contains list.new.items k }
+    ensures others { (k : Exponents) → Contains list.new.items k → Contains list.old.items k }
 {
     list.sort_unstable_by(|a, b| a.as_slice().cmp(&b.as_slice()));
     list.dedup();
