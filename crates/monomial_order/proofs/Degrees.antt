@@ -2,10 +2,7 @@
 use Rattle.std.proofs.Common.{◌≡◌, ℕ, zero, suc, ◌+◌, ◌*◌, ◌<◌, ◌≤◌, refl, sym, ◌∙◌, ap, List, [], ◌∷◌, length, drop, get_or, arith}
 use Rattle.std.specs.Prelude.{min}
 use Rattle.monomial_order.specs.Monomial.{exponent, weighted_degree}
-
-weighted_nil : (ws : List ℕ) → weighted_degree ws [] ≡ 0
-weighted_nil [] = refl
-weighted_nil (w ∷ ws) = refl
+use Rattle.monomial_order.specs.laws.Monomial.{weighted_nil}
 
 -- one more place
 pub weighted_step : (ws m : List ℕ) (i : ℕ) → i < length ws →

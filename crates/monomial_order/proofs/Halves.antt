@@ -4,10 +4,7 @@ use Rattle.std.specs.Prelude.{min}
 use Rattle.std.proofs.lemmas.List.Sums.{sum_by-cons}
 use Rattle.monomial_order.specs.Monomial.{weighted_degree}
 use Rattle.monomial_order.specs.laws.Orders.{ArePositive}
-
-weighted_nil : (ws : List ℕ) → weighted_degree ws [] ≡ 0
-weighted_nil [] = refl
-weighted_nil (w ∷ ws) = refl
+use Rattle.monomial_order.specs.laws.Monomial.{weighted_nil}
 
 pub weighted_degree-append : (xs ss m : List ℕ) → weighted_degree (xs ++ ss) m ≡ weighted_degree xs m + weighted_degree ss (drop (length xs) m)
 weighted_degree-append [] ss m = omega arith

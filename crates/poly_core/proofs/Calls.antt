@@ -7,13 +7,13 @@ use Rattle.word_field.specs.Field.{FieldOps, IsField, IsValue}
 use Rattle.word_field.specs.laws.Field.{zero-times, times-zero, zero-plus-zero, one-times, negate-zero}
 use Rattle.monomial_order.specs.declared.terms.Term.{Term}
 use Rattle.monomial_order.specs.MonomialOrder.{MonomialOrder, IsMonomialOrder}
-use Rattle.monomial_order.specs.laws.Comparing.{degree_falls}
+use Rattle.monomial_order.specs.laws.Comparing.{degree_falls, greater_less}
 use Rattle.polynomials.specs.Polynomial.{Polynomial, same_monomial, coefficient, Same, term_of, scaled, negated, minus, constant, component, first_coefficient, AllAt, IsCanonical, IsDecreasing, IsZeroOrHomogeneous, IsDegree, IsComponent}
 use Rattle.polynomials.specs.laws.Ring.{coefficient_value}
 use Rattle.polynomials.specs.laws.Same.{append_same}
 use Rattle.polynomials.specs.laws.Value.{coefficient-scaled}
 use Rattle.polynomials.specs.laws.Congruence.{negated_is, negate_negate}
-use Rattle.polynomials.specs.laws.Decreasing.{coefficient_first, coefficient_above, greater_less}
+use Rattle.polynomials.specs.laws.Decreasing.{coefficient_first, coefficient_above}
 use Rattle.polynomials.specs.laws.Degrees.{differs, coefficient-component, decreasing_all, all_found}
 use Rattle.polynomials.specs.laws.ReducedBasis.{degree_one}
 

@@ -12,8 +12,9 @@ use Rattle.polynomials.specs.Polynomial.{Polynomial, same_monomial, coefficient,
 use Rattle.poly_core.specs.Merging.{MovesLast, AddsLast}
 use Rattle.polynomials.specs.laws.Ring.{coefficient_value, coefficient-append}
 use Rattle.polynomials.specs.laws.Same.{append_same}
-use Rattle.polynomials.specs.laws.Decreasing.{IsBelow_trans, greater_less}
+use Rattle.polynomials.specs.laws.Decreasing.{IsBelow_trans}
 use Rattle.polynomials.specs.laws.Terms.{IsBelow-append, IsBelow-left, IsBelow-right, IsDecreasing-right, IsDecreasing-left, IsSmall-append, IsSmall-left, IsSmall-right}
+use Rattle.monomial_order.specs.laws.Comparing.{greater_less}
 
 -- what is left of both lists, and the end of the sum
 pub record IsMerging {E : Type 0} (K : FieldOps E) (O : MonomialOrder) (a b p q r : Polynomial E) : Type 0 where

@@ -49,7 +49,7 @@ pub record IsGenerated (M : List Exponents) (m : Exponents) : Type 0 where
   pub product : product_of factors ≡ m
 
 module _ {E : Type 0} (P : Presented E) where
-  -- m is the lead_monomial of a member of the ideal
+  -- m is the lead of a member of the ideal
   pub record LeadsIdeal (m : Exponents) : Type 0 where
     pub member : Polynomial E
     pub poly : IsPoly P.field P.order.places member

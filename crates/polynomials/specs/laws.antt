@@ -11,6 +11,7 @@ pub mod Ideal
 pub mod Congruence
 pub mod Membership
 pub mod Degrees
+pub mod Coefficients
 pub mod NormalForm
 pub mod Components
 pub mod ReducedBasis

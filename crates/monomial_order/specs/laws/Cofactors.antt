@@ -4,11 +4,7 @@ use Rattle.std.specs.Prelude.{nat_eq, nat_le}
 use Rattle.std.proofs.lemmas.Bool.{eqb-true, eq-eqb, true≢false}
 use Rattle.std.proofs.lemmas.Bool.Decides.{nat_tests}
 use Rattle.monomial_order.specs.Monomial.{exponent, product, least_common_multiple, IsTrimmed, Divides}
-use Rattle.monomial_order.specs.laws.Monomial.{exponent-product, IsTrimmed-product, exponent-least_common_multiple}
-
-trimmed_rest : (a : ℕ) (m : List ℕ) → IsTrimmed (a ∷ m) → IsTrimmed m
-trimmed_rest a [] h = tt
-trimmed_rest a (b ∷ m) h = h
+use Rattle.monomial_order.specs.laws.Monomial.{exponent-product, IsTrimmed-product, exponent-least_common_multiple, trimmed_tail}
 
 -- a trimmed list with exponents 0 alone is empty
 zero_exponents : (m : List ℕ) → IsTrimmed m → ((i : ℕ) → exponent m i ≡ 0) → m ≡ []
@@ -21,7 +17,7 @@ pub same_exponents : (m n : List ℕ) → IsTrimmed m → IsTrimmed n → ((i : 
 same_exponents [] n hm hn h = sym (zero_exponents n hn (λ i. sym (h i)))
 same_exponents (a ∷ m) [] hm hn h = zero_exponents (a ∷ m) hm h
 same_exponents (a ∷ m) (b ∷ n) hm hn h =
-    ap (λ x. x ∷ m) (h 0) ∙ ap (λ x. b ∷ x) (same_exponents m n (trimmed_rest a m hm) (trimmed_rest b n hn) (λ i. h (suc i)))
+    ap (λ x. x ∷ m) (h 0) ∙ ap (λ x. b ∷ x) (same_exponents m n (trimmed_tail a m hm) (trimmed_tail b n hn) (λ i. h (suc i)))
 
 -- a in front of a trimmed list
 put : ℕ → List ℕ → List ℕ

@@ -69,6 +69,9 @@ module _ (O : MonomialOrder) (L : IsMonomialOrder O) where
   pub greater_less : (m n : List ℕ) → O.compare m n ≡ Greater → O.compare n m ≡ Less
   greater_less m n h = L.total.antisymm n m ∙ ap ordering_reverse h
 
+  pub less_greater : (m n : List ℕ) → O.compare m n ≡ Less → O.compare n m ≡ Greater
+  less_greater m n h = L.total.antisymm n m ∙ ap ordering_reverse h
+
   -- smaller, equal or greater
   pub three_ways : (m n : List ℕ) → (O.compare m n ≡ Less) ⊎ ((m ≡ n) ⊎ (O.compare n m ≡ Less))
   three_ways m n = elim (O.compare m n) as (λ o. O.compare m n ≡ o → (O.compare m n ≡ Less) ⊎ ((m ≡ n) ⊎ (O.compare n m ≡ Less))) [
@@ -121,7 +124,6 @@ module _ (O : MonomialOrder) (L : IsMonomialOrder O) where
   none_below_one m h less =
       ⊎_elim (λ e. not_below_self [] (subst (λ x. O.compare x [] ≡ Less) e less)) (λ ne. not_below_self m (L.total.trans m [] m less (one_below m h ne))) (equal_or_not m [])
 
-module _ (O : MonomialOrder) (L : IsMonomialOrder O) where
   -- the first member of an increasing list is less than every later one
   pub increasing_below : (m : List ℕ) (ms : List (List ℕ)) → IsIncreasing O (m ∷ ms) → (n : List ℕ) → Contains ms n → O.compare m n ≡ Less
   increasing_below m [] h n k = absurd (contains_none n k)

@@ -1,10 +1,10 @@
 -- Laws of products of monomials.
-use Rattle.std.proofs.Common.{◌≡◌, ℕ, zero, suc, ◌+◌, ◌≤◌, ◌<◌, refl, sym, ◌∙◌, ap, List, [], ◌∷◌, length, add_comm, add_assoc, arith}
+use Rattle.std.proofs.Common.{◌≡◌, ◌≢◌, ℕ, zero, suc, ◌+◌, ◌≤◌, ◌<◌, refl, sym, ◌∙◌, ap, List, [], ◌∷◌, length, add_comm, add_assoc, arith}
 use Rattle.std.specs.Prelude.{max, take, ◌++◌, nat_lt, true, false}
 use Rattle.std.proofs.lemmas.Bool.{ltb-true, ltb-false}
 use Rattle.monomial_order.specs.MonomialOrder.{MonomialOrder, IsMonomialOrder}
 use Rattle.std.proofs.lemmas.List.{take_more}
-use Rattle.monomial_order.specs.Monomial.{exponent, product, least_common_multiple, IsTrimmed, IsMonomial}
+use Rattle.monomial_order.specs.Monomial.{exponent, product, least_common_multiple, IsTrimmed, IsMonomial, weighted_degree, variable, Divides}
 
 pub product_comm : (m n : List ℕ) → product m n ≡ product n m
 product_comm [] [] = refl
@@ -102,3 +102,28 @@ IsMonomial-least_common_multiple N m n h k = record {
   trimmed = IsTrimmed-least_common_multiple m n h.trimmed k.trimmed;
   within = omega (arith, length-least_common_multiple m n, h.within, k.within);
 }
+
+-- what stands behind the first place of a trimmed list is trimmed
+pub trimmed_tail : (a : ℕ) (m : List ℕ) → IsTrimmed (a ∷ m) → IsTrimmed m
+trimmed_tail a [] h = tt
+trimmed_tail a (b ∷ m) h = h
+
+pub weighted_nil : (ws : List ℕ) → weighted_degree ws [] ≡ 0
+weighted_nil [] = refl
+weighted_nil (w ∷ ws) = refl
+
+-- a variable divides what has an exponent at its place
+pub variable_divides : (i : ℕ) (u : List ℕ) → 1 ≤ exponent u i → Divides (variable i) u
+variable_divides zero [] h j = absurd (omega arith)
+variable_divides zero (e ∷ u) h zero = h
+variable_divides zero (e ∷ u) h (suc j) = omega arith
+variable_divides (suc i) [] h j = absurd (omega arith)
+variable_divides (suc i) (e ∷ u) h zero = omega arith
+variable_divides (suc i) (e ∷ u) h (suc j) = variable_divides i u h j
+
+-- and has no exponent at another place
+pub variable_off : (i j : ℕ) → i ≢ j → exponent (variable i) j ≡ 0
+variable_off zero zero h = absurd (h refl)
+variable_off zero (suc j) h = refl
+variable_off (suc i) zero h = refl
+variable_off (suc i) (suc j) h = variable_off i j (λ e. h (ap suc e))

@@ -14,6 +14,7 @@ use Rattle.monomial_order.specs.Monomial.{exponent, IsTrimmed, product, variable
 use Rattle.monomial_order.specs.MonomialOrder.{IsMonomialOrder, HasSmallDegrees}
 use Rattle.monomial_order.specs.Orders.{lex, reverse_lex, by_rows, weight_order, word_order}
 use Rattle.monomial_order.specs.Ranges.{all_between, are_rows}
+use Rattle.monomial_order.specs.laws.Monomial.{trimmed_tail, weighted_nil}
 
 -- a part of an order: a total order that products keep
 pub record IsPart (R : List ℕ → List ℕ → Ordering) : Type 0 where
@@ -65,10 +66,6 @@ sum-product (a ∷ m) (b ∷ n) = omega (arith, sum-product m n, cons (a + b) (p
   where
     cons : (x : ℕ) (xs : List ℕ) → sum (x ∷ xs) ≡ x + sum xs
     cons x xs = sum_by-cons (λ y. y) x xs
-
-trimmed_tail : (a : ℕ) (m : List ℕ) → IsTrimmed (a ∷ m) → IsTrimmed m
-trimmed_tail a [] h = tt
-trimmed_tail a (b ∷ m) h = h
 
 IsTrimmed-drop : (i : ℕ) (m : List ℕ) → IsTrimmed m → IsTrimmed (drop i m)
 IsTrimmed-drop zero m h = h
@@ -128,10 +125,6 @@ exponent_weighted [] m i h l = absurd (omega arith)
 exponent_weighted (w ∷ ws) [] i h l = omega arith
 exponent_weighted (w ∷ ws) (e ∷ m) zero h l = let k : 1 * e ≤ w * e = Rattle.std.proofs.Math.Nat.mul-le-mul_right e h.0 in omega arith
 exponent_weighted (w ∷ ws) (e ∷ m) (suc i) h l = omega (arith, exponent_weighted ws m i h.1 (omega arith))
-
-weighted_nil : (ws : List ℕ) → weighted_degree ws [] ≡ 0
-weighted_nil [] = refl
-weighted_nil (w ∷ ws) = refl
 
 weighted-variable : (ws : List ℕ) (i : ℕ) → ArePositive ws → i < length ws → 1 ≤ weighted_degree ws (variable i)
 weighted-variable [] i h l = absurd (omega arith)

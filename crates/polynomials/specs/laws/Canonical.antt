@@ -8,7 +8,8 @@ use Rattle.monomial_order.specs.MonomialOrder.{MonomialOrder, IsMonomialOrder}
 use Rattle.polynomials.specs.Polynomial.{Polynomial, same_monomial, share, coefficient, Same, term_of, IsTerm, IsPoly, IsBelow, IsDecreasing, IsLead}
 use Rattle.polynomials.specs.laws.Ring.{coefficient_value}
 use Rattle.polynomials.specs.laws.Same.{append_same}
-use Rattle.polynomials.specs.laws.Decreasing.{IsBelow_trans, greater_less, IsLead_first}
+use Rattle.polynomials.specs.laws.Decreasing.{IsBelow_trans, IsLead_first}
+use Rattle.monomial_order.specs.laws.Comparing.{greater_less}
 
 module _ {E : Type 0} (K : FieldOps E) (F : IsField K) (O : MonomialOrder) (L : IsMonomialOrder O) where
   -- q is the canonical form of p

@@ -1,7 +1,7 @@
 -- Congruence modulo an ideal is an equivalence that sums and products keep.
 use Rattle.std.proofs.Common.{◌≡◌, ℕ, refl, sym, ◌∙◌, ap, List, [], ◌∷◌, ◌++◌}
 use Rattle.word_field.specs.Field.{FieldOps, IsField, IsValue}
-use Rattle.word_field.specs.laws.Field.{negate-plus, plus_four, negate-plus_cancel, plus_is_zero, negate-times, one-times}
+use Rattle.word_field.specs.laws.Field.{zero-plus-zero, negate-zero, negate-plus, plus_four, negate-plus_cancel, plus_is_zero, negate-times, one-times}
 use Rattle.monomial_order.specs.declared.terms.Term.{Term}
 use Rattle.polynomials.specs.Polynomial.{Polynomial, coefficient, Same, times, negated, minus, constant, IsPoly}
 use Rattle.polynomials.specs.Ideal.{InIdeal, Congruent}
@@ -13,6 +13,10 @@ use Rattle.polynomials.specs.laws.Ideal.{InIdeal_same, InIdeal_zero, InIdeal_plu
 module _ {E : Type 0} (K : FieldOps E) (F : IsField K) where
   pub negate_negate : (a : E) → K.negate (K.negate a) ≡ K.reduce a
   negate_negate a = sym (plus_is_zero K F (K.negate a) a (F.plus_comm (K.negate a) a ∙ F.plus_negate a))
+
+  pub zero_difference : (a b : E) → a ≡ K.zero → b ≡ K.zero → K.plus a (K.negate b) ≡ K.zero
+  zero_difference a b h k =
+      ap (λ x. K.plus x (K.negate b)) h ∙ (ap (λ x. K.plus K.zero (K.negate x)) k ∙ (ap (K.plus K.zero) (negate-zero K F) ∙ zero-plus-zero K F))
 
   pub coefficient-minus : (p q : Polynomial E) (m : List ℕ) → coefficient K (minus K p q) m ≡ K.plus (coefficient K p m) (K.negate (coefficient K q m))
   coefficient-minus p q m = coefficient-append K F p (negated K q) m ∙ ap (K.plus (coefficient K p m)) (coefficient-negated K F q m)

@@ -11,32 +11,18 @@ use Rattle.monomial_order.specs.MonomialOrder.{MonomialOrder, IsMonomialOrder}
 use Rattle.polynomials.specs.Polynomial.{Polynomial, same_monomial, share, coefficient, Same, term_of, IsPoly, IsBelow, IsLeadTerm, IsDecreasing, IsLead}
 use Rattle.polynomials.specs.laws.Ring.{coefficient_value}
 use Rattle.polynomials.specs.laws.Same.{same_true, same_refl}
-
-pub less_not_equal : (o : Ordering) → o ≡ Less → o ≡ Equal → ⊥
-less_not_equal o h k = let e : Less ≡ Equal = sym h ∙ k in cc
+use Rattle.monomial_order.specs.laws.Comparing.{not_below_self, greater_less}
 
 pub IsDecreasing_IsPoly : {E : Type 0} (K : FieldOps E) (O : MonomialOrder) (p : Polynomial E) → IsDecreasing K O p → IsPoly K O.places p
 IsDecreasing_IsPoly K O [] h = tt
 IsDecreasing_IsPoly K O (t ∷ p) h = (h.0.term, IsDecreasing_IsPoly K O p h.1)
 
 module _ (O : MonomialOrder) (L : IsMonomialOrder O) where
-  pub compare_self : (m : List ℕ) → O.compare m m ≡ Equal
-  compare_self m = tied_itself L.total m
-
-  pub not_below_self : (m : List ℕ) → O.compare m m ≡ Less → ⊥
-  not_below_self m h = less_not_equal (O.compare m m) h (compare_self m)
-
   pub below_differs : (m n : List ℕ) → O.compare m n ≡ Less → same_monomial m n ≡ false
   below_differs m n h = elim (same_monomial m n) as (λ b. same_monomial m n ≡ b → b ≡ false) [
-    | true ↦ λ e. absurd (not_below_self n (subst (λ k. O.compare k n ≡ Less) (same_true m n e) h))
+    | true ↦ λ e. absurd (not_below_self O L n (subst (λ k. O.compare k n ≡ Less) (same_true m n e) h))
     | false ↦ λ e. refl
   ] refl
-
-  pub greater_less : (m n : List ℕ) → O.compare m n ≡ Greater → O.compare n m ≡ Less
-  greater_less m n h = L.total.antisymm n m ∙ ap ordering_reverse h
-
-  pub less_greater : (m n : List ℕ) → O.compare m n ≡ Less → O.compare n m ≡ Greater
-  less_greater m n h = L.total.antisymm n m ∙ ap ordering_reverse h
 
 module _ {E : Type 0} (K : FieldOps E) (F : IsField K) (O : MonomialOrder) (L : IsMonomialOrder O) where
   pub IsBelow_trans : (m n : List ℕ) (p : Polynomial E) → O.compare m n ≡ Less → IsBelow K O m p → IsBelow K O n p

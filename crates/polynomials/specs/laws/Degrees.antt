@@ -19,6 +19,8 @@ use Rattle.polynomials.specs.laws.Canonical.{canonical}
 use Rattle.polynomials.specs.laws.Membership.{IsPoly-power, IsPoly-monomial_value, ArePolys}
 use Rattle.polynomials.specs.laws.ReducedBasis.{degree_one}
 use Rattle.polynomials.specs.laws.Leads.{tail_zero}
+use Rattle.polynomials.specs.laws.Terms.{AllAt-append}
+use Rattle.polynomials.specs.laws.Ideal.{times_nil}
 
 pub differs : (a d : ℕ) → a ≢ d → nat_eq a d ≡ false
 differs a d h = elim (nat_eq a d) as (λ b. nat_eq a d ≡ b → b ≡ false) [ true ↦ λ e. absurd (h (eqb-true a d e)) | false ↦ λ e. refl ] refl
@@ -37,10 +39,6 @@ module _ {E : Type 0} where
   component-append O d [] q = refl
   component-append O d (t ∷ p) q =
       ap (λ x. cond (nat_eq (O.degree t.at) d) (t ∷ x) x) (component-append O d p q) ∙ component_cons (nat_eq (O.degree t.at) d) t (component O d p) (component O d q)
-
-  AllAt-append : (P : List ℕ → Type 0) (p q : Polynomial E) → AllAt P p → AllAt P q → AllAt P (p ++ q)
-  AllAt-append P [] q h k = k
-  AllAt-append P (t ∷ p) q h k = (h.0, AllAt-append P p q h.1 k)
 
   component_all : (O : MonomialOrder) (d : ℕ) (p : Polynomial E) → AllAt (λ m. O.degree m ≡ d) p → component O d p ≡ p
   component_all O d [] h = refl
@@ -153,16 +151,12 @@ module _ {E : Type 0} (K : FieldOps E) (F : IsField K) (O : MonomialOrder) (L : 
       by_test false e = ap (λ x. x ++ times K (picked O k d q) r)
           (component_none O d (O.degree t.at + k) (scaled K t r) (all_scaled t r (O.degree t.at) k refl h) (λ s. true≢false (sym (eq-eqb (O.degree t.at + k) d s) ∙ e)))
 
-  times_nil : (p : Polynomial E) → Same K (times K p []) []
-  times_nil [] m = refl
-  times_nil (x ∷ p) m = times_nil p m
-
   part_component : (d : ℕ) (q r : Polynomial E) → IsPoly K O.places q → IsGenerator K O r → (s : Polynomial E) × IsPoly K O.places s × Same K (component O d (times K q r)) (times K s r)
   unfolding coefficient
   part_component d q r hq hr = ⊎_elim none some hr.homogeneous
     where
       none : ((m : List ℕ) → coefficient K r m ≡ K.zero) → (s : Polynomial E) × IsPoly K O.places s × Same K (component O d (times K q r)) (times K s r)
-      none z = ([], tt, λ m. component_same d (times K q r) [] (λ i. times_same K F q q r [] (λ j. refl) z i ∙ times_nil q i) m)
+      none z = ([], tt, λ m. component_same d (times K q r) [] (λ i. times_same K F q q r [] (λ j. refl) z i ∙ times_nil K F q i) m)
 
       some : (k : ℕ) × (1 ≤ k) × IsHomogeneous K O k r → (s : Polynomial E) × IsPoly K O.places s × Same K (component O d (times K q r)) (times K s r)
       some h =

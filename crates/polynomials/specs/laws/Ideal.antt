@@ -29,7 +29,7 @@ module _ {E : Type 0} (K : FieldOps E) (F : IsField K) where
   IsPoly-negated n [] h = tt
   IsPoly-negated n (t ∷ p) h = (record { monomial = h.0.monomial; value = F.negate_value t.by }, IsPoly-negated n p h.1)
 
-  times_nil : (p : Polynomial E) → Same K (times K p []) []
+  pub times_nil : (p : Polynomial E) → Same K (times K p []) []
   times_nil [] m = refl
   times_nil (x ∷ p) m = times_nil p m
 

@@ -8,7 +8,7 @@ use Rattle.monomial_order.specs.MonomialOrder.{MonomialOrder, IsMonomialOrder}
 use Rattle.polynomials.specs.Polynomial.{Polynomial, same_monomial, coefficient, IsBelow, IsLeadTerm}
 use Rattle.polynomials.specs.laws.Ring.{coefficient_value}
 use Rattle.polynomials.specs.laws.Same.{same_true}
-use Rattle.polynomials.specs.laws.Decreasing.{not_below_self}
+use Rattle.monomial_order.specs.laws.Comparing.{not_below_self}
 
 module _ {E : Type 0} (K : FieldOps E) (F : IsField K) (O : MonomialOrder) (L : IsMonomialOrder O) where
   -- a monomial with a nonzero coefficient stands below what all terms are below

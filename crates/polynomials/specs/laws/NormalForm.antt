@@ -14,16 +14,11 @@ use Rattle.polynomials.specs.laws.Same.{times_same}
 use Rattle.polynomials.specs.laws.Decreasing.{IsLead_first, IsLead_unique}
 use Rattle.polynomials.specs.laws.Canonical.{canonical, IsCanonicalForm, IsLead_same, zero_or_lead}
 use Rattle.polynomials.specs.laws.Ideal.{IsPoly-append, IsPoly-negated, IsPoly-times, InIdeal_times}
-use Rattle.polynomials.specs.laws.Congruence.{coefficient-minus, minus_zero, congruent_sym, congruent_trans}
+use Rattle.polynomials.specs.laws.Congruence.{coefficient-minus, zero_difference, minus_zero, congruent_sym, congruent_trans}
 use Rattle.polynomials.specs.laws.Terms.{IsDecreasing-scaled}
 use Rattle.polynomials.specs.laws.Degrees.{ideal_component, coefficient-component}
 
 module _ {E : Type 0} (P : Presented E) (H : IsPresentation P) where
-  zero_difference : (a b : E) → a ≡ P.field.zero → b ≡ P.field.zero → P.field.plus a (P.field.negate b) ≡ P.field.zero
-  zero_difference a b h k =
-      ap (λ x. P.field.plus x (P.field.negate b)) h ∙ (ap (λ x. P.field.plus P.field.zero (P.field.negate x)) k ∙
-      (ap (P.field.plus P.field.zero) (negate-zero P.field H.field) ∙ zero-plus-zero P.field H.field))
-
   -- a polynomial has one normal form at most
   pub normal_form_unique : (a b c : Polynomial E) → IsNormalForm P a b → IsNormalForm P a c → Same P.field b c
   normal_form_unique a b c h k =
@@ -36,7 +31,7 @@ module _ {E : Type 0} (P : Presented E) (H : IsPresentation P) where
       no_lead m l =
           ⊎_elim
           (λ z. ⊎_elim
-          (λ w. l.nonzero (coefficient-minus P.field H.field b c m ∙ zero_difference (coefficient P.field b m) (coefficient P.field c m) z w))
+          (λ w. l.nonzero (coefficient-minus P.field H.field b c m ∙ zero_difference P.field H.field (coefficient P.field b m) (coefficient P.field c m) z w))
           (λ w. (k.standard m w).no_lead leads) (H.field.equal_or_not (coefficient P.field c m) P.field.zero))
           (λ z. (h.standard m z).no_lead leads)
           (H.field.equal_or_not (coefficient P.field b m) P.field.zero)

@@ -10,11 +10,12 @@ use Rattle.monomial_order.specs.MonomialOrder.{MonomialOrder, IsMonomialOrder, I
 use Rattle.monomial_order.specs.laws.Monomial.{product_assoc, product-one}
 use Rattle.polynomials.specs.Polynomial.{Polynomial, coefficient, Same, negated, minus, IsLead, lead_monomial}
 use Rattle.polynomials.specs.Subalgebra.{Presented, IsPresentation, product_of, AllIn, IsGenerated, LeadsSubalgebra, IsStandard, IsElement, IsReducedBasis}
-use Rattle.polynomials.specs.laws.Decreasing.{IsDecreasing_IsPoly, IsDecreasing_unique, IsLead_first, not_below_self}
+use Rattle.polynomials.specs.laws.Decreasing.{IsDecreasing_IsPoly, IsDecreasing_unique, IsLead_first}
 use Rattle.polynomials.specs.laws.Canonical.{zero_or_lead}
-use Rattle.polynomials.specs.laws.Congruence.{coefficient-minus, minus_zero}
+use Rattle.polynomials.specs.laws.Congruence.{coefficient-minus, zero_difference, minus_zero}
 use Rattle.polynomials.specs.laws.Ideal.{IsPoly-append, IsPoly-negated}
 use Rattle.polynomials.specs.laws.Membership.{sub_minus}
+use Rattle.monomial_order.specs.laws.Comparing.{not_below_self}
 
 -- a list around a member
 pub contains_split : {A : Type 0} (xs : List A) (x : A) → Contains xs x → (before : List A) × (after : List A) × (xs ≡ before ++ (x ∷ after))
@@ -88,7 +89,7 @@ module _ {E : Type 0} (P : Presented E) (H : IsPresentation P) (c : ℕ) where
             others ms h.1 (omega arith),
           )
 
-      -- a lead_monomial of a smaller degree is a product of other leads
+      -- a lead of a smaller degree is a product of other leads
       smaller : (m : List ℕ) → LeadsSubalgebra P m → P.order.degree m ≤ c → P.order.degree m < P.order.degree (lead_monomial s) → IsGenerated (map lead_monomial (before ++ after)) m
       smaller m h le lt =
           let g = HS.generates m h le in
@@ -106,7 +107,7 @@ module _ {E : Type 0} (P : Presented E) (H : IsPresentation P) (c : ℕ) where
           let r = lead_of_T m h.0 in
           generated_times (map lead_monomial (before ++ after)) m (product_of ms) (smaller m r.0 r.1 (omega arith)) (smaller_all ms h.1 (omega arith))
 
-      -- a lead_monomial of S is a lead_monomial of T
+      -- a lead of S is a lead of T
       one_factor : IsElement P c s → (ms : List (List ℕ)) → AllIn (map lead_monomial T) ms → product_of ms ≡ lead_monomial s → Contains (map lead_monomial T) (lead_monomial s)
       one_factor el [] h e = absurd (let z : P.order.degree [] ≡ P.order.degree (lead_monomial s) = ap P.order.degree e in let o = degree_one P.order H.order in let a = el.at_least in omega arith)
       one_factor el (m ∷ []) h e = subst (Contains (map lead_monomial T)) (sym (product-one m) ∙ e) h.0
@@ -129,15 +130,10 @@ module _ {E : Type 0} (P : Presented E) (H : IsPresentation P) (c : ℕ) where
         let g = HT.generates (lead_monomial s) (element_leads s e) e.at_most in
         one_factor r.0 s r.1 r.2 e g.factors g.members g.product
 
-  -- two elements with one lead_monomial are equal
+  -- two elements with one lead are equal
   difference_zero : (s t : Polynomial E) (m : List ℕ) → coefficient P.field s m ≡ coefficient P.field t m → coefficient P.field (minus P.field s t) m ≡ P.field.zero
   difference_zero s t m e =
       coefficient-minus P.field H.field s t m ∙ (ap (λ x. P.field.plus x (P.field.negate (coefficient P.field t m))) e ∙ H.field.plus_negate (coefficient P.field t m))
-
-  zero_difference : (a b : E) → a ≡ P.field.zero → b ≡ P.field.zero → P.field.plus a (P.field.negate b) ≡ P.field.zero
-  zero_difference a b h k =
-      ap (λ x. P.field.plus x (P.field.negate b)) h ∙ (ap (λ x. P.field.plus P.field.zero (P.field.negate x)) k ∙
-      (ap (P.field.plus P.field.zero) (negate-zero P.field H.field) ∙ zero-plus-zero P.field H.field))
 
   pub same_lead : (s t : Polynomial E) → IsElement P c s → IsElement P c t → lead_monomial s ≡ lead_monomial t → s ≡ t
   same_lead s t hs ht e =
@@ -154,14 +150,14 @@ module _ {E : Type 0} (P : Presented E) (H : IsPresentation P) (c : ℕ) where
           let differs : m ≢ lead_monomial s = λ same. l.nonzero (difference_zero s t m (ap (coefficient P.field s) same ∙ (hs.monic ∙ (sym ht.monic ∙ (ap (coefficient P.field t) (sym e) ∙ ap (coefficient P.field t) (sym same)))))) in
           let found : IsStandard P m → ⊥ = λ st. ⊎_elim
           (λ z. ⊎_elim
-          (λ w. l.nonzero (coefficient-minus P.field H.field s t m ∙ zero_difference (coefficient P.field s m) (coefficient P.field t m) z w))
+          (λ w. l.nonzero (coefficient-minus P.field H.field s t m ∙ zero_difference P.field H.field (coefficient P.field s m) (coefficient P.field t m) z w))
           (λ w. ht.tail m w (λ same. differs (same ∙ sym e)) (lead_of st))
           (H.field.equal_or_not (coefficient P.field t m) P.field.zero))
           (λ z. hs.tail m z differs (lead_of st))
           (H.field.equal_or_not (coefficient P.field s m) P.field.zero) in
           ⊎_elim
           (λ z. ⊎_elim
-          (λ w. l.nonzero (coefficient-minus P.field H.field s t m ∙ zero_difference (coefficient P.field s m) (coefficient P.field t m) z w))
+          (λ w. l.nonzero (coefficient-minus P.field H.field s t m ∙ zero_difference P.field H.field (coefficient P.field s m) (coefficient P.field t m) z w))
           (λ w. found (ht.standard m w))
           (H.field.equal_or_not (coefficient P.field t m) P.field.zero))
           (λ z. found (hs.standard m z))

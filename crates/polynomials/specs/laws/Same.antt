@@ -132,7 +132,7 @@ module _ {E : Type 0} (K : FieldOps E) (F : IsField K) where
       total_value K F (weighed K g) q))
 
   -- the product with q, as a linear sum
-  share_times : (b : Bool) (c d : E) → cond b (K.times c d) K.zero ≡ K.times c (cond b d K.zero)
+  pub share_times : (b : Bool) (c d : E) → cond b (K.times c d) K.zero ≡ K.times c (cond b d K.zero)
   share_times true c d = refl
   share_times false c d = sym (times-zero K F c)
 

@@ -24,6 +24,11 @@ pub all_back : {A : Type 0} (P : A → Type 0) (xs ys : List A) → All P (xs ++
 all_back P [] ys h k d l = h k d l
 all_back P (x ∷ xs) ys h k d l = all_back P xs ys (λ j e m. h (suc j) e (omega arith)) k d l
 
+module _ {E : Type 0} where
+  pub AllAt-append : (P : List ℕ → Type 0) (p q : Polynomial E) → AllAt P p → AllAt P q → AllAt P (p ++ q)
+  AllAt-append P [] q h k = k
+  AllAt-append P (t ∷ p) q h k = (h.0, AllAt-append P p q h.1 k)
+
 module _ {E : Type 0} (K : FieldOps E) where
   pub terms_all : (n : ℕ) (p : Polynomial E) → IsPoly K n p → All (IsTerm K n) p
   terms_all n [] h k d l = absurd (omega arith)
@@ -136,10 +141,6 @@ module _ {E : Type 0} (K : FieldOps E) (O : MonomialOrder) where
   within_scaled L t [] d e h k = tt
   within_scaled L t (u ∷ q) d e h k = (let s = L.degree_product t.at u.at in let a = k.0 in omega arith, within_scaled L t q d e h k.1)
 
-  AllAt-append : (P : List ℕ → Type 0) (p q : Polynomial E) → AllAt P p → AllAt P q → AllAt P (p ++ q)
-  AllAt-append P [] q h k = k
-  AllAt-append P (t ∷ p) q h k = (h.0, AllAt-append P p q h.1 k)
-
   pub within_times : IsMonomialOrder O → (p q : Polynomial E) (d e : ℕ) → AllAt (λ m. O.degree m ≤ d) p → AllAt (λ m. O.degree m ≤ e) q → AllAt (λ m. O.degree m ≤ d + e) (times K p q)
   within_times L [] q d e h k = tt
   within_times L (t ∷ p) q d e h k =
@@ -166,7 +167,8 @@ module _ {E : Type 0} (K : FieldOps E) (F : IsField K) (O : MonomialOrder) where
   canonical_multiple c p v n h = record { decreasing = IsDecreasing-multiple c p v n h.decreasing; small = IsSmall-multiple K O c p h.small }
 
   module _ (L : IsMonomialOrder O) where
-    scaled_below : (s t : Term E) (p : Polynomial E) → IsTerm K O.places s → IsTerm K O.places t → IsPoly K O.places p → IsBelow K O t.at p → IsBelow K O (product s.at t.at) (scaled K s p)
+    -- products with a term keep the order
+    pub scaled_below : (s t : Term E) (p : Polynomial E) → IsTerm K O.places s → IsTerm K O.places t → IsPoly K O.places p → IsBelow K O t.at p → IsBelow K O (product s.at t.at) (scaled K s p)
     scaled_below s t [] hs ht hp h = tt
     scaled_below s t (u ∷ p) hs ht hp h =
         (L.kept s.at u.at t.at hs.monomial.trimmed hp.0.monomial.trimmed ht.monomial.trimmed ∙ h.0, scaled_below s t p hs ht hp.1 h.1)

@@ -8,22 +8,18 @@ use Rattle.polynomials.specs.Polynomial.{Polynomial, same_monomial, total, share
 use Rattle.polynomials.specs.Value.{power, monomial_value, term_value, value}
 use Rattle.polynomials.specs.laws.Sums.{total_same, total-map, total_times}
 use Rattle.polynomials.specs.laws.Ring.{coefficient_value, coefficient-append, times_comm, times_assoc, times_plus}
-use Rattle.polynomials.specs.laws.Same.{weighed, weighed_same, times_same, times_same_left, append_same}
+use Rattle.polynomials.specs.laws.Same.{weighed, weighed_same, times_same, times_same_left, append_same, share_times}
 
 append-nil : {A : Type 0} (xs : List A) → xs ++ [] ≡ xs
 append-nil [] = refl
 append-nil (x ∷ xs) = ap (λ ys. x ∷ ys) (append-nil xs)
 
 module _ {E : Type 0} (K : FieldOps E) (F : IsField K) where
-  share_scaled : (b : Bool) (c d : E) → cond b (K.times c d) K.zero ≡ K.times c (cond b d K.zero)
-  share_scaled true c d = refl
-  share_scaled false c d = sym (times-zero K F c)
-
   pub coefficient-scaled : (c : E) (p : Polynomial E) (m : List ℕ) → coefficient K (scaled K (term_of [] c) p) m ≡ K.times c (coefficient K p m)
   unfolding coefficient
   coefficient-scaled c p m =
       total-map K F (share K m) (term_times K (term_of [] c)) p ∙
-      (total_same K F (λ u. share K m (term_times K (term_of [] c) u)) (λ u. K.times c (share K m u)) (λ u. share_scaled (same_monomial u.at m) c u.by) p ∙
+      (total_same K F (λ u. share K m (term_times K (term_of [] c) u)) (λ u. K.times c (share K m u)) (λ u. share_times K F (same_monomial u.at m) c u.by) p ∙
       total_times K F c (share K m) p)
 
   pub coefficient-constant_times : (c : E) (p : Polynomial E) (m : List ℕ) → coefficient K (times K (constant K c) p) m ≡ K.times c (coefficient K p m)

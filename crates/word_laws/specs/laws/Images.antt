@@ -3,7 +3,7 @@ use Rattle.std.proofs.Common.{◌≡◌, ◌≢◌, ℕ, zero, suc, ◌+◌, ◌
 use Rattle.std.specs.Prelude.{map}
 use Rattle.monomial_order.specs.Monomial.{exponent, IsTrimmed, IsMonomial, product, variable, weighted_degree}
 use Rattle.word_laws.specs.Words.{monomial_power, image, variables}
-use Rattle.monomial_order.specs.laws.Monomial.{product_assoc, product_comm, product-one, IsMonomial-product, exponent-product}
+use Rattle.monomial_order.specs.laws.Monomial.{product_assoc, product_comm, product-one, IsMonomial-product, exponent-product, weighted_nil, variable_off}
 use Rattle.monomial_order.specs.laws.Cofactors.{same_exponents}
 use Rattle.monomial_order.specs.MonomialOrder.{MonomialOrder, IsMonomialOrder}
 use Rattle.monomial_order.specs.laws.Comparing.{degree_one}
@@ -99,10 +99,6 @@ pub variables_monomials : (n i k : ℕ) → i + k ≤ n → AreMonomials n (vari
 variables_monomials n i zero l = tt
 variables_monomials n i (suc k) l = (variable_monomial n i (omega arith), variables_monomials n (suc i) k (omega arith))
 
-weighted_none : (ws : List ℕ) → weighted_degree ws [] ≡ 0
-weighted_none [] = refl
-weighted_none (w ∷ ws) = refl
-
 map_same : {A : Type 0} (f g : List ℕ → A) → ((m : List ℕ) → f m ≡ g m) → (ms : List (List ℕ)) → map f ms ≡ map g ms
 map_same f g h [] = refl
 map_same f g h (m ∷ ms) = ap (λ x. x ∷ map f ms) (h m) ∙ ap (λ xs. g m ∷ xs) (map_same f g h ms)
@@ -111,7 +107,7 @@ map_same f g h (m ∷ ms) = ap (λ x. x ∷ map f ms) (h m) ∙ ap (λ xs. g m �
 pub variables_degrees : (ws vs : List ℕ) → map (weighted_degree (ws ++ vs)) (variables 0 (length ws)) ≡ ws
 variables_degrees [] vs = refl
 variables_degrees (w ∷ ws) vs =
-    ap (λ x. x ∷ map (weighted_degree (w ∷ (ws ++ vs))) (variables 1 (length ws))) (let z = weighted_none (ws ++ vs) in let e : w * 1 + weighted_degree (ws ++ vs) [] ≡ w = omega arith in e) ∙
+    ap (λ x. x ∷ map (weighted_degree (w ∷ (ws ++ vs))) (variables 1 (length ws))) (let z = weighted_nil (ws ++ vs) in let e : w * 1 + weighted_degree (ws ++ vs) [] ≡ w = omega arith in e) ∙
     ap (λ xs. w ∷ xs)
     (variables-suc (weighted_degree (w ∷ (ws ++ vs))) 0 (length ws) ∙
     (map_same (λ m. weighted_degree (w ∷ (ws ++ vs)) (0 ∷ m)) (weighted_degree (ws ++ vs)) (λ m. let e : w * 0 + weighted_degree (ws ++ vs) m ≡ weighted_degree (ws ++ vs) m = omega arith in e) (variables 0 (length ws)) ∙
@@ -119,7 +115,7 @@ variables_degrees (w ∷ ws) vs =
 
 -- weights past the places of the monomial don't count
 pub weighted_front : (ws vs m : List ℕ) → length m ≤ length ws → weighted_degree (ws ++ vs) m ≡ weighted_degree ws m
-weighted_front [] vs [] l = weighted_none vs
+weighted_front [] vs [] l = weighted_nil vs
 weighted_front [] vs (e ∷ m) l = absurd (omega arith)
 weighted_front (w ∷ ws) vs [] l = refl
 weighted_front (w ∷ ws) vs (e ∷ m) l = ap (λ x. w * e + x) (weighted_front ws vs m (omega arith))
@@ -134,12 +130,6 @@ image_front (e ∷ w) (m ∷ ms) ns l = ap (product (monomial_power m e)) (image
 variable_at : (i : ℕ) → exponent (variable i) i ≡ 1
 variable_at zero = refl
 variable_at (suc i) = variable_at i
-
-variable_off : (i j : ℕ) → i ≢ j → exponent (variable i) j ≡ 0
-variable_off zero zero h = absurd (h refl)
-variable_off zero (suc j) h = refl
-variable_off (suc i) zero h = refl
-variable_off (suc i) (suc j) h = variable_off i j (λ e. h (ap suc e))
 
 exponent_power : (j : ℕ) (m : List ℕ) (e : ℕ) → exponent (monomial_power m e) j ≡ exponent m j * e
 exponent_power j m e = power_sum (λ x. exponent x j) refl (λ x y. exponent-product x y j) m e

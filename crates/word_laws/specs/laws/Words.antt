@@ -24,7 +24,8 @@ leads_front ws vs [] h = refl
 leads_front ws vs (m ∷ ms) h = ap (λ x. x ∷ map (weighted_degree (ws ++ vs)) ms) (weighted_front ws vs m h.0.within) ∙ ap (λ xs. weighted_degree ws m ∷ xs) (leads_front ws vs ms h.1)
 
 -- where the degrees agree, a smaller word has no greater sum of x
-x_falls : (a b x y : ℕ) (o : Ordering) → a ≡ b → ordering_then (nat_cmp a b) (ordering_then (nat_cmp x y) o) ≡ Less → x ≤ y
+-- of words of one degree with one image, the smaller has no more of x
+pub x_falls : (a b x y : ℕ) (o : Ordering) → a ≡ b → ordering_then (nat_cmp a b) (ordering_then (nat_cmp x y) o) ≡ Less → x ≤ y
 x_falls a b x y o h k =
     ⊎_elim (λ l. l) (λ l. absurd (clash (sym k ∙ (ap (λ p. ordering_then p (ordering_then (nat_cmp x y) o)) (same a b h) ∙ ap (λ p. ordering_then p o) (above x y (omega (arith, l))))))) (le_or_not x y)
   where

@@ -1,0 +1,111 @@
+-- Coefficients and leads of single terms, sums and differences, and what a decreasing list says of them.
+use Rattle.std.proofs.Common.{◌≡◌, ◌≢◌, ℕ, ◌≤◌, refl, sym, ◌∙◌, ap, List, [], ◌∷◌, ◌++◌, ◌⊎◌, inl, inr, ⊎_elim, cond, true, false, arith}
+use Rattle.std.specs.declared.cmp.Ordering.TheVariants.{Less}
+use Rattle.word_field.specs.Field.{FieldOps, IsField, IsValue}
+use Rattle.word_field.specs.laws.Field.{zero-plus-zero, negate-zero}
+use Rattle.monomial_order.specs.declared.terms.Term.{Term}
+use Rattle.monomial_order.specs.Monomial.{Exponents, product, IsMonomial}
+use Rattle.monomial_order.specs.MonomialOrder.{MonomialOrder, IsMonomialOrder}
+use Rattle.monomial_order.specs.laws.Comparing.{not_below_self, degree_falls}
+use Rattle.polynomials.specs.Polynomial.{Polynomial, same_monomial, coefficient, Same, term_of, scaled, times, negated, minus, constant, IsTerm, IsPoly, IsBelow, IsLead, IsSmall, IsDecreasing, AllAt, lead_monomial}
+use Rattle.polynomials.specs.laws.Ring.{coefficient_value, coefficient-append, times_comm}
+use Rattle.polynomials.specs.laws.Same.{same_true, append_comm}
+use Rattle.polynomials.specs.laws.Value.{one_times}
+use Rattle.polynomials.specs.laws.Canonical.{IsLead_same}
+use Rattle.polynomials.specs.laws.Ideal.{IsPoly-append, IsPoly-negated}
+use Rattle.polynomials.specs.laws.Congruence.{coefficient-minus}
+use Rattle.polynomials.specs.laws.Degrees.{all_found}
+use Rattle.polynomials.specs.laws.Decreasing.{IsDecreasing_IsPoly, IsLead_first, IsLead_unique}
+use Rattle.polynomials.specs.laws.Terms.{scaled_below}
+
+pub nothing_at : {E : Type 0} (K : FieldOps E) (m : Exponents) → K.zero ≡ coefficient K [] m
+unfolding coefficient
+nothing_at K m = refl
+
+module _ {E : Type 0} (K : FieldOps E) (F : IsField K) where
+  -- a single term has a coefficient at its monomial alone
+  pub single_term : (w : Exponents) (c : E) (v : Exponents) → coefficient K (term_of w c ∷ []) v ≢ K.zero → w ≡ v
+  unfolding coefficient
+  single_term w c v k =
+      elim (same_monomial w v) as (λ b. same_monomial w v ≡ b → w ≡ v) [
+        | true ↦ λ e. same_true w v e
+        | false ↦ λ e. absurd (k (ap (λ b. K.plus (cond b c K.zero) K.zero) e ∙ zero-plus-zero K F))
+      ] refl
+
+  -- a sum that is not zero has a part that is not
+  pub sum_nonzero : (a b : E) → K.plus a b ≢ K.zero → (a ≢ K.zero) ⊎ (b ≢ K.zero)
+  sum_nonzero a b h =
+      ⊎_elim (λ z. inr (λ w. h (ap (λ x. K.plus x b) z ∙ (ap (K.plus K.zero) w ∙ zero-plus-zero K F)))) (λ n. inl n) (F.equal_or_not a K.zero)
+
+  pub minus_nonzero : (p q : Polynomial E) (m : Exponents) → coefficient K (minus K p q) m ≢ K.zero → (coefficient K p m ≢ K.zero) ⊎ (coefficient K q m ≢ K.zero)
+  minus_nonzero p q m h =
+      ⊎_elim (λ a. inl a) (λ b. inr (λ z. b (ap K.negate z ∙ negate-zero K F)))
+      (sum_nonzero (coefficient K p m) (K.negate (coefficient K q m)) (λ z. h (coefficient-minus K F p q m ∙ z)))
+
+  pub constant_poly : (n : ℕ) (c : E) → IsValue K c → IsPoly K n (constant K c)
+  constant_poly n c v = (record { monomial = record { trimmed = tt; within = omega arith }; value = v }, tt)
+
+  pub minus_poly : (n : ℕ) (a b : Polynomial E) → IsPoly K n a → IsPoly K n b → IsPoly K n (minus K a b)
+  minus_poly n a b h k = IsPoly-append K F n a (negated K b) h (IsPoly-negated K F n b k)
+
+  -- the product with the constant 1
+  pub times_one : (p : Polynomial E) → Same K (times K p (constant K K.one)) p
+  times_one p m = times_comm K F p (constant K K.one) m ∙ one_times K F p m
+
+  -- what was taken away is put back
+  pub minus_back : (a x : Polynomial E) → Same K (minus K a x ++ x) a
+  minus_back a x m =
+      coefficient-append K F (minus K a x) x m ∙
+      (ap (λ y. K.plus y (coefficient K x m)) (coefficient-minus K F a x m) ∙
+      (F.plus_assoc (coefficient K a m) (K.negate (coefficient K x m)) (coefficient K x m) ∙
+      (ap (K.plus (coefficient K a m)) (F.plus_comm (K.negate (coefficient K x m)) (coefficient K x m) ∙ F.plus_negate (coefficient K x m)) ∙
+      (F.plus_zero (coefficient K a m) ∙ coefficient_value K F a m))))
+
+module _ {E : Type 0} (K : FieldOps E) (F : IsField K) (O : MonomialOrder) (L : IsMonomialOrder O) where
+  -- the lead of a sum, if the second part is below it
+  pub lead_sum : (p q : Polynomial E) (m : Exponents) → IsLead K O p m → ((n : Exponents) → coefficient K q n ≢ K.zero → O.compare n m ≡ Less) → IsLead K O (p ++ q) m
+  lead_sum p q m h k =
+      let none : coefficient K q m ≡ K.zero = ⊎_elim (λ z. z) (λ n. absurd (not_below_self O L m (k m n))) (F.equal_or_not (coefficient K q m) K.zero) in
+      record {
+        nonzero = λ z. h.nonzero (sym (coefficient_value K F p m) ∙ (sym (F.plus_zero (coefficient K p m)) ∙ (ap (K.plus (coefficient K p m)) (sym none) ∙ (sym (coefficient-append K F p q m) ∙ z))));
+        greatest = λ n c ne. ⊎_elim (λ a. h.greatest n a ne) (λ b. k n b) (sum_nonzero K F (coefficient K p n) (coefficient K q n) (λ z. c (coefficient-append K F p q n ∙ z)));
+      }
+
+  -- and if the first part is
+  pub lead_sum_right : (p q : Polynomial E) (m : Exponents) → IsLead K O q m → ((n : Exponents) → coefficient K p n ≢ K.zero → O.compare n m ≡ Less) → IsLead K O (p ++ q) m
+  lead_sum_right p q m h k = IsLead_same K F O L (q ++ p) (p ++ q) m (append_comm K F q p) (lead_sum q p m h k)
+
+  all_monomials : (p : Polynomial E) → IsPoly K O.places p → AllAt (IsMonomial O.places) p
+  all_monomials [] h = tt
+  all_monomials (t ∷ p) h = (h.0.monomial, all_monomials p h.1)
+
+  -- a monomial with a nonzero coefficient is one in the places
+  pub found_monomial : (p : Polynomial E) → IsPoly K O.places p → (m : Exponents) → coefficient K p m ≢ K.zero → IsMonomial O.places m
+  found_monomial p h m k = all_found K F O L (IsMonomial O.places) p (all_monomials p h) m k
+
+  pub small_below : (M : Exponents) (p : Polynomial E) → IsBelow K O M p → O.degree M ≤ 65535 → IsSmall O p
+  small_below M [] h l = tt
+  small_below M (t ∷ p) h l = (let d = degree_falls O L t.at M h.0 in omega arith, small_below M p h.1 l)
+
+  -- the degrees of a decreasing list are at most that of its lead
+  pub small_lead : (p : Polynomial E) → IsDecreasing K O p → O.degree (lead_monomial p) ≤ 65535 → IsSmall O p
+  small_lead [] h l = tt
+  small_lead (t ∷ p) h l = (l, small_below t.at p h.0.above l)
+
+  pub scaled_small : (s : Term E) (q : Polynomial E) → IsTerm K O.places s → IsDecreasing K O q → O.degree (product s.at (lead_monomial q)) ≤ 65535 → IsSmall O (scaled K s q)
+  scaled_small s [] hs h l = tt
+  scaled_small s (x ∷ q) hs h l =
+      (l, small_below (product s.at x.at) (scaled K s q) (scaled_below K F O L s x q hs h.0.term (IsDecreasing_IsPoly K O q h.1) h.0.above) l)
+
+  -- the lead of a decreasing list that is not empty
+  pub decreasing_leads : (p : Polynomial E) → IsDecreasing K O p → p ≢ [] → IsLead K O p (lead_monomial p)
+  decreasing_leads [] h n = absurd (n refl)
+  decreasing_leads (t ∷ p) h n = IsLead_first K F O L t p h
+
+  pub leads_is : (p : Polynomial E) → IsDecreasing K O p → (m : Exponents) → IsLead K O p m → lead_monomial p ≡ m
+  leads_is [] h m l = absurd (l.nonzero (sym (nothing_at K m)))
+  leads_is (t ∷ p) h m l = IsLead_unique K F O L (t ∷ p) t.at m (IsLead_first K F O L t p h) l
+
+  -- a monic list is not empty
+  pub monic_some : (g : Polynomial E) → coefficient K g (lead_monomial g) ≡ K.one → g ≢ []
+  monic_some g m e = F.one_not_zero (sym m ∙ (ap (λ x. coefficient K x (lead_monomial x)) e ∙ sym (nothing_at K [])))
