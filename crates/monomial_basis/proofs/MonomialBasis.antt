@@ -7,17 +7,16 @@ use Rattle.word_field.specs.Field.{FieldOps, IsField}
 use Rattle.word_field.specs.laws.Field.{zero-plus-zero}
 use Rattle.monomial_order.specs.declared.terms.Term.{Term}
 use Rattle.monomial_order.specs.Monomial.{variable, IsMonomial, IsTrimmed}
-use Rattle.monomial_order.specs.MonomialOrder.{MonomialOrder, IsMonomialOrder}
+use Rattle.monomial_order.specs.MonomialOrder.{MonomialOrder, IsMonomialOrder, IsIncreasing}
 use Rattle.monomial_order.specs.laws.Lists.{contains_cases, contains_here, contains_there, contains_none}
 use Rattle.polynomials.specs.Polynomial.{Polynomial, same_monomial, coefficient, Same, term_of, scaled, times, constant, minus, IsTerm, lead_monomial}
 use Rattle.polynomials.specs.Ideal.{Multiple, AreMultiples, sum_of, InIdeal}
 use Rattle.polynomials.specs.Value.{power, monomial_value, value}
 use Rattle.polynomials.specs.Subalgebra.{Presented, IsPresentation, IsGenerator, AreGenerators, product_of, AllIn, IsGenerated, LeadsIdeal, IsStandard, InSubalgebra, LeadsSubalgebra, IsElement, IsReducedBasis}
-use Rattle.monomial_order.specs.MonomialOrder.{IsIncreasing}
 use Rattle.poly_core.specs.Presentation.{AreCanonicalGenerators}
-use Rattle.polynomials.specs.laws.Ring.{times_comm}
 use Rattle.polynomials.specs.laws.Same.{same_true, same_refl}
 use Rattle.polynomials.specs.laws.Value.{one_times}
+use Rattle.polynomials.specs.laws.Coefficients.{times_one}
 use Rattle.polynomials.specs.laws.Congruence.{minus_zero, congruent_same}
 use Rattle.polynomials.specs.laws.ReducedBasis.{generated_times, map_contains}
 use Rattle.monomial_basis.specs.Products.{AreFactors}
@@ -101,8 +100,7 @@ module _ {E : Type 0} (K : FieldOps E) (F : IsField K) where
   value_variable : (fs : List (Polynomial E)) (i : ℕ) (f : Polynomial E) → i < length fs → get_or fs i f ≡ f → Same K (monomial_value K (variable i) fs) f
   value_variable [] i f l e m = absurd (omega arith)
   value_variable (g ∷ fs) zero f l e m =
-      times_comm K F (power K g 1) (constant K K.one) m ∙ (one_times K F (power K g 1) m
-      ∙ (times_comm K F g (constant K K.one) m ∙ (one_times K F g m ∙ ap (λ p. coefficient K p m) e)))
+      times_one K F (power K g 1) m ∙ (times_one K F g m ∙ ap (λ p. coefficient K p m) e)
   value_variable (g ∷ fs) (suc i) f l e m = one_times K F (monomial_value K (variable i) fs) m ∙ value_variable fs i f (omega arith) e m
 
   generator_value : (fs : List (Polynomial E)) (i : ℕ) (f : Polynomial E) → i < length fs → get_or fs i f ≡ f → Same K (value K (monomial_poly K (variable i)) fs) f
@@ -123,7 +121,7 @@ module _ {E : Type 0} (K : FieldOps E) (F : IsField K) where
         | false ↦ λ e. absurd (h (ap (λ b. K.plus (cond b K.one K.zero) K.zero) e ∙ zero-plus-zero K F))
       ] refl
 
--- a lead_monomial among monomials is that of a generator
+-- a lead among monomials is that of a generator
 lead_of_generator : {E : Type 0} (K : FieldOps E) (fs : List (Polynomial E)) → AreMonomials K fs → (m : List ℕ) → Contains (leads_of fs) m → Contains fs (monomial_poly K m)
 lead_of_generator K [] M m h = absurd (contains_none m h)
 lead_of_generator K ([] ∷ fs) M m h = contains_there [] fs (monomial_poly K m) (lead_of_generator K fs (λ f c. M f (contains_there [] fs f c)) m h)
