@@ -6,8 +6,7 @@ ghost use Rattle.monomial_basis.specs.MonomialGenerators.{monomial_poly, AreMono
 
 use crate::minimal_generators;
 use monomial_order::{Memory, Monomial, Order};
-use poly_core::Poly;
-use poly_core::Presentation;
+use poly_core::{Poly, Presentation};
 use std::alloc::Global;
 use word_field::Field;
 

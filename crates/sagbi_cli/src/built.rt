@@ -5,8 +5,7 @@ ghost use Rattle.monomial_basis.specs.MonomialGenerators.{IsMonomialOrZero, AreM
 ghost use Rattle.sagbi_cli.specs.Built.{IsBuilt, IsNotBuilt, IsSomeOther};
 
 use monomial_order::WeightOrder;
-use poly_core::Poly;
-use poly_core::Presentation;
+use poly_core::{Poly, Presentation};
 use word_field::{Field, WordField};
 
 fn is_monomial_or_zero(f: &WordField, p: &Poly<WordField>) -> bool

@@ -84,7 +84,8 @@ const CASES: [Case; 13] = [
     // blanks, comments, zeros, and a generator that is zero by its coefficient
     Case {
         command: "complete P 2",
-        text: "# M\n\n subalgebra\t1\nfield 0101\r\nvars  x y\nweights 1 01\norder lex\nideal 0\ngenerators 3\n101*x\n + x * x\n-100*y*x^1\n\nend",
+        text: "# M\n\n subalgebra\t1\nfield 0101\r\nvars  x y\nweights 1 01\norder lex\nideal 0\n\
+               generators 3\n101*x\n + x * x\n-100*y*x^1\n\nend",
         status: 0,
         report: "report 1\nbound 2\nbasis 2\n1 2 x*y : x*y\n2 2 x^2 : x^2\nend\n",
         line: "",
@@ -133,15 +134,22 @@ fn agrees(alloc: Global, case: &Case, load: u64, put: u64) -> Result<bool, Fail>
     out.fail_at(put)?;
     let mut note = MemorySink::new(alloc, 5, 4096)?;
     let status = run(alloc, &words, &mut shelf, &mut out, &mut note);
-    Ok(status == case.status
-        && out.bytes() == case.report.as_bytes()
-        && note.bytes() == case.line.as_bytes())
+    Ok(
+        status == case.status
+            && out.bytes() == case.report.as_bytes()
+            && note.bytes() == case.line.as_bytes(),
+    )
 }
 
 #[test]
 fn runs_end_as_they_should(rt: HostRuntime) -> Result<(), Fail> {
     for case in &CASES {
-        assert!(rt; agrees(rt.alloc(), case, 9, 99)?, "{} {}", case.command, case.text);
+        assert!(rt;
+            agrees(rt.alloc(), case, 9, 99)?,
+            "{} {}",
+            case.command,
+            case.text
+        );
     }
     Ok(())
 }

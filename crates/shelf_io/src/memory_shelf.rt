@@ -1,5 +1,5 @@
 //! A shelf in memory.
-ghost use Rattle.std.specs.Prelude.{◌≡◌, ◌≤◌, ◌↔◌, Some, IfOk, OnOk, OnErr, IsErrOf, IsTrue, option_copied};
+ghost use Rattle.std.specs.Prelude.{◌≡◌, ◌≤◌, ◌↔◌, Some, None, IfOk, OnOk, OnErr, IsErrOf, IsTrue, option_copied};
 ghost use Rattle.std.specs.FinMap as map;
 ghost use Rattle.shelf_io.specs.Calls.{no_calls, next_fails, after_call, with_failing};
 ghost use Rattle.shelf_io.specs.Counts.{HasRisen};
@@ -103,6 +103,7 @@ impl Shelf for MemoryShelf {
         ensures counted { (shelf_state self.old).calls.faults ≤ (shelf_state self.new).calls.faults }
         ensures failed { IsErrOf result LoadFault.Failed
             → HasRisen (shelf_state self.old).calls.faults (shelf_state self.new).calls.faults }
+        ensures absent { map.get (shelf_state self.old).files name.now ≡ None → ¬ IsErrOf result LoadFault.Memory }
         ensures fails { IsErrOf result LoadFault.Failed ↔ IsTrue (next_fails (shelf_state self.old).calls) }
         ensures after { shelf_state self.new
             ≡ with_calls (shelf_state self.old) (after_call (shelf_state self.old).calls) }
