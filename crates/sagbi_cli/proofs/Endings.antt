@@ -74,47 +74,27 @@ module _ (one : IsOne) (bytes : List ℕ) where
   one_outcome outcomes.Sink q d e = absurd d
   one_outcome outcomes.Memory q d e = absurd d
   one_outcome outcomes.Missing q d e = absurd d
-  one_outcome o outcomes.Usage d e = absurd e
-  one_outcome o outcomes.Shelf d e = absurd e
-  one_outcome o outcomes.Sink d e = absurd e
-  one_outcome o outcomes.Memory d e = absurd e
-  one_outcome o outcomes.Missing d e = absurd e
+  one_outcome o q d e = absurd e
 
   ends_on : (defined o : Outcome) (bound : ℕ) (out : SinkChange) → IsOutcomeOn bytes defined → PutsOn bytes bound o out → EndsAs defined o
   ends_on defined outcomes.Done bound out d h =
       inl (one_outcome outcomes.Done defined (h.0, h.2.presentation, h.2.read, h.2.report.built) d)
-  ends_on defined outcomes.NotBuilt bound out d h = inl (one_outcome outcomes.NotBuilt defined h.0 d)
-  ends_on defined (outcomes.Fault k i) bound out d h = inl (one_outcome (outcomes.Fault k i) defined h.0 d)
-  ends_on defined outcomes.TooLong bound out d h = inl (one_outcome outcomes.TooLong defined h.0 d)
-  ends_on defined outcomes.Usage bound out d h = absurd h.0
-  ends_on defined outcomes.Missing bound out d h = absurd h.0
-  ends_on defined outcomes.Shelf bound out d h = inr (inl refl)
-  ends_on defined outcomes.Memory bound out d h = inr (inr (inl refl))
   ends_on defined outcomes.Sink bound out d h =
       inr (inr (inr (one_outcome defined outcomes.Done d (h.0.0, h.0.2.presentation, h.0.2.read, h.0.2.report.built), refl)))
+  ends_on defined outcomes.Shelf bound out d h = inr (inl refl)
+  ends_on defined outcomes.Memory bound out d h = inr (inr (inl refl))
+  ends_on defined o bound out d h = inl (one_outcome o defined h.0 d)
 
 missing : (defined : Outcome) → IsOutcomeAt None defined → outcomes.Missing ≡ defined
 missing outcomes.Missing d = refl
-missing outcomes.Done d = absurd d
-missing outcomes.NotBuilt d = absurd d
-missing (outcomes.Fault kind line) d = absurd d
-missing outcomes.TooLong d = absurd d
-missing outcomes.Usage d = absurd d
-missing outcomes.Shelf d = absurd d
-missing outcomes.Sink d = absurd d
-missing outcomes.Memory d = absurd d
+missing defined d = absurd d
 
 ends_at : IsOne → (content : Option (List ℕ)) (defined o : Outcome) (bound : ℕ) (out : SinkChange) → IsOutcomeAt content defined → PutsAt content bound o out → EndsAs defined o
 ends_at one (Some bytes) defined o bound out d h = ends_on one bytes defined o bound out d h
 ends_at one None defined outcomes.Missing bound out d h = inl (missing defined d)
 ends_at one None defined outcomes.Shelf bound out d h = inr (inl refl)
 ends_at one None defined outcomes.Memory bound out d h = inr (inr (inl refl))
-ends_at one None defined outcomes.Done bound out d h = absurd h
-ends_at one None defined outcomes.NotBuilt bound out d h = absurd h
-ends_at one None defined (outcomes.Fault kind line) bound out d h = absurd h
-ends_at one None defined outcomes.TooLong bound out d h = absurd h
-ends_at one None defined outcomes.Usage bound out d h = absurd h
-ends_at one None defined outcomes.Sink bound out d h = absurd h
+ends_at one None defined o bound out d h = absurd h
 
 -- a command ends as its file says
 pub command_ends : IsOne → (words : List (List ℕ)) (files : Files) (pres : List ℕ) (bound : ℕ) (defined o : Outcome) (out : SinkChange) →
@@ -137,11 +117,7 @@ module _ (bytes : List ℕ) (bound : ℕ) where
   puts_only_reports outcomes.Sink out h = tt
   puts_only_reports outcomes.Memory out h = tt
   puts_only_reports outcomes.Shelf out h = h
-  puts_only_reports outcomes.NotBuilt out h = h.1
-  puts_only_reports (outcomes.Fault k i) out h = h.1
-  puts_only_reports outcomes.TooLong out h = h.1
-  puts_only_reports outcomes.Usage out h = h.1
-  puts_only_reports outcomes.Missing out h = h.1
+  puts_only_reports o out h = h.1
 
   pub sink_failed : (o : Outcome) (out : SinkChange) → PutsOn bytes bound o out → o ≡ outcomes.Sink → HasFailed out
   sink_failed o out h is = (subst (λ x. PutsOn bytes bound x out) is h).1

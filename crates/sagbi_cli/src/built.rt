@@ -14,7 +14,7 @@ fn is_monomial_or_zero(f: &WordField, p: &Poly<WordField>) -> bool
     match p.terms() {
         [] => true,
         [term] => term.by == f.one(),
-        _ => false,
+        [_, _, ..] => false,
     }
 }
 
