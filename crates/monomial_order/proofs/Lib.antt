@@ -5,4 +5,3 @@ pub mod RowSums
 pub mod Firsts
 pub mod FaultLemmas
 pub mod PlaceLemmas
-pub mod SmallDegrees

@@ -25,7 +25,7 @@ pub record IsLight (weights : List ℕ) (rows : List (List ℕ)) : Type 0 where
   pub weights_light : All (λ w. w ≤ 64) weights
   pub rows_light : All (All (λ e. e ≤ 1000)) rows
 
--- the i-th entry of the row is the first that is too heavy, where row 0 is the weights, which come first
+-- the i-th entry of the row is the first that is too heavy; row 0 is the weights, which come first
 abbrev pub IsFirstHeavy : List ℕ → List (List ℕ) → ℕ → ℕ → Type 0
 IsFirstHeavy weights rows zero i = IsFirst (λ w. 64 < w) weights i
 IsFirstHeavy weights rows (suc r) i =

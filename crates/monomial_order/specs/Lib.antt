@@ -1,3 +1,4 @@
+pub mod Limits
 pub mod Monomial
 pub mod MonomialOrder
 pub mod Orders

@@ -9,7 +9,7 @@ Exponents = List ℕ
 abbrev pub exponent : Exponents → ℕ → ℕ
 exponent m i = slice_index m i
 
--- no zero stands at the end
+-- the last exponent is not zero
 abbrev pub IsTrimmed : Exponents → Type 0
 IsTrimmed [] = Unit {0}
 IsTrimmed (e ∷ []) = e ≢ 0

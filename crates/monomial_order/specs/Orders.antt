@@ -31,8 +31,8 @@ weight_order weights rows tie = record {
   compare = by_rows (weights ∷ rows) tie;
 }
 
--- The word order: the degree, then the sum of the exponents of x, then lex over s_1, .., s_r, and then, where
--- these agree, lex over x_1, .., x_n. `xs` has the degrees of x_1, .., x_n, and `ss` those of s_1, .., s_r.
+-- The word order: the degree, then the sum of the exponents of x, then lex over s_1, .., s_r, then lex over
+-- x_1, .., x_n. `xs` has the degrees of x_1, .., x_n, and `ss` those of s_1, .., s_r.
 abbrev pub word_order : List ℕ → List ℕ → MonomialOrder
 word_order xs ss = record {
   places = length (xs ++ ss);

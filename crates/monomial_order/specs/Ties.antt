@@ -1,4 +1,4 @@
--- What decides where the degree and the rows agree.
+-- What decides if the degrees and the rows agree.
 use Rattle.std.specs.Prelude.{ℕ, List}
 use Rattle.std.specs.declared.cmp.Ordering.{Ordering}
 use Rattle.monomial_order.specs.declared.tie_break.Tie.{Tie}

@@ -20,10 +20,12 @@ pub fn product_laws()
 pub fn division_laws()
     ensures reflexive { (m : Exponents) → Divides m m }
     ensures transitive { (k m n : Exponents) → Divides k m → Divides m n → Divides k n }
-    ensures antisymmetric { (m n : Exponents) → IsTrimmed m → IsTrimmed n → Divides m n → Divides n m → m ≡ n }
+    ensures antisymmetric { (m n : Exponents) → IsTrimmed m → IsTrimmed n →
+        Divides m n → Divides n m → m ≡ n }
     ensures decided { (m n : Exponents) → Divides m n ⊎ (Divides m n → ⊥) }
     ensures factor { (m k : Exponents) → Divides m (product m k) }
-    ensures cofactor { (m n : Exponents) → IsTrimmed m → IsTrimmed n → Divides m n → (k : Exponents) × IsTrimmed k × (product m k ≡ n) }
+    ensures cofactor { (m n : Exponents) → IsTrimmed m → IsTrimmed n → Divides m n →
+        (k : Exponents) × IsTrimmed k × (product m k ≡ n) }
 {}
 
 /// Least common multiples of monomials.
@@ -38,11 +40,14 @@ pub fn least_common_multiple_laws()
 pub fn order_laws<O: Order>(order: &O)
     ensures laws { IsMonomialOrder (O.order order.now) }
     ensures small { HasSmallDegrees (O.order order.now) }
-    ensures one_below { (m : Exponents) → IsMonomial (O.order order.now).places m → m ≢ [] → (O.order order.now).compare [] m ≡ Less }
-    ensures none_below_one { (m : Exponents) → IsMonomial (O.order order.now).places m → (O.order order.now).compare m [] ≢ Less }
+    ensures one_below { let L = O.order order.now in (m : Exponents) → IsMonomial L.places m → m ≢ [] →
+        L.compare [] m ≡ Less }
+    ensures none_below_one { let L = O.order order.now in (m : Exponents) → IsMonomial L.places m →
+        L.compare m [] ≢ Less }
 {}
 
-/// The rank of a monomial falls with the monomial, so nothing falls for ever.
+/// A smaller monomial has a smaller rank, so each decreasing sequence of monomials ends.
 pub fn rank_falls<O: Order>(order: &O)
-    ensures { (k m : Exponents) → IsMonomial (O.order order.now).places k → (O.order order.now).compare k m ≡ Less → rank (O.order order.now) k < rank (O.order order.now) m }
+    ensures { let L = O.order order.now in (k m : Exponents) → IsMonomial L.places k → L.compare k m ≡ Less →
+        rank L k < rank L m }
 {}

@@ -10,8 +10,6 @@ mod places;
 mod rows;
 mod sums;
 mod terms;
-#[cfg(test)]
-mod tests;
 mod tie_break;
 mod weight_order;
 mod word_order;

@@ -1,5 +1,6 @@
 //! Monomials.
 ghost use Rattle.std.specs.Prelude.{◌≡◌, ℕ, ◌+◌, ◌≤◌, ◌↔◌, length, [], IsTrue, IsOk, IfOk, IfSome, IsSome, IsNone};
+ghost use Rattle.monomial_order.specs.Limits.{exponent_max};
 ghost use Rattle.monomial_order.specs.Monomial.{IsTrimmed, product, exponent, least_common_multiple, Divides};
 
 use crate::Memory;
@@ -55,7 +56,7 @@ impl Monomial {
 
     /// The product.
     pub fn times(&self, alloc: Global, b: &Monomial) -> Result<Monomial, Memory>
-        requires fits { (i : ℕ) → exponent self.now i + exponent b.now i ≤ 65535 }
+        requires fits { (i : ℕ) → exponent self.now i + exponent b.now i ≤ exponent_max }
         ensures product { IfOk result (λ m. m ≡ product self.now b.now) }
         ensures short { length self.now ≤ 32 → length b.now ≤ 32 → IsOk result }
     {
@@ -68,7 +69,7 @@ impl Monomial {
 
     fn times_shorter(&self, alloc: Global, b: &Monomial) -> Result<Monomial, Memory>
         requires shorter { length b.now ≤ length self.now }
-        requires fits { (i : ℕ) → exponent self.now i + exponent b.now i ≤ 65535 }
+        requires fits { (i : ℕ) → exponent self.now i + exponent b.now i ≤ exponent_max }
         ensures product { IfOk result (λ m. m ≡ product self.now b.now) }
         ensures short { length self.now ≤ 32 → IsOk result }
     {
@@ -77,7 +78,7 @@ impl Monomial {
         Ok(Monomial { exponents })
     }
 
-    /// The cofactor of b, where b divides this monomial.
+    /// The cofactor of b, if b divides this monomial.
     pub fn quotient(&self, alloc: Global, b: &Monomial) -> Result<Option<Monomial>, Memory>
         ensures some { IfOk result (λ q. IfSome q (λ k. product b.now k ≡ self.now)) }
         ensures trimmed { IfOk result (λ q. IfSome q IsTrimmed) }

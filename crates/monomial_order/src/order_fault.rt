@@ -27,8 +27,8 @@ pub enum OrderFault {
     /// This row is the first that has not one entry for each weight.
     #[error("row {0} has not as many entries as there are weights")]
     RowLength(usize),
-    /// Want of memory.
-    #[error("want of memory")]
+    /// Out of memory.
+    #[error("out of memory")]
     Memory,
 }
 

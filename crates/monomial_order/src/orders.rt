@@ -1,5 +1,6 @@
 //! Orders of monomials.
 ghost use Rattle.std.specs.Prelude.{◌≡◌, ◌≤◌};
+ghost use Rattle.monomial_order.specs.Limits.{exponent_max};
 ghost use Rattle.monomial_order.specs.Monomial.{IsMonomial};
 ghost use Rattle.monomial_order.specs.MonomialOrder.{MonomialOrder, IsMonomialOrder, HasSmallDegrees};
 
@@ -14,13 +15,13 @@ pub trait Order: Drop {
     fn compare(&self, a: &Monomial, b: &Monomial) -> Ordering
         requires left { IsMonomial (order self.now).places a.now }
         requires right { IsMonomial (order self.now).places b.now }
-        requires left_degree { (order self.now).degree a.now ≤ 65535 }
-        requires right_degree { (order self.now).degree b.now ≤ 65535 }
+        requires left_degree { (order self.now).degree a.now ≤ exponent_max }
+        requires right_degree { (order self.now).degree b.now ≤ exponent_max }
         ensures { result ≡ (order self.now).compare a.now b.now };
 
     fn degree(&self, m: &Monomial) -> u32
         requires monomial { IsMonomial (order self.now).places m.now }
-        requires small { (order self.now).degree m.now ≤ 65535 }
+        requires small { (order self.now).degree m.now ≤ exponent_max }
         ensures { result ≡ (order self.now).degree m.now };
 
     fn places(&self) -> usize

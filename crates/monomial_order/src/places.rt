@@ -1,5 +1,6 @@
 //! Lists of exponents, place by place.
 ghost use Rattle.std.specs.Prelude.{◌≡◌, ◌≤◌, ◌+◌, ◌-◌, ◌↔◌, ℕ, IsTrue, length, take};
+ghost use Rattle.monomial_order.specs.Limits.{exponent_max};
 ghost use Rattle.monomial_order.specs.Monomial.{exponent, product, least_common_multiple, Divides, IsTrimmed};
 
 /// How many places are left when the zeros at the end are left out.
@@ -19,7 +20,7 @@ pub(crate) fn used_places(exponents: &[u16]) -> usize
 /// Adds exponents, of which there are no more than sums.
 pub(crate) fn add_places(sums: &mut [u16], exponents: &[u16])
     requires short { length exponents.now ≤ length sums.old }
-    requires fits { (i : ℕ) → exponent sums.old i + exponent exponents.now i ≤ 65535 }
+    requires fits { (i : ℕ) → exponent sums.old i + exponent exponents.now i ≤ exponent_max }
     ensures { sums.new ≡ product sums.old exponents.now }
 {
     for i in 0..exponents.len() {

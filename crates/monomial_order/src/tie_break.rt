@@ -1,4 +1,4 @@
-//! What decides where the degree and the rows agree.
+//! What decides if the degrees and the rows agree.
 ghost use Rattle.std.specs.Prelude.{◌≡◌};
 ghost use Rattle.monomial_order.specs.Ties.{tie_order};
 

@@ -1,5 +1,6 @@
 //! The orders of monomials by weights.
 ghost use Rattle.std.specs.Prelude.{◌≡◌, ◌≤◌, ◌<◌, ℕ, true, List, IfOk, IfErr, IsErrOf, ◌≢◌, length};
+ghost use Rattle.monomial_order.specs.Limits.{exponent_max};
 ghost use Rattle.monomial_order.specs.Monomial.{weighted_degree};
 ghost use Rattle.monomial_order.specs.Orders.{weight_order, by_rows};
 ghost use Rattle.monomial_order.specs.Ties.{tie_order};
@@ -43,7 +44,8 @@ impl WeightOrder {
         ensures tie { IfOk result (λ o. o.tie ≡ tie) }
         ensures valid { IfOk result (λ _. IsWeighing weights.now rows.now) }
         ensures cause { IfErr result (IsFault weights.now rows.now) }
-        ensures exact { (e : OrderFault) → e ≢ OrderFault.Memory → IsFault weights.now rows.now e → IsErrOf result e }
+        ensures exact { (e : OrderFault) → e ≢ OrderFault.Memory → IsFault weights.now rows.now e →
+            IsErrOf result e }
     {
         if let Some(fault) = find_fault(weights, rows) {
             return Err(fault);
@@ -87,8 +89,8 @@ impl WeightOrder {
 
     /// The order of two monomials of the same degree.
     fn compare_within_degree(&self, a: &[u16], b: &[u16]) -> Ordering
-        requires left { weighted_degree self.now.weights.items a.now ≤ 65535 }
-        requires right { weighted_degree self.now.weights.items b.now ≤ 65535 }
+        requires left { weighted_degree self.now.weights.items a.now ≤ exponent_max }
+        requires right { weighted_degree self.now.weights.items b.now ≤ exponent_max }
         ensures { result ≡ by_rows self.now.rows.items (tie_order self.now.tie) a.now b.now }
     {
         for row in self.rows.as_slice() {

@@ -1,6 +1,7 @@
 //! The order of words.
 ghost use Rattle.std.specs.Prelude.{◌≡◌, ◌≤◌, ◌<◌, ◌^◌, ℕ, true, [], ◌∷◌, ◌++◌, IfOk, OnOk, OnErr, length, sum, take, drop};
 ghost use Rattle.std.specs.Ordering.{nat_cmp, on, then_cmp};
+ghost use Rattle.monomial_order.specs.Limits.{degree_max};
 ghost use Rattle.monomial_order.specs.Monomial.{IsMonomial, weighted_degree};
 ghost use Rattle.monomial_order.specs.Orders.{word_order, lex};
 ghost use Rattle.monomial_order.specs.Ranges.{all_between};
@@ -20,14 +21,14 @@ use std::cmp::Ordering;
 pub struct WordOrder {
     pub x_degrees: Vec<u32>,
     pub s_degrees: Vec<u32>,
-    ghost x_in_range: { all_between 1 30000 x_degrees.items ≡ true },
-    ghost s_in_range: { all_between 1 30000 s_degrees.items ≡ true },
+    ghost x_in_range: { all_between 1 degree_max x_degrees.items ≡ true },
+    ghost s_in_range: { all_between 1 degree_max s_degrees.items ≡ true },
 }
 
 impl WordOrder {
     /// The order of words in x_1, .., x_n alone, with these degrees.
     pub fn new(alloc: Global, x_degrees: &[u32]) -> Result<WordOrder, Memory>
-        requires { all_between 1 30000 x_degrees.now ≡ true }
+        requires { all_between 1 degree_max x_degrees.now ≡ true }
         ensures x { IfOk result (λ o. o.x_degrees.items ≡ x_degrees.now) }
         ensures s { IfOk result (λ o. o.s_degrees.items ≡ []) }
     {
@@ -40,7 +41,7 @@ impl WordOrder {
     /// Adds the next s, at the next place.
     pub fn push_place(&mut self, degree: u32) -> Result<(), Memory>
         requires positive { 1 ≤ degree }
-        requires small { degree ≤ 30000 }
+        requires small { degree ≤ degree_max }
         ensures s { OnOk result (self.new.s_degrees.items ≡ self.old.s_degrees.items ++ degree ∷ []) }
         ensures x { self.new.x_degrees.items ≡ self.old.x_degrees.items }
         ensures err { OnErr result (self.new.s_degrees.items ≡ self.old.s_degrees.items) }
@@ -63,7 +64,8 @@ impl WordOrder {
     fn compare_within_degree(&self, a: &[u16], b: &[u16]) -> Ordering
         requires left { weighted_degree self.now.x_degrees.items a.now < 2 ^ 32 }
         requires right { weighted_degree self.now.x_degrees.items b.now < 2 ^ 32 }
-        ensures { result ≡ then_cmp (on (λ w. sum (take (length self.now.x_degrees.items) w)) nat_cmp) (then_cmp (on (drop (length self.now.x_degrees.items)) lex) lex) a.now b.now }
+        ensures { let n = length self.now.x_degrees.items in
+            result ≡ then_cmp (on (λ w. sum (take n w)) nat_cmp) (then_cmp (on (drop n) lex) lex) a.now b.now }
     {
         let x_count = self.x_degrees.as_slice().len();
         let (a_x, a_s) = split_places(a, x_count);

@@ -4,7 +4,7 @@ use Rattle.std.specs.Prelude.{All}
 use Rattle.std.proofs.lemmas.Bool.{eq-eqb, true≢false}
 use Rattle.std.specs.declared.cmp.Ordering.TheVariants.{Less, Equal, Greater}
 use Rattle.word_field.specs.Field.{FieldOps, IsField, IsValue}
-use Rattle.word_field.specs.laws.Field.{zero-times, times-zero, zero-plus-zero, one-times, negate-zero}
+use Rattle.word_field.specs.laws.Field.{zero-times, times-zero, zero-plus-zero, one-times, negate-zero, negate-negate}
 use Rattle.monomial_order.specs.declared.terms.Term.{Term}
 use Rattle.monomial_order.specs.MonomialOrder.{MonomialOrder, IsMonomialOrder}
 use Rattle.monomial_order.specs.laws.Comparing.{degree_falls, greater_less}
@@ -12,7 +12,7 @@ use Rattle.polynomials.specs.Polynomial.{Polynomial, same_monomial, coefficient,
 use Rattle.polynomials.specs.laws.Ring.{coefficient_value}
 use Rattle.polynomials.specs.laws.Same.{append_same}
 use Rattle.polynomials.specs.laws.Value.{coefficient-scaled}
-use Rattle.polynomials.specs.laws.Congruence.{negated_is, negate_negate}
+use Rattle.polynomials.specs.laws.Congruence.{negated_is}
 use Rattle.polynomials.specs.laws.Decreasing.{coefficient_first, coefficient_above}
 use Rattle.polynomials.specs.laws.Degrees.{differs, coefficient-component, decreasing_all, all_found}
 use Rattle.polynomials.specs.laws.ReducedBasis.{degree_one}
@@ -29,7 +29,7 @@ monomial_at P (u ∷ p) (suc i) t h l e = monomial_at P p i t h.1 (omega arith) 
 
 module _ {E : Type 0} (K : FieldOps E) (F : IsField K) where
   pub negate_one_not_zero : K.negate K.one ≢ K.zero
-  negate_one_not_zero h = F.one_not_zero (sym F.one_value ∙ (sym (negate_negate K F K.one) ∙ (ap K.negate h ∙ negate-zero K F)))
+  negate_one_not_zero h = F.one_not_zero (sym F.one_value ∙ (sym (negate-negate K F K.one) ∙ (ap K.negate h ∙ negate-zero K F)))
 
   -- the difference as a sum with the multiple by -1
   pub difference : (a b r : Polynomial E) → Same K r (a ++ scaled K (term_of [] (K.negate K.one)) b) → Same K r (minus K a b)
@@ -118,8 +118,8 @@ module _ {E : Type 0} (K : FieldOps E) (F : IsField K) where
         first_found = subst (λ x. coefficient K x t.at ≢ K.zero) (sym e) (first_nonzero t rest (subst (IsDecreasing K O) e h))
 
 -- a constant
-pub kept_constant : {E : Type 0} (K : FieldOps E) (O : MonomialOrder) → IsMonomialOrder O → (c : E) → IsValue K c → c ≢ K.zero → IsCanonical K O (constant K c)
-kept_constant K O L c v n = record {
+pub canonical_constant : {E : Type 0} (K : FieldOps E) (O : MonomialOrder) → IsMonomialOrder O → (c : E) → IsValue K c → c ≢ K.zero → IsCanonical K O (constant K c)
+canonical_constant K O L c v n = record {
   decreasing = (record { term = record { monomial = record { trimmed = tt; within = omega arith }; value = v }; nonzero = n; above = tt }, tt);
   small = (let z = degree_one O L in omega arith, tt);
 }

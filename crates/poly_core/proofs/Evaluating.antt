@@ -23,9 +23,9 @@ module _ {E : Type 0} (K : FieldOps E) (F : IsField K) (O : MonomialOrder) (L : 
   below_within m [] h = tt
   below_within m (t ∷ q) h = (degree_falls O L t.at m h.0, below_within m q h.1)
 
-  kept_within : (p : Polynomial E) → IsDecreasing K O p → AllAt (λ n. O.degree n ≤ degree_of O p) p
-  kept_within [] h = tt
-  kept_within (t ∷ p) h = (omega arith, below_within t.at p h.0.above)
+  canonical_within : (p : Polynomial E) → IsDecreasing K O p → AllAt (λ n. O.degree n ≤ degree_of O p) p
+  canonical_within [] h = tt
+  canonical_within (t ∷ p) h = (omega arith, below_within t.at p h.0.above)
 
   same_all : (P : List ℕ → Type 0) (r q : Polynomial E) → IsDecreasing K O r → Same K r q → AllAt P q → AllAt P r
   same_all P r q h s k = decreasing_all K F O L P r h (λ m c. all_found K F O L P q k m (λ z. c (s m ∙ z)))
@@ -40,10 +40,10 @@ module _ {E : Type 0} (K : FieldOps E) (F : IsField K) (O : MonomialOrder) (L : 
   power_within p zero h = within_more 0 (zero * degree_of O p) (constant K K.one) (omega arith) (constant_within K.one)
   power_within p (suc e) h =
       within_more (degree_of O p + e * degree_of O p) (suc e * degree_of O p) (times K p (power K p e)) (omega arith)
-      (within_times K O L p (power K p e) (degree_of O p) (e * degree_of O p) (kept_within p h) (power_within p e h))
+      (within_times K O L p (power K p e) (degree_of O p) (e * degree_of O p) (canonical_within p h) (power_within p e h))
 
   entry_within : (p : Polynomial E) (e : ℕ) (r : Polynomial E) → IsDecreasing K O p → IsPowerOf K O p e r → AllAt (λ n. O.degree n ≤ e * degree_of O p) r
-  entry_within p e r h k = same_all (λ n. O.degree n ≤ e * degree_of O p) r (power K p e) k.kept.decreasing k.same (power_within p e h)
+  entry_within p e r h k = same_all (λ n. O.degree n ≤ e * degree_of O p) r (power K p e) k.canonical.decreasing k.same (power_within p e h)
 
   -- an entry of a row of powers
   pub power_found : (p : Polynomial E) (rs : List (Polynomial E)) (e : ℕ) (r : Polynomial E) → IsCanonical K O p → ArePowers K O p rs → 1 ≤ e → e ≤ length rs + 1 →
@@ -51,7 +51,7 @@ module _ {E : Type 0} (K : FieldOps E) (F : IsField K) (O : MonomialOrder) (L : 
   power_found p rs zero r hp h l m f n = absurd (omega arith)
   power_found p rs (suc zero) r hp h l m f n =
       subst (IsPowerOf K O p 1) (sym (f refl))
-      record { kept = hp; same = λ k. sym (times_comm K F p (constant K K.one) k ∙ one_times K F p k) }
+      record { canonical = hp; same = λ k. sym (times_comm K F p (constant K K.one) k ∙ one_times K F p k) }
   power_found p rs (suc (suc e)) r hp h l m f n =
       let is : suc (suc e) ≡ e + 2 = omega arith in
       subst (IsPowerOf K O p (suc (suc e))) (sym (n e is)) (subst (λ x. IsPowerOf K O p x (get_or rs e [])) (sym is) (h e (omega arith)))
@@ -59,12 +59,12 @@ module _ {E : Type 0} (K : FieldOps E) (F : IsField K) (O : MonomialOrder) (L : 
   -- the next power
   pub next_small : (p : Polynomial E) (e : ℕ) (r : Polynomial E) → IsCanonical K O p → IsPowerOf K O p e r → (e + 1) * degree_of O p ≤ 65535 → IsSmall O (times K p r)
   next_small p e r hp h b =
-      small_times K O L p r (degree_of O p) (e * degree_of O p) (kept_within p hp.decreasing) (entry_within p e r hp.decreasing h) (omega arith)
+      small_times K O L p r (degree_of O p) (e * degree_of O p) (canonical_within p hp.decreasing) (entry_within p e r hp.decreasing h) (omega arith)
 
   pub next_power : (p : Polynomial E) (e : ℕ) (r s : Polynomial E) → IsPowerOf K O p e r → IsCanonical K O s → Same K s (times K p r) → IsPowerOf K O p (e + 1) s
   next_power p e r s h k is =
       subst (λ x. IsPowerOf K O p x s) (let n : suc e ≡ e + 1 = omega arith in n)
-      record { kept = k; same = λ m. is m ∙ times_same K F p p r (power K p e) (λ n. refl) h.same m }
+      record { canonical = k; same = λ m. is m ∙ times_same K F p p r (power K p e) (λ n. refl) h.same m }
 
   pub more_powers : (p : Polynomial E) (rs : List (Polynomial E)) (r : Polynomial E) (qs : List (Polynomial E)) → ArePowers K O p rs → IsPowerOf K O p (length rs + 2) r →
       qs ≡ rs ++ (r ∷ []) → ArePowers K O p qs
@@ -86,14 +86,14 @@ module _ {E : Type 0} (K : FieldOps E) (F : IsField K) (O : MonomialOrder) (L : 
 
 -- r is c times the value of a monomial
 pub record IsPartial {E : Type 0} (K : FieldOps E) (O : MonomialOrder) (c : E) (m : List ℕ) (fs : List (Polynomial E)) (r : Polynomial E) : Type 0 where
-  pub kept : IsCanonical K O r
+  pub canonical : IsCanonical K O r
   pub same : Same K r (times K (constant K c) (monomial_value K m fs))
   pub within : AllAt (λ n. O.degree n ≤ value_degree O fs m) r
 
 module _ {E : Type 0} (K : FieldOps E) (F : IsField K) (O : MonomialOrder) (L : IsMonomialOrder O) (c : E) where
   pub partial_start : (fs : List (Polynomial E)) (r : Polynomial E) → IsCanonical K O r → Same K r (constant K c) → AllAt (λ n. O.degree n ≤ 0) r → IsPartial K O c [] fs r
   partial_start fs r h s w = record {
-    kept = h;
+    canonical = h;
     same = λ n. s n ∙ sym (times_comm K F (constant K c) (constant K K.one) n ∙ one_times K F (constant K c) n);
     within = within_empty fs;
   }
@@ -105,7 +105,7 @@ module _ {E : Type 0} (K : FieldOps E) (F : IsField K) (O : MonomialOrder) (L : 
   module _ (m : List ℕ) (f : Polynomial E) (fs : List (Polynomial E)) (r : Polynomial E) (h : IsPartial K O c m fs r) where
     pub partial_skip : IsPartial K O c (0 ∷ m) (f ∷ fs) r
     partial_skip = record {
-      kept = h.kept;
+      canonical = h.canonical;
       same = λ n. h.same n ∙ times_same K F (constant K c) (constant K c) (monomial_value K m fs) (times K (constant K K.one) (monomial_value K m fs))
           (λ k. refl) (λ k. sym (one_times K F (monomial_value K m fs) k)) n;
       within = within_more K F O L (value_degree O fs m) (value_degree O (f ∷ fs) (0 ∷ m)) r (omega arith) h.within;
@@ -118,7 +118,7 @@ module _ {E : Type 0} (K : FieldOps E) (F : IsField K) (O : MonomialOrder) (L : 
 
       pub partial_times : (s : Polynomial E) → IsCanonical K O s → Same K s (times K pw r) → IsPartial K O c (e ∷ m) (f ∷ fs) s
       partial_times s hs is = record {
-        kept = hs;
+        canonical = hs;
         same = λ n. is n ∙
             (times_same K F pw (power K f e) r (times K (constant K c) (monomial_value K m fs)) hp.same h.same n ∙
             (sym (times_assoc K F (power K f e) (constant K c) (monomial_value K m fs) n) ∙

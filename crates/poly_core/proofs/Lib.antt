@@ -2,6 +2,5 @@ pub mod Merging
 pub mod Steps
 pub mod Calls
 pub mod Evaluating
-pub mod SmallDegrees
 pub mod NameLists
 pub mod Texts

@@ -1,4 +1,4 @@
--- The steps of merging two falling lists from their ends.
+-- The steps of merging two decreasing lists from their ends.
 use Rattle.std.proofs.Common.{◌≡◌, ◌≢◌, ℕ, ◌<◌, ◌≤◌, ◌+◌, ◌-◌, suc, zero, refl, sym, ◌∙◌, ap, subst, List, [], ◌∷◌, ◌++◌, length, get_or, cond, Bool, true, false, ◌⊎◌, inl, inr, ⊎_elim, append-nil, append_assoc, arith}
 use Rattle.std.specs.Prelude.{not, reverse, nat_eq}
 use Rattle.std.proofs.lemmas.Bool.{true≢false, eqb-true}
@@ -27,7 +27,7 @@ pub record IsMerging {E : Type 0} (K : FieldOps E) (O : MonomialOrder) (a b p q 
 
 -- c is the sum of a and b
 pub record IsMerged {E : Type 0} (K : FieldOps E) (O : MonomialOrder) (a b c : Polynomial E) : Type 0 where
-  pub kept : IsCanonical K O c
+  pub canonical : IsCanonical K O c
   pub sum : Same K c (a ++ b)
 
 -- the last item of a list, by its index
@@ -191,11 +191,11 @@ module _ {E : Type 0} (K : FieldOps E) (F : IsField K) (O : MonomialOrder) (L : 
         }
 
   pub first_done : (a b q r : Polynomial E) → IsMerging K O a b [] q r → IsMerged K O a b (q ++ r)
-  first_done a b q r h = record { kept = record { decreasing = h.second; small = IsSmall-append O q r h.small_second h.small }; sum = h.sum }
+  first_done a b q r h = record { canonical = record { decreasing = h.second; small = IsSmall-append O q r h.small_second h.small }; sum = h.sum }
 
   pub second_done : (a b p r : Polynomial E) → IsMerging K O a b p [] r → IsMerged K O a b (p ++ r)
   second_done a b p r h = record {
-    kept = record { decreasing = h.first; small = IsSmall-append O p r h.small_first h.small };
+    canonical = record { decreasing = h.first; small = IsSmall-append O p r h.small_first h.small };
     sum = λ m. ap (λ x. coefficient K (x ++ r) m) (sym (append-nil p)) ∙ h.sum m;
   }
 
@@ -223,11 +223,11 @@ told_same n true h k = refl
 told_same n false h k = absurd (true≢false (sym k ∙ h))
 
 module _ {E : Type 0} (K : FieldOps E) (F : IsField K) (O : MonomialOrder) (L : IsMonomialOrder O) (a b p q r : Polynomial E) (h : IsMerging K O a b p q (reverse r)) where
-  pub first_kept : IsCanonical K O p
-  first_kept = record { decreasing = IsDecreasing-left K O p (reverse r) h.first; small = h.small_first }
+  pub first_canonical : IsCanonical K O p
+  first_canonical = record { decreasing = IsDecreasing-left K O p (reverse r) h.first; small = h.small_first }
 
-  pub second_kept : IsCanonical K O q
-  second_kept = record { decreasing = IsDecreasing-left K O q (reverse r) h.second; small = h.small_second }
+  pub second_canonical : IsCanonical K O q
+  second_canonical = record { decreasing = IsDecreasing-left K O q (reverse r) h.second; small = h.small_second }
 
   put_last : (r' : Polynomial E) (x : Term E) (p' q' : Polynomial E) → r' ≡ r ++ (x ∷ []) → IsMerging K O a b p' q' (x ∷ reverse r) → IsMerging K O a b p' q' (reverse r')
   put_last r' x p' q' e k = subst (IsMerging K O a b p' q') (sym (ap reverse e ∙ reverse_last r x)) k

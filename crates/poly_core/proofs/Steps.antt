@@ -31,7 +31,7 @@ module _ {E : Type 0} (O : MonomialOrder) (d : ℕ) (p : Polynomial E) (i : ℕ)
       h ∙ (sym (append-nil (component O d (take i p))) ∙
       (ap (λ x. component O d (take i p) ++ x) (sym (ap (λ b. cond b (t ∷ []) []) (differs (O.degree t.at) d fails))) ∙ sym (more l e)))
 
--- what an answer without want of memory is
+-- what an answer without out of memory is
 pub if_ok : {T D : Type 0} (P Q : T → Type 0) (r : Result T D) → ((x : T) → P x → Q x) → IfOk r P → IfOk r Q
 if_ok P Q (Ok x) f h = f x h
 if_ok P Q (Err e) f h = tt
@@ -44,8 +44,8 @@ single (y ∷ (z ∷ xs)) x l m e = absurd (omega arith)
 
 module _ {E : Type 0} (K : FieldOps E) (F : IsField K) (O : MonomialOrder) (L : IsMonomialOrder O) (a b : Polynomial E) (ha : IsCanonical K O a) (hb : IsCanonical K O b) (small : IsSmall O (times K a b)) where
   -- the product with a list of one term
-  pub kept_one : (t : Term E) → a ≡ t ∷ [] → IsCanonical K O (scaled K t b)
-  kept_one t e =
+  pub canonical_one : (t : Term E) → a ≡ t ∷ [] → IsCanonical K O (scaled K t b)
+  canonical_one t e =
       let f : IsDecreasing K O (t ∷ []) = subst (IsDecreasing K O) e ha.decreasing in
       record {
         decreasing = IsDecreasing-scaled K F O L t b f.0.term f.0.nonzero hb.decreasing;
@@ -53,17 +53,17 @@ module _ {E : Type 0} (K : FieldOps E) (F : IsField K) (O : MonomialOrder) (L : 
       }
 
   module _ (front back : Polynomial E) (e : a ≡ front ++ back) where
-    kept_both : IsCanonical K O (front ++ back)
-    kept_both = subst (IsCanonical K O) e ha
+    canonical_both : IsCanonical K O (front ++ back)
+    canonical_both = subst (IsCanonical K O) e ha
 
     small_both : IsSmall O (times K front b ++ times K back b)
     small_both = subst (IsSmall O) (ap (λ x. times K x b) e ∙ times-append K F front back b) small
 
-    pub kept_front : IsCanonical K O front
-    kept_front = canonical_left K O front back kept_both
+    pub canonical_front : IsCanonical K O front
+    canonical_front = canonical_left K O front back canonical_both
 
-    pub kept_back : IsCanonical K O back
-    kept_back = canonical_right K O front back kept_both
+    pub canonical_back : IsCanonical K O back
+    canonical_back = canonical_right K O front back canonical_both
 
     pub small_front : IsSmall O (times K front b)
     small_front = IsSmall-left O (times K front b) (times K back b) small_both

@@ -1,4 +1,4 @@
--- Steps of merging two falling lists from their ends.
+-- Steps of merging two decreasing lists from their ends.
 use Rattle.std.specs.Prelude.{◌≡◌, ◌≢◌, ◌⊎◌, List, [], ◌∷◌, ◌++◌}
 use Rattle.word_field.specs.Field.{FieldOps}
 use Rattle.monomial_order.specs.declared.terms.Term.{Term}
@@ -10,7 +10,7 @@ pub record MovesLast {A : Type 0} (from from' to to' : List A) : Type 0 where
   pub taken : from ≡ from' ++ (item ∷ [])
   pub put : to' ≡ to ++ (item ∷ [])
 
--- the last terms of two lists are gone, and their sum, where it is not zero, went to the end of a third
+-- the last terms of two lists are gone, and their sum, unless it is zero, went to the end of a third
 pub record AddsLast {E : Type 0} (K : FieldOps E) (a a' b b' to to' : Polynomial E) : Type 0 where
   pub left : Term E
   pub right : Term E

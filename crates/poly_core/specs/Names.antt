@@ -14,7 +14,7 @@ name_at (Listed table) i = slice_get table i
 name_at (Numbered prefix skip) i = if nat_lt i skip then None else Some (prefix ∷ decimal (i + 1 - skip))
 name_at (Paired first count second) i = if nat_lt i count then Some (first ∷ decimal (i + 1)) else Some (second ∷ decimal (i + 1 - count))
 
--- the bytes of the name, and none where the place has no name
+-- the bytes of the name, and none if the place has no name
 abbrev pub name_of : Names → ℕ → List ℕ
 name_of names i = unwrap_or (name_at names i) []
 

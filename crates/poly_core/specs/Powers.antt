@@ -7,14 +7,14 @@ use Rattle.monomial_order.specs.MonomialOrder.{MonomialOrder}
 use Rattle.polynomials.specs.Polynomial.{Polynomial, Same, IsCanonical}
 use Rattle.polynomials.specs.Value.{power}
 
--- each row of the table has an entry for the power at its place of the monomial, where it is above 1
+-- each row of the table has an entry for the power at its place of the monomial, if it is above 1
 abbrev pub Reaches : {E : Type 0} → List (List (Polynomial E)) → List ℕ → Type 0
 Reaches rows m = (i : ℕ) → i < length rows → exponent m i ≤ length (slice_index_or rows i []) + 1
 
 module _ {E : Type 0} (K : FieldOps E) (O : MonomialOrder) where
   -- r is the power e of p
   pub record IsPowerOf (p : Polynomial E) (e : ℕ) (r : Polynomial E) : Type 0 where
-    pub kept : IsCanonical K O r
+    pub canonical : IsCanonical K O r
     pub same : Same K r (power K p e)
 
   -- the powers of p, from its square on

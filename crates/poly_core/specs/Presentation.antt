@@ -1,6 +1,7 @@
 -- What a presentation of the program presents, and its limits.
 use Rattle.std.specs.Prelude.{◌≡◌, ℕ, ◌≤◌, ◌⊎◌, List, [], ◌∷◌, length, map}
 use Rattle.word_field.specs.Field.{FieldOps}
+use Rattle.monomial_order.specs.Limits.{degree_max}
 use Rattle.monomial_order.specs.declared.terms.Term.{Term}
 use Rattle.monomial_order.specs.declared.weight_order.WeightOrder.{WeightOrder}
 use Rattle.monomial_order.specs.MonomialOrder.{MonomialOrder}
@@ -15,7 +16,7 @@ module _ {E : Type 0} (K : FieldOps E) (O : MonomialOrder) where
   -- zero, or homogeneous of a degree from 1 to 30000
   pub record IsCanonicalGenerator (f : Polynomial E) : Type 0 where
     pub canonical : IsCanonical K O f
-    pub homogeneous : (f ≡ []) ⊎ ((d : ℕ) × (1 ≤ d) × (d ≤ 30000) × IsHomogeneous K O d f)
+    pub homogeneous : (f ≡ []) ⊎ ((d : ℕ) × (1 ≤ d) × (d ≤ degree_max) × IsHomogeneous K O d f)
 
   abbrev pub AreCanonicalGenerators : List (Polynomial E) → Type 0
   AreCanonicalGenerators [] = Unit {0}

@@ -8,7 +8,7 @@ use Rattle.poly_core.specs.declared.place_names.Names.{Names}
 use Rattle.poly_core.specs.Names.{name_of, IsNamed}
 use Rattle.polynomials.specs.Polynomial.{Polynomial}
 
--- the name, and the exponent where it isn't 1
+-- the name, and the exponent if it is not 1
 abbrev pub factor_text : List ℕ → ℕ → List ℕ
 factor_text name e = if nat_eq e 1 then name else name ++ (94 ∷ decimal e)  -- 94 is `^`
 

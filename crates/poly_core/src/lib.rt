@@ -7,8 +7,6 @@ mod polynomial;
 mod presentations;
 mod products;
 mod sums;
-#[cfg(test)]
-mod tests;
 mod text;
 mod values;
 

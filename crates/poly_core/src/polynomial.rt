@@ -1,7 +1,7 @@
 //! Polynomials.
 ghost use Rattle.std.specs.Prelude.{◌≡◌, ◌≢◌, ℕ, ◌≤◌, ◌↔◌, ◌++◌, List, [], ◌∷◌, length, IsTrue, IfOk, IsNone, IfSome, All};
 ghost use Rattle.monomial_order.specs.declared.terms.Term.{Term};
-ghost use Rattle.monomial_order.specs.Monomial.{IsMonomial};
+ghost use Rattle.monomial_order.specs.Monomial.{Exponents, IsMonomial};
 ghost use Rattle.monomial_order.specs.MonomialOrder.{MonomialOrder};
 ghost use Rattle.word_field.specs.Field.{IsValue};
 ghost use Rattle.polynomials.specs.Polynomial.{Polynomial, term_of, coefficient, Same, times, scaled, minus, lead_monomial, first_coefficient, IsPoly, IsCanonical, IsSmall, IsComponent, IsDegree, IsZeroOrHomogeneous};
@@ -15,7 +15,7 @@ use std::alloc::Global;
 use std::marker::Model;
 use word_field::Field;
 
-/// A polynomial: its terms, none with coefficient zero, falling in the order at hand.
+/// A polynomial: its terms, none with coefficient zero, decreasing in the order at hand.
 #[derive(Drop)]
 pub struct Poly<F: Field> {
     terms: Vec<Term<F::Elem>>,
@@ -40,7 +40,7 @@ impl<F: Field> Poly<F> {
         }
     }
 
-    /// The polynomial with the one term c at m; zero where c is zero.
+    /// The polynomial with the one term c at m; zero if c is zero.
     pub fn term(alloc: Global, f: &F, m: Monomial, c: F::Elem) -> Result<Poly<F>, Memory>
         ensures zero { c ≡ (F.ops f.now).zero → IfOk result (λ r. r ≡ []) }
         ensures term { c ≢ (F.ops f.now).zero → IfOk result (λ r. r ≡ term_of m c ∷ []) }
@@ -83,9 +83,10 @@ impl<F: Field> Poly<F> {
 
     /// The greatest degree of a monomial.
     pub fn degree<O: Order>(o: &O, a: &Poly<F>) -> Option<u32>
-        requires kept { (f : F) × IsCanonical (F.ops f) (O.order o.now) a.now }
+        requires canonical { (f : F) × IsCanonical (F.ops f) (O.order o.now) a.now }
         ensures zero { IsNone result ↔ (a.now ≡ []) }
-        ensures greatest { IfSome result (λ d. (f : F) → IsCanonical (F.ops f) (O.order o.now) a.now → IsDegree (F.ops f) (O.order o.now) d a.now) }
+        ensures greatest { IfSome result (λ d. (f : F) →
+            IsCanonical (F.ops f) (O.order o.now) a.now → IsDegree (F.ops f) (O.order o.now) d a.now) }
     {
         let first = a.lead()?;
         Some(o.degree(&first.at))
@@ -93,7 +94,7 @@ impl<F: Field> Poly<F> {
 
     /// Whether all monomials have one degree.
     pub fn is_homogeneous<O: Order>(o: &O, a: &Poly<F>) -> bool
-        requires kept { (f : F) × IsCanonical (F.ops f) (O.order o.now) a.now }
+        requires canonical { (f : F) × IsCanonical (F.ops f) (O.order o.now) a.now }
         ensures { (f : F) → IsCanonical (F.ops f) (O.order o.now) a.now →
             (IsTrue result ↔ IsZeroOrHomogeneous (F.ops f) (O.order o.now) a.now) }
     {
@@ -119,7 +120,7 @@ impl<F: Field> Poly<F> {
     ) -> Result<Poly<F>, Memory>
         requires a { IsCanonical (F.ops f.now) (O.order o.now) a.now }
         requires b { IsCanonical (F.ops f.now) (O.order o.now) b.now }
-        ensures kept { IfOk result (IsCanonical (F.ops f.now) (O.order o.now)) }
+        ensures canonical { IfOk result (IsCanonical (F.ops f.now) (O.order o.now)) }
         ensures sum { IfOk result (λ r. Same (F.ops f.now) r (a.now ++ b.now)) }
     {
         let left = copy_terms(alloc, a.terms())?;
@@ -138,7 +139,7 @@ impl<F: Field> Poly<F> {
     ) -> Result<Poly<F>, Memory>
         requires a { IsCanonical (F.ops f.now) (O.order o.now) a }
         requires b { IsCanonical (F.ops f.now) (O.order o.now) b }
-        ensures kept { IfOk result (IsCanonical (F.ops f.now) (O.order o.now)) }
+        ensures canonical { IfOk result (IsCanonical (F.ops f.now) (O.order o.now)) }
         ensures sum { IfOk result (λ r. Same (F.ops f.now) r (a ++ b)) }
     {
         let terms = merge(alloc, f, o, a.terms, b.terms)?;
@@ -155,7 +156,7 @@ impl<F: Field> Poly<F> {
     ) -> Result<Poly<F>, Memory>
         requires a { IsCanonical (F.ops f.now) (O.order o.now) a.now }
         requires b { IsCanonical (F.ops f.now) (O.order o.now) b.now }
-        ensures kept { IfOk result (IsCanonical (F.ops f.now) (O.order o.now)) }
+        ensures canonical { IfOk result (IsCanonical (F.ops f.now) (O.order o.now)) }
         ensures difference { IfOk result (λ r. Same (F.ops f.now) r (minus (F.ops f.now) a.now b.now)) }
     {
         let left = copy_terms(alloc, a.terms())?;
@@ -175,7 +176,7 @@ impl<F: Field> Poly<F> {
         requires a { IsCanonical (F.ops f.now) (O.order o.now) a.now }
         requires b { IsCanonical (F.ops f.now) (O.order o.now) b.now }
         requires small { IsSmall (O.order o.now) (times (F.ops f.now) a.now b.now) }
-        ensures kept { IfOk result (IsCanonical (F.ops f.now) (O.order o.now)) }
+        ensures canonical { IfOk result (IsCanonical (F.ops f.now) (O.order o.now)) }
         ensures product { IfOk result (λ r. Same (F.ops f.now) r (times (F.ops f.now) a.now b.now)) }
     {
         let terms = multiply(alloc, f, o, a.terms(), b.terms())?;
@@ -186,8 +187,9 @@ impl<F: Field> Poly<F> {
     pub fn scale(alloc: Global, f: &F, a: &Poly<F>, c: F::Elem) -> Result<Poly<F>, Memory>
         requires a { (o : MonomialOrder) × IsCanonical (F.ops f.now) o a.now }
         requires factor { IsValue (F.ops f.now) c }
-        ensures kept { IfOk result (λ r. (o : MonomialOrder) → IsCanonical (F.ops f.now) o a.now → IsCanonical (F.ops f.now) o r) }
-        ensures multiple { IfOk result (λ r. (m : List ℕ) →
+        ensures canonical { IfOk result (λ r. (o : MonomialOrder) →
+            IsCanonical (F.ops f.now) o a.now → IsCanonical (F.ops f.now) o r) }
+        ensures multiple { IfOk result (λ r. (m : Exponents) →
             coefficient (F.ops f.now) r m ≡ (F.ops f.now).times c (coefficient (F.ops f.now) a.now m)) }
     {
         if c == f.zero() {
@@ -210,7 +212,7 @@ impl<F: Field> Poly<F> {
         requires monomial { IsMonomial (O.order o.now).places m.now }
         requires factor { IsValue (F.ops f.now) c }
         requires small { IsSmall (O.order o.now) (scaled (F.ops f.now) (term_of m.now c) a.now) }
-        ensures kept { IfOk result (IsCanonical (F.ops f.now) (O.order o.now)) }
+        ensures canonical { IfOk result (IsCanonical (F.ops f.now) (O.order o.now)) }
         ensures product { IfOk result (λ r. Same (F.ops f.now) r (scaled (F.ops f.now) (term_of m.now c) a.now)) }
     {
         if c == f.zero() {
@@ -223,12 +225,14 @@ impl<F: Field> Poly<F> {
     /// The polynomial divided by its first coefficient; zero gives zero.
     pub fn monic(alloc: Global, f: &F, a: &Poly<F>) -> Result<Poly<F>, Memory>
         requires { (o : MonomialOrder) × IsCanonical (F.ops f.now) o a.now }
-        ensures kept { IfOk result (λ r. (o : MonomialOrder) → IsCanonical (F.ops f.now) o a.now → IsCanonical (F.ops f.now) o r) }
+        ensures canonical { IfOk result (λ r. (o : MonomialOrder) →
+            IsCanonical (F.ops f.now) o a.now → IsCanonical (F.ops f.now) o r) }
         ensures zero { a.now ≡ [] → IfOk result (λ r. r ≡ []) }
         ensures lead { IfOk result (λ r. lead_monomial r ≡ lead_monomial a.now) }
         ensures one { a.now ≢ [] → IfOk result (λ r. first_coefficient (F.ops f.now) r ≡ (F.ops f.now).one) }
-        ensures multiple { IfOk result (λ r. (m : List ℕ) →
-            coefficient (F.ops f.now) a.now m ≡ (F.ops f.now).times (first_coefficient (F.ops f.now) a.now) (coefficient (F.ops f.now) r m)) }
+        ensures multiple { IfOk result (λ r. (m : Exponents) →
+            let K = F.ops f.now in
+            coefficient K a.now m ≡ K.times (first_coefficient K a.now) (coefficient K r m)) }
     {
         let Some(first) = a.lead() else {
             return Ok(Poly::zero(alloc));
@@ -243,14 +247,16 @@ impl<F: Field> Poly<F> {
     /// The terms of degree d.
     pub fn component<O: Order>(alloc: Global, o: &O, a: &Poly<F>, d: u32) -> Result<Poly<F>, Memory>
         requires { (f : F) × IsCanonical (F.ops f) (O.order o.now) a.now }
-        ensures kept { IfOk result (λ r. (f : F) → IsCanonical (F.ops f) (O.order o.now) a.now → IsCanonical (F.ops f) (O.order o.now) r) }
-        ensures component { IfOk result (λ r. (f : F) → IsCanonical (F.ops f) (O.order o.now) a.now → IsComponent (F.ops f) (O.order o.now) d a.now r) }
+        ensures canonical { IfOk result (λ r. (f : F) →
+            IsCanonical (F.ops f) (O.order o.now) a.now → IsCanonical (F.ops f) (O.order o.now) r) }
+        ensures component { IfOk result (λ r. (f : F) →
+            IsCanonical (F.ops f) (O.order o.now) a.now → IsComponent (F.ops f) (O.order o.now) d a.now r) }
     {
         let terms = terms_of_degree(alloc, o, a.terms(), d)?;
         Ok(Poly { terms })
     }
 
-    /// The value of h where the i-th polynomial of the list stands for the i-th place.
+    /// The value of h with the i-th polynomial of the list put for the i-th place.
     pub fn evaluate<O: Order>(
         alloc: Global,
         f: &F,
@@ -261,7 +267,7 @@ impl<F: Field> Poly<F> {
         requires h { IsPoly (F.ops f.now) (length at.now) h.now }
         requires at { All (IsCanonical (F.ops f.now) (O.order o.now)) at.now }
         requires small { HasSmallValue (O.order o.now) at.now h.now }
-        ensures kept { IfOk result (IsCanonical (F.ops f.now) (O.order o.now)) }
+        ensures canonical { IfOk result (IsCanonical (F.ops f.now) (O.order o.now)) }
         ensures value { IfOk result (λ r. Same (F.ops f.now) r (value (F.ops f.now) h.now at.now)) }
     {
         let table = power_table(alloc, f, o, h.terms(), at)?;

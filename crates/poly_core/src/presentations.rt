@@ -2,8 +2,7 @@
 ghost use Rattle.std.specs.Prelude.{◌≡◌, IfOk};
 ghost use Rattle.poly_core.specs.Presentation.{IsSame, IsValid, weight_order_of};
 
-use crate::Names;
-use crate::Poly;
+use crate::{Names, Poly};
 use monomial_order::{Memory, Order, WeightOrder, WordOrder};
 use std::alloc::Global;
 use word_field::Field;
@@ -44,55 +43,4 @@ fn copy_list<F: Field>(alloc: Global, list: &[Poly<F>]) -> Result<Vec<Poly<F>>, 
         copies.push(p.copy(alloc)?)?;
     }
     Ok(copies)
-}
-
-#[cfg(test)]
-mod tests {
-    use super::*;
-    use crate::NameTable;
-    use monomial_order::{Monomial, Term, Tie};
-    use std::test::Fail;
-    use word_field::WordField;
-
-    // The sum of the monomials with these exponents.
-    fn sum_of(alloc: Global, monomials: &[[u16; 2]]) -> Result<Poly<WordField>, Memory> {
-        let mut falling = Vec::new(alloc);
-        for exponents in monomials {
-            falling.push(Term {
-                at: Monomial::from_places(alloc, exponents)?,
-                by: 1,
-            })?;
-        }
-        Ok(Poly::from_falling(falling))
-    }
-
-    #[test]
-    fn copies_a_presentation(rt: HostRuntime) -> Result<(), Fail> {
-        let alloc = rt.alloc();
-        let mut table = NameTable::new(alloc);
-        table.push("x")?;
-        table.push("y")?;
-        let mut gen_order = WordOrder::new(alloc, &[])?;
-        gen_order.push_place(1)?;
-        gen_order.push_place(2)?;
-        let p = Presentation {
-            field: WordField::new(101).ok_or("a listed size")?,
-            order: WeightOrder::new(alloc, &[1, 1], &[], Tie::Lex)?,
-            names: Names::Listed(table),
-            ideal: Vec::new(alloc),
-            generators: vec![in alloc;
-                sum_of(alloc, &[[1, 0], [0, 1]])?,
-                sum_of(alloc, &[[1, 1]])?,
-            ]?,
-            gen_order,
-        };
-        let copy = p.copy(alloc)?;
-        assert_eq!(rt; copy.field.size(), 101);
-        assert_eq!(rt; copy.order.weights(), [1, 1].as_slice());
-        assert_eq!(rt; copy.ideal.len(), 0);
-        assert_eq!(rt; copy.generators.len(), 2);
-        assert_eq!(rt; copy.generators[0].terms().len(), 2);
-        assert_eq!(rt; copy.gen_order.s_degrees.as_slice(), [1, 2].as_slice());
-        Ok(())
-    }
 }

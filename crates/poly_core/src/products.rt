@@ -1,4 +1,4 @@
-//! Products of falling lists of terms.
+//! Products of decreasing lists of terms.
 ghost use Rattle.std.specs.Prelude.{◌≡◌, [], IfOk, All};
 ghost use Rattle.word_field.specs.Field.{IsValue};
 ghost use Rattle.polynomials.specs.Polynomial.{term_of, IsCanonical, IsTerm, IsSmall, Same, scaled, times};
@@ -38,7 +38,7 @@ pub(crate) fn times_terms<F: Field, O: Order>(
     m: &Monomial,
     terms: &[Term<F::Elem>],
 ) -> Result<Vec<Term<F::Elem>>, Memory>
-    requires kept { IsCanonical (F.ops f.now) (O.order o.now) terms.now }
+    requires canonical { IsCanonical (F.ops f.now) (O.order o.now) terms.now }
     requires term { IsTerm (F.ops f.now) (O.order o.now).places (term_of m.now c) }
     requires small { IsSmall (O.order o.now) (scaled (F.ops f.now) (term_of m.now c) terms.now) }
     ensures { IfOk result (λ r. r.items ≡ scaled (F.ops f.now) (term_of m.now c) terms.now) }
@@ -53,7 +53,7 @@ pub(crate) fn times_terms<F: Field, O: Order>(
     Ok(products)
 }
 
-/// The product of two falling lists.
+/// The product of two decreasing lists.
 pub(crate) fn multiply<F: Field, O: Order>(
     alloc: Global,
     f: &F,
@@ -64,7 +64,7 @@ pub(crate) fn multiply<F: Field, O: Order>(
     requires a { IsCanonical (F.ops f.now) (O.order o.now) a.now }
     requires b { IsCanonical (F.ops f.now) (O.order o.now) b.now }
     requires small { IsSmall (O.order o.now) (times (F.ops f.now) a.now b.now) }
-    ensures kept { IfOk result (λ r. IsCanonical (F.ops f.now) (O.order o.now) r.items) }
+    ensures canonical { IfOk result (λ r. IsCanonical (F.ops f.now) (O.order o.now) r.items) }
     ensures product { IfOk result (λ r. Same (F.ops f.now) r.items (times (F.ops f.now) a.now b.now)) }
 {
     if a.len() <= b.len() {
@@ -74,7 +74,7 @@ pub(crate) fn multiply<F: Field, O: Order>(
     }
 }
 
-/// The product of two falling lists, by the halves of the first.
+/// The product of two decreasing lists, by the halves of the first.
 fn multiply_by_halves<F: Field, O: Order>(
     alloc: Global,
     f: &F,
@@ -85,7 +85,7 @@ fn multiply_by_halves<F: Field, O: Order>(
     requires a { IsCanonical (F.ops f.now) (O.order o.now) a.now }
     requires b { IsCanonical (F.ops f.now) (O.order o.now) b.now }
     requires small { IsSmall (O.order o.now) (times (F.ops f.now) a.now b.now) }
-    ensures kept { IfOk result (λ r. IsCanonical (F.ops f.now) (O.order o.now) r.items) }
+    ensures canonical { IfOk result (λ r. IsCanonical (F.ops f.now) (O.order o.now) r.items) }
     ensures product { IfOk result (λ r. Same (F.ops f.now) r.items (times (F.ops f.now) a.now b.now)) }
 {
     match a {

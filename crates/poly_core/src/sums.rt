@@ -1,4 +1,4 @@
-//! Sums of falling lists of terms.
+//! Sums of decreasing lists of terms.
 ghost use Rattle.std.specs.Prelude.{◌≡◌, ◌≢◌, ◌++◌, ◌∷◌, [], ◌<◌, vec_len, IfOk, OnOk, All};
 ghost use Rattle.word_field.specs.Field.{IsValue};
 ghost use Rattle.polynomials.specs.Polynomial.{term_of, IsCanonical, Same, component, IsMeasured};
@@ -67,7 +67,8 @@ fn add_last<F: Field>(
     requires b { 0 < vec_len b.old }
     requires a_values { All (λ t. IsValue (F.ops f.now) t.by) a.old.items }
     requires b_values { All (λ t. IsValue (F.ops f.now) t.by) b.old.items }
-    ensures { OnOk result (AddsLast (F.ops f.now) a.old.items a.new.items b.old.items b.new.items to.old.items to.new.items) }
+    ensures { OnOk result
+        (AddsLast (F.ops f.now) a.old.items a.new.items b.old.items b.new.items to.old.items to.new.items) }
 {
     if let Some(s) = a.pop() {
         if let Some(t) = b.pop() {
@@ -80,7 +81,7 @@ fn add_last<F: Field>(
     Ok(())
 }
 
-/// The sum of two falling lists.
+/// The sum of two decreasing lists.
 pub(crate) fn merge<F: Field, O: Order>(
     alloc: Global,
     f: &F,
@@ -90,7 +91,7 @@ pub(crate) fn merge<F: Field, O: Order>(
 ) -> Result<Vec<Term<F::Elem>>, Memory>
     requires a { IsCanonical (F.ops f.now) (O.order o.now) a.items }
     requires b { IsCanonical (F.ops f.now) (O.order o.now) b.items }
-    ensures kept { IfOk result (λ r. IsCanonical (F.ops f.now) (O.order o.now) r.items) }
+    ensures canonical { IfOk result (λ r. IsCanonical (F.ops f.now) (O.order o.now) r.items) }
     ensures sum { IfOk result (λ r. Same (F.ops f.now) r.items (a.items ++ b.items)) }
 {
     // The end of the sum, its least term first.

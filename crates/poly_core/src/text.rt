@@ -3,11 +3,9 @@ ghost use Rattle.std.specs.Prelude.{◌≡◌, ℕ, List, ◌+◌, ◌-◌, ◌^
 ghost use Rattle.std.specs.Fmt.{decimal};
 ghost use Rattle.poly_core.specs.Names.{name_at, name_of, IsNamed};
 ghost use Rattle.word_field.specs.Field.{IsValue};
-ghost use Rattle.word_field.specs.Residues.{residues};
 ghost use Rattle.poly_core.specs.Text.{factor_text, factors_text, monomial_text, term_text, poly_text, AreValues, AreNamed};
 
-use crate::Names;
-use crate::Poly;
+use crate::{Names, Poly};
 use monomial_order::{Memory, Monomial, Term};
 use std::alloc::Global;
 use word_field::Field;
@@ -150,90 +148,5 @@ impl<F: Field> Poly<F> {
             push_term(&mut out, f, t, names)?;
         }
         Ok(out)
-    }
-}
-
-#[cfg(test)]
-mod tests {
-    use super::*;
-    use crate::NameTable;
-    use std::test::Fail;
-    use word_field::WordField;
-
-    fn x_and_y(alloc: Global) -> Result<Names, Memory>
-        ensures { IfOk result (λ names. (m : List ℕ) → length m ≤ 2 → IsNamed names m) }
-    {
-        let mut table = NameTable::new(alloc);
-        table.push("x")?;
-        table.push("y")?;
-        if table.len() != 2 {
-            return Err(Memory);
-        }
-        Ok(Names::Listed(table))
-    }
-
-    // The coefficient times x and y with these exponents.
-    fn term_in_x_and_y(
-        alloc: Global,
-        f: &WordField,
-        names: &Names,
-        coefficient: u64,
-        x: u16,
-        y: u16,
-    ) -> Result<Term<u32>, Memory>
-        requires { (m : List ℕ) → length m ≤ 2 → IsNamed names.now m }
-        ensures value { IfOk result (λ t. IsValue (residues f.now.modulus) t.by) }
-        ensures named { IfOk result (λ t. IsNamed names.now t.at) }
-    {
-        let at = Monomial::from_places(alloc, &[x, y])?;
-        let by = f.from_word(coefficient);
-        Ok(Term { at, by })
-    }
-
-    fn text_of(
-        alloc: Global,
-        f: &WordField,
-        names: &Names,
-        terms: &[(u64, u16, u16)],
-    ) -> Result<Vec<u8>, Memory>
-        requires { (m : List ℕ) → length m ≤ 2 → IsNamed names.now m }
-    {
-        let mut falling = Vec::new(alloc);
-        for (coefficient, x, y) in terms {
-            let term = term_in_x_and_y(alloc, f, names, *coefficient, *x, *y)?;
-            falling.push(term)?;
-        }
-        let a = Poly::from_falling(falling);
-        Poly::write(alloc, f, &a, names)
-    }
-
-    #[test]
-    fn writes_polynomials(rt: HostRuntime) -> Result<(), Fail> {
-        let f = WordField::new(101).ok_or("a listed size")?;
-        let names = x_and_y(rt.alloc())?;
-        let cases: [(&[(u64, u16, u16)], &str); 5] = [
-            (&[(2, 1, 1), (1, 0, 0)], "2*x*y + 1"),
-            (&[(1, 1, 0), (1, 0, 1)], "x + y"),
-            (&[], "0"),
-            (&[(5, 0, 0)], "5"),
-            (&[(1, 2, 0)], "x^2"),
-        ];
-        for (terms, text) in cases {
-            let written = text_of(rt.alloc(), &f, &names, terms)?;
-            assert_eq!(rt; written.as_slice(), text.as_bytes());
-        }
-        Ok(())
-    }
-
-    #[test]
-    fn writes_words(rt: HostRuntime) -> Result<(), Fail> {
-        let f = WordField::new(101).ok_or("a listed size")?;
-        let names = x_and_y(rt.alloc())?;
-        for (x, y, text) in [(0, 0, "1"), (2, 1, "x^2*y")] {
-            let term = term_in_x_and_y(rt.alloc(), &f, &names, 1, x, y)?;
-            let written = write_monomial(rt.alloc(), &term.at, &names)?;
-            assert_eq!(rt; written.as_slice(), text.as_bytes());
-        }
-        Ok(())
     }
 }

@@ -2,6 +2,7 @@
 ghost use Rattle.std.specs.Prelude.{◌≡◌, ℕ, ◌+◌, ◌*◌, ◌≤◌, [], length, slice_index_or, IfOk, OnOk, All};
 ghost use Rattle.monomial_order.specs.Monomial.{exponent};
 ghost use Rattle.word_field.specs.Field.{IsValue};
+ghost use Rattle.monomial_order.specs.Limits.{exponent_max};
 ghost use Rattle.polynomials.specs.Polynomial.{Polynomial, constant, degree_of, AllAt, IsCanonical, IsTerm, Same};
 ghost use Rattle.polynomials.specs.Value.{term_value, value, value_degree, HasSmallValue};
 ghost use Rattle.poly_core.specs.Powers.{ArePowers, IsPowerOf, IsTable, Reaches};
@@ -39,9 +40,9 @@ impl<F: Field> Powers<F> {
         p: &Poly<F>,
         e: usize,
     ) -> Result<(), Memory>
-        requires kept { IsCanonical (F.ops f.now) (O.order o.now) p.now }
+        requires canonical { IsCanonical (F.ops f.now) (O.order o.now) p.now }
         requires powers { ArePowers (F.ops f.now) (O.order o.now) p.now self.old }
-        requires small { e * degree_of (O.order o.now) p.now ≤ 65535 }
+        requires small { e * degree_of (O.order o.now) p.now ≤ exponent_max }
         ensures powers { OnOk result (ArePowers (F.ops f.now) (O.order o.now) p.now self.new) }
         ensures reached { OnOk result (e ≤ length self.new + 1) }
         ensures longer { OnOk result (length self.old ≤ length self.new) }
@@ -55,9 +56,9 @@ impl<F: Field> Powers<F> {
 
     /// The next power of p.
     fn next<O: Order>(&self, alloc: Global, f: &F, o: &O, p: &Poly<F>) -> Result<Poly<F>, Memory>
-        requires kept { IsCanonical (F.ops f.now) (O.order o.now) p.now }
+        requires canonical { IsCanonical (F.ops f.now) (O.order o.now) p.now }
         requires powers { ArePowers (F.ops f.now) (O.order o.now) p.now self.now }
-        requires small { (length self.now + 2) * degree_of (O.order o.now) p.now ≤ 65535 }
+        requires small { (length self.now + 2) * degree_of (O.order o.now) p.now ≤ exponent_max }
         ensures { IfOk result (IsPowerOf (F.ops f.now) (O.order o.now) p.now (length self.now + 2)) }
     {
         let last = self.power(p, self.from_square.len() + 1);
@@ -85,8 +86,8 @@ fn powers_at<F: Field, O: Order>(
     place: usize,
     p: &Poly<F>,
 ) -> Result<Powers<F>, Memory>
-    requires kept { IsCanonical (F.ops f.now) (O.order o.now) p.now }
-    requires small { All (λ t. exponent t.at place * degree_of (O.order o.now) p.now ≤ 65535) h.now }
+    requires canonical { IsCanonical (F.ops f.now) (O.order o.now) p.now }
+    requires small { All (λ t. exponent t.at place * degree_of (O.order o.now) p.now ≤ exponent_max) h.now }
     ensures powers { IfOk result (ArePowers (F.ops f.now) (O.order o.now) p.now) }
     ensures reached { IfOk result (λ r. All (λ t. exponent t.at place ≤ length r + 1) h.now) }
 {
@@ -127,7 +128,7 @@ fn constant_terms<F: Field, O: Order>(
     c: F::Elem,
 ) -> Result<Vec<Term<F::Elem>>, Memory>
     requires { IsValue (F.ops f.now) c }
-    ensures kept { IfOk result (λ r. IsCanonical (F.ops f.now) (O.order o.now) r.items) }
+    ensures canonical { IfOk result (λ r. IsCanonical (F.ops f.now) (O.order o.now) r.items) }
     ensures constant { IfOk result (λ r. Same (F.ops f.now) r.items (constant (F.ops f.now) c)) }
     ensures degree { IfOk result (λ r. AllAt (λ m. (O.order o.now).degree m ≤ 0) r.items) }
 {
@@ -152,10 +153,10 @@ fn value_of_term<F: Field, O: Order>(
 ) -> Result<Vec<Term<F::Elem>>, Memory>
     requires term { IsTerm (F.ops f.now) (length at.now) t.now }
     requires at { All (IsCanonical (F.ops f.now) (O.order o.now)) at.now }
-    requires small { value_degree (O.order o.now) at.now t.now.at ≤ 65535 }
+    requires small { value_degree (O.order o.now) at.now t.now.at ≤ exponent_max }
     requires table { IsTable (F.ops f.now) (O.order o.now) at.now table.now }
     requires reached { Reaches table.now t.now.at }
-    ensures kept { IfOk result (λ r. IsCanonical (F.ops f.now) (O.order o.now) r.items) }
+    ensures canonical { IfOk result (λ r. IsCanonical (F.ops f.now) (O.order o.now) r.items) }
     ensures value { IfOk result (λ r. Same (F.ops f.now) r.items (term_value (F.ops f.now) at.now t.now)) }
 {
     let mut product = constant_terms(alloc, f, o, t.by)?;
@@ -188,7 +189,7 @@ pub(crate) fn sum_of_values<F: Field, O: Order>(
     requires small { HasSmallValue (O.order o.now) at.now h.now }
     requires table { IsTable (F.ops f.now) (O.order o.now) at.now table.now }
     requires reached { All (λ t. Reaches table.now t.at) h.now }
-    ensures kept { IfOk result (λ r. IsCanonical (F.ops f.now) (O.order o.now) r.items) }
+    ensures canonical { IfOk result (λ r. IsCanonical (F.ops f.now) (O.order o.now) r.items) }
     ensures value { IfOk result (λ r. Same (F.ops f.now) r.items (value (F.ops f.now) h.now at.now)) }
 {
     match h {

@@ -1,8 +1,9 @@
--- Polynomials as formal sums of terms: the same monomial may stand in several terms, in any order.
+-- Polynomials as formal sums of terms: several terms may have the same monomial, in any order.
 use Rattle.std.specs.Prelude.{◌≡◌, ◌≢◌, ℕ, ◌≤◌, ◌⊎◌, List, [], ◌∷◌, ◌++◌, map, nat_eq, Bool, if◌then◌else◌}
 use Rattle.std.specs.declared.cmp.Ordering.TheVariants.{Less}
 use lib.Pointwise.{pointwise}
 use Rattle.word_field.specs.Field.{FieldOps, IsValue}
+use Rattle.monomial_order.specs.Limits.{exponent_max}
 use Rattle.monomial_order.specs.declared.terms.Term.{Term}
 use Rattle.monomial_order.specs.Monomial.{Exponents, product, IsMonomial}
 use Rattle.monomial_order.specs.MonomialOrder.{MonomialOrder}
@@ -80,12 +81,13 @@ module _ {E : Type 0} (K : FieldOps E) where
     IsBelow m [] = Unit {0}
     IsBelow m (t ∷ p) = (O.compare t.at m ≡ Less) × IsBelow m p
 
-    -- the canonical form: terms with nonzero coefficients at falling monomials
+    -- a nonzero term that is greater than all terms of p
     pub record IsLeadTerm (t : Term E) (p : Polynomial E) : Type 0 where
       pub term : IsTerm O.places t
       pub nonzero : t.by ≢ K.zero
       pub above : IsBelow t.at p
 
+    -- the canonical form: terms with nonzero coefficients at decreasing monomials
     abbrev pub IsDecreasing : Polynomial E → Type 0
     IsDecreasing [] = Unit {0}
     IsDecreasing (t ∷ p) = IsLeadTerm t p × IsDecreasing p
@@ -114,22 +116,22 @@ module _ {E : Type 0} (K : FieldOps E) where
       pub inside : (m : Exponents) → O.degree m ≡ d → coefficient q m ≡ coefficient p m
       pub outside : (m : Exponents) → O.degree m ≢ d → coefficient q m ≡ K.zero
 
--- the degrees that the program computes with
+-- each degree is one that the program computes with
 abbrev pub IsSmall : {E : Type 0} → MonomialOrder → Polynomial E → Type 0
 IsSmall O [] = Unit {0}
-IsSmall O (t ∷ p) = (O.degree t.at ≤ 65535) × IsSmall O p
+IsSmall O (t ∷ p) = (O.degree t.at ≤ exponent_max) × IsSmall O p
 
--- a polynomial as the program keeps it
+-- a decreasing list whose degrees the program computes with
 pub record IsCanonical {E : Type 0} (K : FieldOps E) (O : MonomialOrder) (p : Polynomial E) : Type 0 where
   pub decreasing : IsDecreasing K O p
   pub small : IsSmall O p
 
--- the lead of a falling list: the monomial of its first term, and 1 for the empty list
+-- the lead of a decreasing list: the monomial of its first term, and 1 for the empty list
 abbrev pub lead_monomial : {E : Type 0} → Polynomial E → Exponents
 lead_monomial [] = []
 lead_monomial (t ∷ p) = t.at
 
--- the degree of a falling list, and 0 for the empty list
+-- the degree of a decreasing list, and 0 for the empty list
 abbrev pub degree_of : {E : Type 0} → MonomialOrder → Polynomial E → ℕ
 degree_of O p = O.degree (lead_monomial p)
 
@@ -147,4 +149,4 @@ module _ {E : Type 0} where
 -- a term whose degree the program can compute
 pub record IsMeasured {E : Type 0} (O : MonomialOrder) (t : Term E) : Type 0 where
   pub monomial : IsMonomial O.places t.at
-  pub small : O.degree t.at ≤ 65535
+  pub small : O.degree t.at ≤ exponent_max

@@ -1,6 +1,7 @@
 -- The value of a polynomial in g1, .., gk at a list of k polynomials.
 use Rattle.std.specs.Prelude.{ℕ, suc, zero, ◌≤◌, List, [], ◌∷◌, ◌++◌, map, All}
 use Rattle.word_field.specs.Field.{FieldOps}
+use Rattle.monomial_order.specs.Limits.{exponent_max}
 use Rattle.monomial_order.specs.declared.terms.Term.{Term}
 use Rattle.monomial_order.specs.Monomial.{Exponents, weighted_degree}
 use Rattle.monomial_order.specs.MonomialOrder.{MonomialOrder}
@@ -27,10 +28,10 @@ module _ {E : Type 0} (K : FieldOps E) where
   value (t ∷ h) fs = term_value fs t ++ value h fs
 
 module _ {E : Type 0} (O : MonomialOrder) (fs : List (Polynomial E)) where
-  -- the degree of the value of a monomial at falling lists: the sum of exponent times degree
+  -- the degree of the value of a monomial at decreasing lists: the sum of exponent times degree
   abbrev pub value_degree : Exponents → ℕ
   value_degree m = weighted_degree (map (degree_of O) fs) m
 
   -- the program can compute with the values of the terms of h
   abbrev pub HasSmallValue : Polynomial E → Type 0
-  HasSmallValue h = All (λ t. value_degree t.at ≤ 65535) h
+  HasSmallValue h = All (λ t. value_degree t.at ≤ exponent_max) h

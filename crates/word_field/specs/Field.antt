@@ -49,7 +49,7 @@ pub record IsField {E : Type 0} (K : FieldOps E) : Type 0 where
   pub word_zero : K.word K.zero ≡ 0
   pub word_one : K.word K.one ≡ 1
 
--- What each field has beside its defining laws. Where a, b, c are elements, `reduce` changes nothing.
+-- What each field has beside its defining laws. On elements `reduce` changes nothing.
 pub record DerivedLaws {E : Type 0} (K : FieldOps E) : Type 0 where
   -- all operations see the elements alone
   pub reduce_plus : (a b : E) → K.plus (K.reduce a) b ≡ K.plus a b
@@ -66,7 +66,7 @@ pub record DerivedLaws {E : Type 0} (K : FieldOps E) : Type 0 where
   -- what cancels
   pub plus_cancels : (a b c : E) → K.plus a b ≡ K.plus a c → K.reduce b ≡ K.reduce c
   pub times_cancels : (a b c : E) → K.reduce a ≢ K.zero → K.times a b ≡ K.times a c → K.reduce b ≡ K.reduce c
-  -- a product is zero only where a factor is
+  -- a product is zero only if a factor is
   pub zero_product : (a b : E) → K.times a b ≡ K.zero → (K.reduce a ≡ K.zero) ⊎ (K.reduce b ≡ K.zero)
   -- an element has one negative, one inverse and a number of its own
   pub one_negative : (a b : E) → K.plus a b ≡ K.zero → K.reduce b ≡ K.negate a

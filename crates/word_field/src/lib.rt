@@ -7,8 +7,6 @@ ghost use Rattle.word_field.specs.Residues.{residues, is_listed};
 ghost use Rattle.word_field.specs.laws.Residues.{residues_field, residues_eq};
 
 pub mod laws;
-#[cfg(test)]
-mod tests;
 
 /// A finite field. Its elements are those values of `Elem` that `IsValue` picks, and each call
 /// is given such values and answers with one.
@@ -68,7 +66,7 @@ pub trait Field: Copy {
     /// The operations obey the laws of a field.
     ghost laws: { (f : Self) → IsField (ops f) };
 
-    /// Elements compare equal exactly where they are the same.
+    /// Elements compare equal exactly if they are the same.
     ghost eq_is: { (a b : Self.Elem) → (Self.Elem.eq a b ≡ true) ↔ (a ≡ b) };
 }
 
@@ -80,7 +78,7 @@ pub struct WordField {
 }
 
 impl WordField {
-    /// The field of size `p`, where there is one.
+    /// The field of size `p`, if there is one.
     pub fn new(p: u32) -> Option<WordField>
         ensures listed { IsSome result ↔ (is_listed p ≡ true) }
         ensures size { IfSome result (λ f. f.modulus ≡ p) }
@@ -122,7 +120,7 @@ impl Field for WordField {
         (a as u64 * b as u64 % self.modulus as u64) as u32
     }
 
-    // The product of `a` and `inverse` stays `rest` modulo p, while `rest` falls to 1. At these
+    // The product of `a` and `inverse` stays `rest` modulo p, while `rest` decreases to 1. At these
     // sizes it takes at most 21 steps.
     fn inv(&self, a: u32) -> Option<u32> {
         let p = self.modulus as u64;

@@ -46,7 +46,7 @@ image_of L w = image w (variables 0 (length L.degrees) ++ L.leads)
 abbrev pub IsWord : Letters → Exponents → Type 0
 IsWord L w = IsMonomial (word_order_of L).places w
 
--- no x stands in the word
+-- a word without any x
 abbrev pub IsSWord : Letters → Exponents → Type 0
 IsSWord L w = IsWord L w × (sum (take (length L.degrees) w) ≡ 0)
 

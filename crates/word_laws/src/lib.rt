@@ -37,9 +37,13 @@ pub fn least_word_laws()
 /// Reducible words are the multiples of the minimal ones; here the multiples of a list count as zero.
 pub fn reducible_word_laws()
     ensures decided { (zeros : List Exponents) (L : Letters) → AreLetters L →
-        (w : Exponents) → IsWord L w → IsReducible (IsMultiple zeros) L w ⊎ (IsReducible (IsMultiple zeros) L w → ⊥) }
+        (w : Exponents) → IsWord L w →
+        IsReducible (IsMultiple zeros) L w ⊎ (IsReducible (IsMultiple zeros) L w → ⊥) }
     ensures multiples { (zeros : List Exponents) (L : Letters) → AreLetters L →
-        (k w : Exponents) → IsWord L k → IsWord L w → IsReducible (IsMultiple zeros) L w → IsReducible (IsMultiple zeros) L (product k w) }
+        (k w : Exponents) → IsWord L k → IsWord L w →
+        IsReducible (IsMultiple zeros) L w → IsReducible (IsMultiple zeros) L (product k w) }
     ensures minimal { (zeros : List Exponents) (L : Letters) → AreLetters L →
-        (w : Exponents) → IsWord L w → IsReducible (IsMultiple zeros) L w ↔ ((u : Exponents) × IsMinimalReducible (IsMultiple zeros) L u × Divides u w) }
+        (w : Exponents) → IsWord L w →
+        IsReducible (IsMultiple zeros) L w ↔
+        ((u : Exponents) × IsMinimalReducible (IsMultiple zeros) L u × Divides u w) }
 {}

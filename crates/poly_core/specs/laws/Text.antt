@@ -28,7 +28,7 @@ names_monomials n (Numbered prefix skip) h m w i e = absurd h
 names_monomials n (Paired first count second) h m w i e = absurd h
 
 module _ {E : Type 0} (K : FieldOps E) (O : MonomialOrder) where
-  -- a falling list has values of the field as its coefficients
+  -- a decreasing list has values of the field as its coefficients
   pub decreasing_values : (p : Polynomial E) → IsDecreasing K O p → AreValues K p
   decreasing_values [] h = tt
   decreasing_values (t ∷ p) h = (h.0.term.value, decreasing_values p h.1)

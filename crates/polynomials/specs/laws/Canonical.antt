@@ -10,6 +10,7 @@ use Rattle.polynomials.specs.laws.Ring.{coefficient_value}
 use Rattle.polynomials.specs.laws.Same.{append_same}
 use Rattle.polynomials.specs.laws.Decreasing.{IsBelow_trans, IsLead_first}
 use Rattle.monomial_order.specs.laws.Comparing.{greater_less}
+use Rattle.monomial_order.specs.Monomial.{Exponents}
 
 module _ {E : Type 0} (K : FieldOps E) (F : IsField K) (O : MonomialOrder) (L : IsMonomialOrder O) where
   -- q is the canonical form of p
@@ -21,7 +22,7 @@ module _ {E : Type 0} (K : FieldOps E) (F : IsField K) (O : MonomialOrder) (L : 
   record IsInserted (t : Term E) (p q : Polynomial E) : Type 0 where
     decreasing : IsDecreasing K O q
     same : Same K q (t ∷ p)
-    below : (m : List ℕ) → O.compare t.at m ≡ Less → IsBelow K O m p → IsBelow K O m q
+    below : (m : Exponents) → O.compare t.at m ≡ Less → IsBelow K O m p → IsBelow K O m q
 
   cons_same : (t : Term E) (p q : Polynomial E) → Same K p q → Same K (t ∷ p) (t ∷ q)
   cons_same t p q h m = append_same K F (t ∷ []) (t ∷ []) p q (λ n. refl) h m
@@ -43,7 +44,7 @@ module _ {E : Type 0} (K : FieldOps E) (F : IsField K) (O : MonomialOrder) (L : 
   share_plus true c d = refl
   share_plus false c d = sym (zero-plus-zero K F)
 
-  cons_sum : (k : List ℕ) (c d : E) (p : Polynomial E) → Same K (term_of k (K.plus c d) ∷ p) (term_of k c ∷ (term_of k d ∷ p))
+  cons_sum : (k : Exponents) (c d : E) (p : Polynomial E) → Same K (term_of k (K.plus c d) ∷ p) (term_of k c ∷ (term_of k d ∷ p))
   unfolding coefficient
   cons_sum k c d p m =
       ap (λ x. K.plus x (coefficient K p m)) (share_plus (same_monomial k m) c d) ∙
@@ -114,19 +115,19 @@ module _ {E : Type 0} (K : FieldOps E) (F : IsField K) (O : MonomialOrder) (L : 
       (F.equal_or_not t.by K.zero)
 
   -- the lead of a polynomial does not depend on its form
-  pub IsLead_same : (p q : Polynomial E) (m : List ℕ) → Same K p q → IsLead K O p m → IsLead K O q m
+  pub IsLead_same : (p q : Polynomial E) (m : Exponents) → Same K p q → IsLead K O p m → IsLead K O q m
   IsLead_same p q m h l = record {
     nonzero = λ e. l.nonzero (h m ∙ e);
     greatest = λ n k ne. l.greatest n (λ e. k (sym (h n) ∙ e)) ne;
   }
 
   -- a polynomial is zero, or it has a lead
-  pub zero_or_lead : (p : Polynomial E) → IsPoly K O.places p → Same K p [] ⊎ ((m : List ℕ) × IsLead K O p m)
+  pub zero_or_lead : (p : Polynomial E) → IsPoly K O.places p → Same K p [] ⊎ ((m : Exponents) × IsLead K O p m)
   zero_or_lead p h = by_form (canonical p h)
     where
-      by_form : (q : Polynomial E) × IsCanonicalForm p q → Same K p [] ⊎ ((m : List ℕ) × IsLead K O p m)
+      by_form : (q : Polynomial E) × IsCanonicalForm p q → Same K p [] ⊎ ((m : Exponents) × IsLead K O p m)
       by_form r = cases r.0 r.1
         where
-          cases : (q : Polynomial E) → IsCanonicalForm p q → Same K p [] ⊎ ((m : List ℕ) × IsLead K O p m)
+          cases : (q : Polynomial E) → IsCanonicalForm p q → Same K p [] ⊎ ((m : Exponents) × IsLead K O p m)
           cases [] c = inl (λ m. sym (c.same m))
           cases (t ∷ q) c = inr (t.at, IsLead_same (t ∷ q) p t.at c.same (IsLead_first K F O L t q c.decreasing))

@@ -5,7 +5,7 @@ use Rattle.std.proofs.lemmas.Bool.{eqb-true, eq-eqb, true≢false}
 use Rattle.word_field.specs.Field.{FieldOps, IsField}
 use Rattle.word_field.specs.laws.Field.{zero-plus-zero, negate-zero}
 use Rattle.monomial_order.specs.declared.terms.Term.{Term}
-use Rattle.monomial_order.specs.Monomial.{weighted_degree}
+use Rattle.monomial_order.specs.Monomial.{Exponents, weighted_degree}
 use Rattle.monomial_order.specs.MonomialOrder.{MonomialOrder, IsMonomialOrder}
 use Rattle.polynomials.specs.Polynomial.{Polynomial, coefficient, Same, minus, constant, component, IsTerm, IsPoly, IsHomogeneous}
 use Rattle.polynomials.specs.Value.{monomial_value, term_value, value}
@@ -18,7 +18,7 @@ use Rattle.polynomials.specs.laws.ReducedBasis.{degree_one}
 use Rattle.polynomials.specs.laws.Degrees.{IsGraded, AreGraded, polys_graded, graded_times, graded_value, graded_component, graded_no_component, all_found, component-append, coefficient-component, ideal_component}
 use Rattle.polynomials.specs.laws.NormalForm.{IsPoly-component}
 
--- the terms of h are told apart by the degrees of their values, where ds are the degrees of the generators
+-- the terms of h are distinguished by the degrees of their values, where ds are the degrees of the generators
 abbrev by_value : MonomialOrder → List ℕ → MonomialOrder
 by_value O ds = record { places = O.places; degree = weighted_degree ds; compare = O.compare }
 
@@ -30,7 +30,7 @@ module _ {E : Type 0} (K : FieldOps E) (F : IsField K) (O : MonomialOrder) (L : 
   more_degrees : (f : Polynomial E) (fs : List (Polynomial E)) → IsGenerator K O f → HasDegrees fs → HasDegrees (f ∷ fs)
   more_degrees f fs h rest = ⊎_elim none some h.homogeneous
     where
-      none : ((m : List ℕ) → coefficient K f m ≡ K.zero) → HasDegrees (f ∷ fs)
+      none : ((m : Exponents) → coefficient K f m ≡ K.zero) → HasDegrees (f ∷ fs)
       none z = (1 ∷ rest.0, let e = rest.1 in omega arith, (h.poly, λ m k. absurd (k (z m)), rest.2))
 
       some : (d : ℕ) × (1 ≤ d) × IsHomogeneous K O d f → HasDegrees (f ∷ fs)
@@ -44,7 +44,7 @@ module _ {E : Type 0} (K : FieldOps E) (F : IsField K) (O : MonomialOrder) (L : 
     constant_poly : (t : Term E) → IsTerm K k t → IsPoly K O.places (constant K t.by)
     constant_poly t h = (record { monomial = record { trimmed = tt; within = omega arith }; value = h.value }, tt)
 
-    value_poly : (m : List ℕ) → IsPoly K O.places (monomial_value K m fs)
+    value_poly : (m : Exponents) → IsPoly K O.places (monomial_value K m fs)
     value_poly m = IsPoly-monomial_value K F O.places m fs (polys_graded K F O L ds fs g)
 
     term_poly : (t : Term E) → IsTerm K k t → IsPoly K O.places (term_value K fs t)

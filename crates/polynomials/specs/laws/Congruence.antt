@@ -1,7 +1,7 @@
 -- Congruence modulo an ideal is an equivalence that sums and products keep.
 use Rattle.std.proofs.Common.{◌≡◌, ℕ, refl, sym, ◌∙◌, ap, List, [], ◌∷◌, ◌++◌}
 use Rattle.word_field.specs.Field.{FieldOps, IsField, IsValue}
-use Rattle.word_field.specs.laws.Field.{zero-plus-zero, negate-zero, negate-plus, plus_four, negate-plus_cancel, plus_is_zero, negate-times, one-times}
+use Rattle.word_field.specs.laws.Field.{negate-negate, zero-plus-zero, negate-zero, negate-plus, plus_four, negate-plus_cancel, plus_is_zero, negate-times, one-times}
 use Rattle.monomial_order.specs.declared.terms.Term.{Term}
 use Rattle.polynomials.specs.Polynomial.{Polynomial, coefficient, Same, times, negated, minus, constant, IsPoly}
 use Rattle.polynomials.specs.Ideal.{InIdeal, Congruent}
@@ -9,16 +9,14 @@ use Rattle.polynomials.specs.laws.Ring.{coefficient_value, coefficient-append, t
 use Rattle.polynomials.specs.laws.Same.{times_same, times_same_left, append_same, coefficient-negated, minus_self}
 use Rattle.polynomials.specs.laws.Value.{coefficient-constant_times}
 use Rattle.polynomials.specs.laws.Ideal.{InIdeal_same, InIdeal_zero, InIdeal_plus, InIdeal_times}
+use Rattle.monomial_order.specs.Monomial.{Exponents}
 
 module _ {E : Type 0} (K : FieldOps E) (F : IsField K) where
-  pub negate_negate : (a : E) → K.negate (K.negate a) ≡ K.reduce a
-  negate_negate a = sym (plus_is_zero K F (K.negate a) a (F.plus_comm (K.negate a) a ∙ F.plus_negate a))
-
   pub zero_difference : (a b : E) → a ≡ K.zero → b ≡ K.zero → K.plus a (K.negate b) ≡ K.zero
   zero_difference a b h k =
       ap (λ x. K.plus x (K.negate b)) h ∙ (ap (λ x. K.plus K.zero (K.negate x)) k ∙ (ap (K.plus K.zero) (negate-zero K F) ∙ zero-plus-zero K F))
 
-  pub coefficient-minus : (p q : Polynomial E) (m : List ℕ) → coefficient K (minus K p q) m ≡ K.plus (coefficient K p m) (K.negate (coefficient K q m))
+  pub coefficient-minus : (p q : Polynomial E) (m : Exponents) → coefficient K (minus K p q) m ≡ K.plus (coefficient K p m) (K.negate (coefficient K q m))
   coefficient-minus p q m = coefficient-append K F p (negated K q) m ∙ ap (K.plus (coefficient K p m)) (coefficient-negated K F q m)
 
   pub minus_same : (p p' q q' : Polynomial E) → Same K p p' → Same K q q' → Same K (minus K p q) (minus K p' q')
@@ -53,7 +51,7 @@ module _ {E : Type 0} (K : FieldOps E) (F : IsField K) where
   minus_zero p q z m =
       let e : K.plus (K.negate (coefficient K q m)) (coefficient K p m) ≡ K.zero =
       F.plus_comm (K.negate (coefficient K q m)) (coefficient K p m) ∙ (sym (coefficient-minus p q m) ∙ z m) in
-      sym (coefficient_value K F p m) ∙ (plus_is_zero K F (K.negate (coefficient K q m)) (coefficient K p m) e ∙ (negate_negate (coefficient K q m) ∙ coefficient_value K F q m))
+      sym (coefficient_value K F p m) ∙ (plus_is_zero K F (K.negate (coefficient K q m)) (coefficient K p m) e ∙ (negate-negate K F (coefficient K q m) ∙ coefficient_value K F q m))
 
   IsPoly_constant : (n : ℕ) (c : E) → IsValue K c → IsPoly K n (constant K c)
   IsPoly_constant n c v = (record { monomial = record { trimmed = tt; within = Rattle.std.proofs.Common.◌≤◌.zero-le }; value = v }, tt)
@@ -74,7 +72,7 @@ module _ {E : Type 0} (K : FieldOps E) (F : IsField K) where
       coefficient-negated K F (minus K p q) m ∙
       (ap K.negate (coefficient-minus p q m) ∙
       (negate-plus K F (coefficient K p m) (K.negate (coefficient K q m)) ∙
-      (ap (K.plus (K.negate (coefficient K p m))) (negate_negate (coefficient K q m) ∙ coefficient_value K F q m) ∙
+      (ap (K.plus (K.negate (coefficient K p m))) (negate-negate K F (coefficient K q m) ∙ coefficient_value K F q m) ∙
       (F.plus_comm (K.negate (coefficient K p m)) (coefficient K q m) ∙ sym (coefficient-minus q p m)))))
 
   -- (p + r) - (q + s) = (p - q) + (r - s)

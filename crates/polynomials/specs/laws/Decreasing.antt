@@ -12,24 +12,25 @@ use Rattle.polynomials.specs.Polynomial.{Polynomial, same_monomial, share, coeff
 use Rattle.polynomials.specs.laws.Ring.{coefficient_value}
 use Rattle.polynomials.specs.laws.Same.{same_true, same_refl}
 use Rattle.monomial_order.specs.laws.Comparing.{not_below_self, greater_less}
+use Rattle.monomial_order.specs.Monomial.{Exponents}
 
 pub IsDecreasing_IsPoly : {E : Type 0} (K : FieldOps E) (O : MonomialOrder) (p : Polynomial E) → IsDecreasing K O p → IsPoly K O.places p
 IsDecreasing_IsPoly K O [] h = tt
 IsDecreasing_IsPoly K O (t ∷ p) h = (h.0.term, IsDecreasing_IsPoly K O p h.1)
 
 module _ (O : MonomialOrder) (L : IsMonomialOrder O) where
-  pub below_differs : (m n : List ℕ) → O.compare m n ≡ Less → same_monomial m n ≡ false
+  pub below_differs : (m n : Exponents) → O.compare m n ≡ Less → same_monomial m n ≡ false
   below_differs m n h = elim (same_monomial m n) as (λ b. same_monomial m n ≡ b → b ≡ false) [
     | true ↦ λ e. absurd (not_below_self O L n (subst (λ k. O.compare k n ≡ Less) (same_true m n e) h))
     | false ↦ λ e. refl
   ] refl
 
 module _ {E : Type 0} (K : FieldOps E) (F : IsField K) (O : MonomialOrder) (L : IsMonomialOrder O) where
-  pub IsBelow_trans : (m n : List ℕ) (p : Polynomial E) → O.compare m n ≡ Less → IsBelow K O m p → IsBelow K O n p
+  pub IsBelow_trans : (m n : Exponents) (p : Polynomial E) → O.compare m n ≡ Less → IsBelow K O m p → IsBelow K O n p
   IsBelow_trans m n [] h k = tt
   IsBelow_trans m n (t ∷ p) h k = (L.total.trans t.at m n k.0 h, IsBelow_trans m n p h k.1)
 
-  pub coefficient_below : (m : List ℕ) (p : Polynomial E) → IsBelow K O m p → coefficient K p m ≡ K.zero
+  pub coefficient_below : (m : Exponents) (p : Polynomial E) → IsBelow K O m p → coefficient K p m ≡ K.zero
   unfolding coefficient
   coefficient_below m [] h = refl
   coefficient_below m (t ∷ p) h =
@@ -43,7 +44,7 @@ module _ {E : Type 0} (K : FieldOps E) (F : IsField K) (O : MonomialOrder) (L : 
       (ap (K.plus t.by) (coefficient_below t.at p h.above) ∙ (F.plus_zero t.by ∙ h.term.value))
 
   -- the coefficient of a monomial above all terms
-  pub coefficient_above : (t : Term E) (p : Polynomial E) (m : List ℕ) → O.compare t.at m ≡ Less → IsLeadTerm K O t p → coefficient K (t ∷ p) m ≡ K.zero
+  pub coefficient_above : (t : Term E) (p : Polynomial E) (m : Exponents) → O.compare t.at m ≡ Less → IsLeadTerm K O t p → coefficient K (t ∷ p) m ≡ K.zero
   coefficient_above t p m h k = coefficient_below m (t ∷ p) (h, IsBelow_trans t.at m p h k.above)
 
   tail_same : (t : Term E) (p q : Polynomial E) → Same K (t ∷ p) (t ∷ q) → Same K p q
@@ -67,7 +68,7 @@ module _ {E : Type 0} (K : FieldOps E) (F : IsField K) (O : MonomialOrder) (L : 
             ap (λ x. x ∷ p) same ∙ ap (λ r. u ∷ r) (IsDecreasing_unique p q hp.1 hq.1 (tail_same u p q (subst (λ x. Same K (x ∷ p) (u ∷ q)) same h)))
       ] refl
 
-  -- the lead of a falling list
+  -- the lead of a decreasing list
   pub IsLead_first : (t : Term E) (p : Polynomial E) → IsDecreasing K O (t ∷ p) → IsLead K O (t ∷ p) t.at
   unfolding coefficient
   IsLead_first t p h = record {
@@ -80,7 +81,7 @@ module _ {E : Type 0} (K : FieldOps E) (F : IsField K) (O : MonomialOrder) (L : 
   }
 
   -- a polynomial has one lead at most
-  pub IsLead_unique : (p : Polynomial E) (m n : List ℕ) → IsLead K O p m → IsLead K O p n → m ≡ n
+  pub IsLead_unique : (p : Polynomial E) (m n : Exponents) → IsLead K O p m → IsLead K O p n → m ≡ n
   IsLead_unique p m n h k =
       elim (O.compare m n) as (λ o. O.compare m n ≡ o → m ≡ n) [
         | Equal ↦ λ e. L.equal m n e
@@ -88,5 +89,5 @@ module _ {E : Type 0} (K : FieldOps E) (F : IsField K) (O : MonomialOrder) (L : 
         | Greater ↦ λ e. absurd (clash n m (greater_less O L m n e) (k.greatest m h.nonzero (λ q. not_below_self O L m (subst (λ x. O.compare x m ≡ Less) (sym q) (greater_less O L m n e)))))
       ] refl
     where
-      clash : (a b : List ℕ) → O.compare a b ≡ Less → O.compare b a ≡ Less → ⊥
+      clash : (a b : Exponents) → O.compare a b ≡ Less → O.compare b a ≡ Less → ⊥
       clash a b p q = not_below_self O L a (L.total.trans a b a p q)

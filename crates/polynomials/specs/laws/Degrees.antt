@@ -6,7 +6,7 @@ use Rattle.word_field.specs.Field.{FieldOps, IsField, IsValue}
 use Rattle.word_field.specs.laws.Field.{zero-plus-zero, zero-plus}
 use Rattle.monomial_order.specs.declared.terms.Term.{Term}
 use Rattle.monomial_order.specs.laws.Lists.{contains_cases, contains_none}
-use Rattle.monomial_order.specs.Monomial.{weighted_degree}
+use Rattle.monomial_order.specs.Monomial.{Exponents, weighted_degree}
 use Rattle.monomial_order.specs.MonomialOrder.{MonomialOrder, IsMonomialOrder}
 use Rattle.polynomials.specs.Polynomial.{Polynomial, same_monomial, coefficient, Same, times, scaled, constant, IsPoly, IsDecreasing, IsHomogeneous, AllAt, component}
 use Rattle.polynomials.specs.Ideal.{Multiple, AreMultiples, sum_of, InIdeal}
@@ -59,8 +59,8 @@ module _ {E : Type 0} where
       by_test false r = r
 
 module _ {E : Type 0} (K : FieldOps E) (F : IsField K) (O : MonomialOrder) (L : IsMonomialOrder O) where
-  -- a monomial with a nonzero coefficient stands in a term
-  pub all_found : (P : List ℕ → Type 0) (p : Polynomial E) → AllAt P p → (n : List ℕ) → coefficient K p n ≢ K.zero → P n
+  -- a monomial with a nonzero coefficient is that of a term
+  pub all_found : (P : List ℕ → Type 0) (p : Polynomial E) → AllAt P p → (n : Exponents) → coefficient K p n ≢ K.zero → P n
   unfolding coefficient
   all_found P [] h n k = absurd (k refl)
   all_found P (t ∷ p) h n k =
@@ -69,8 +69,8 @@ module _ {E : Type 0} (K : FieldOps E) (F : IsField K) (O : MonomialOrder) (L : 
         | false ↦ λ e. all_found P p h.1 n (λ z. k (ap (λ b. K.plus (cond b t.by K.zero) (coefficient K p n)) e ∙ (ap (K.plus K.zero) z ∙ zero-plus-zero K F)))
       ] refl
 
-  -- what holds of each monomial with a nonzero coefficient holds of each term of a falling list
-  pub decreasing_all : (P : List ℕ → Type 0) (p : Polynomial E) → IsDecreasing K O p → ((m : List ℕ) → coefficient K p m ≢ K.zero → P m) → AllAt P p
+  -- what holds of each monomial with a nonzero coefficient holds of each term of a decreasing list
+  pub decreasing_all : (P : List ℕ → Type 0) (p : Polynomial E) → IsDecreasing K O p → ((m : Exponents) → coefficient K p m ≢ K.zero → P m) → AllAt P p
   decreasing_all P [] h k = tt
   decreasing_all P (t ∷ p) h k =
       (k t.at (λ z. h.0.nonzero (sym (coefficient_first K F O L t p h.0) ∙ z)), decreasing_all P p h.1 (λ m c. k m (λ z. c (tail_zero K F O L t p h.0 m c z))))
@@ -86,7 +86,7 @@ module _ {E : Type 0} (K : FieldOps E) (F : IsField K) (O : MonomialOrder) (L : 
   coefficient_step false false true a c v h = sym (zero-plus K F c ∙ v)
   coefficient_step false false false a c v h = refl
 
-  pub coefficient-component : (d : ℕ) (p : Polynomial E) (m : List ℕ) → coefficient K (component O d p) m ≡ cond (nat_eq (O.degree m) d) (coefficient K p m) K.zero
+  pub coefficient-component : (d : ℕ) (p : Polynomial E) (m : Exponents) → coefficient K (component O d p) m ≡ cond (nat_eq (O.degree m) d) (coefficient K p m) K.zero
   unfolding coefficient
   coefficient-component d [] m = elim (nat_eq (O.degree m) d) as (λ b. K.zero ≡ cond b K.zero K.zero) [ true ↦ refl | false ↦ refl ]
   coefficient-component d (t ∷ p) m =
@@ -106,7 +106,7 @@ module _ {E : Type 0} (K : FieldOps E) (F : IsField K) (O : MonomialOrder) (L : 
 
   -- all monomials of p have the degree d
   abbrev pub IsGraded : ℕ → Polynomial E → Type 0
-  IsGraded d p = (m : List ℕ) → coefficient K p m ≢ K.zero → O.degree m ≡ d
+  IsGraded d p = (m : Exponents) → coefficient K p m ≢ K.zero → O.degree m ≡ d
 
   graded_form : (d : ℕ) (p : Polynomial E) → IsPoly K O.places p → IsGraded d p → (q : Polynomial E) × Same K q p × AllAt (λ m. O.degree m ≡ d) q
   graded_form d p hp hg =
@@ -155,7 +155,7 @@ module _ {E : Type 0} (K : FieldOps E) (F : IsField K) (O : MonomialOrder) (L : 
   unfolding coefficient
   part_component d q r hq hr = ⊎_elim none some hr.homogeneous
     where
-      none : ((m : List ℕ) → coefficient K r m ≡ K.zero) → (s : Polynomial E) × IsPoly K O.places s × Same K (component O d (times K q r)) (times K s r)
+      none : ((m : Exponents) → coefficient K r m ≡ K.zero) → (s : Polynomial E) × IsPoly K O.places s × Same K (component O d (times K q r)) (times K s r)
       none z = ([], tt, λ m. component_same d (times K q r) [] (λ i. times_same K F q q r [] (λ j. refl) z i ∙ times_nil K F q i) m)
 
       some : (k : ℕ) × (1 ≤ k) × IsHomogeneous K O k r → (s : Polynomial E) × IsPoly K O.places s × Same K (component O d (times K q r)) (times K s r)
@@ -210,7 +210,7 @@ module _ {E : Type 0} (K : FieldOps E) (F : IsField K) (O : MonomialOrder) (L : 
       subst (λ x. IsGraded x (times K f (power K f e))) (let z : d + d * e ≡ d * suc e = omega arith in z)
       (graded_times f (power K f e) d (d * e) hp (IsPoly-power K F O.places f e hp) hg (graded_power f d e hp hg))
 
-  pub graded_value : (m : List ℕ) (ds : List ℕ) (fs : List (Polynomial E)) → Rattle.std.proofs.Common.length ds ≡ Rattle.std.proofs.Common.length fs → AreGraded ds fs → IsGraded (weighted_degree ds m) (monomial_value K m fs)
+  pub graded_value : (m : Exponents) (ds : List ℕ) (fs : List (Polynomial E)) → Rattle.std.proofs.Common.length ds ≡ Rattle.std.proofs.Common.length fs → AreGraded ds fs → IsGraded (weighted_degree ds m) (monomial_value K m fs)
   graded_value [] [] fs l h = graded_one
   graded_value [] (d ∷ ds) fs l h = graded_one
   graded_value (e ∷ m) [] [] l h = graded_one

@@ -1,4 +1,4 @@
--- The first term of a falling list, and its rest.
+-- The first term of a decreasing list, and its rest.
 use Rattle.std.proofs.Common.{◌≡◌, ◌≢◌, ℕ, refl, sym, ◌∙◌, ap, subst, List, [], ◌∷◌, cond, true, false}
 use Rattle.std.specs.declared.cmp.Ordering.TheVariants.{Less}
 use Rattle.word_field.specs.Field.{FieldOps, IsField}
@@ -9,10 +9,11 @@ use Rattle.polynomials.specs.Polynomial.{Polynomial, same_monomial, coefficient,
 use Rattle.polynomials.specs.laws.Ring.{coefficient_value}
 use Rattle.polynomials.specs.laws.Same.{same_true}
 use Rattle.monomial_order.specs.laws.Comparing.{not_below_self}
+use Rattle.monomial_order.specs.Monomial.{Exponents}
 
 module _ {E : Type 0} (K : FieldOps E) (F : IsField K) (O : MonomialOrder) (L : IsMonomialOrder O) where
-  -- a monomial with a nonzero coefficient stands below what all terms are below
-  pub below_found : (m : List ℕ) (p : Polynomial E) → IsBelow K O m p → (n : List ℕ) → coefficient K p n ≢ K.zero → O.compare n m ≡ Less
+  -- a monomial with a nonzero coefficient is below what all terms are below
+  pub below_found : (m : Exponents) (p : Polynomial E) → IsBelow K O m p → (n : Exponents) → coefficient K p n ≢ K.zero → O.compare n m ≡ Less
   unfolding coefficient
   below_found m [] h n k = absurd (k refl)
   below_found m (t ∷ p) h n k =
@@ -21,8 +22,8 @@ module _ {E : Type 0} (K : FieldOps E) (F : IsField K) (O : MonomialOrder) (L : 
         | false ↦ λ e. below_found m p h.1 n (λ z. k (ap (λ b. K.plus (cond b t.by K.zero) (coefficient K p n)) e ∙ (ap (K.plus K.zero) z ∙ zero-plus-zero K F)))
       ] refl
 
-  -- below its first term a falling list has the coefficients of its rest
-  pub tail_zero : (t : Term E) (e : Polynomial E) → IsLeadTerm K O t e → (w : List ℕ) →
+  -- below its first term a decreasing list has the coefficients of its rest
+  pub tail_zero : (t : Term E) (e : Polynomial E) → IsLeadTerm K O t e → (w : Exponents) →
       coefficient K e w ≢ K.zero → coefficient K (t ∷ e) w ≡ K.zero → coefficient K e w ≡ K.zero
   unfolding coefficient
   tail_zero t e h w c z =

@@ -12,6 +12,7 @@ use Rattle.polynomials.specs.laws.Same.{coefficient-negated}
 use Rattle.polynomials.specs.laws.Value.{value-append, value-times, coefficient-constant_times}
 use Rattle.polynomials.specs.laws.Ideal.{IsPoly-append, IsPoly-negated, IsPoly-times}
 use Rattle.polynomials.specs.laws.Congruence.{congruent_same, congruent_trans, congruent_plus, congruent_times, congruent_negated}
+use Rattle.monomial_order.specs.Monomial.{Exponents}
 
 module _ {E : Type 0} (K : FieldOps E) (F : IsField K) where
   pub IsPoly-one : (n : ℕ) → IsPoly K n (constant K K.one)
@@ -26,7 +27,7 @@ module _ {E : Type 0} (K : FieldOps E) (F : IsField K) where
   ArePolys n [] = Unit {0}
   ArePolys n (f ∷ fs) = IsPoly K n f × ArePolys n fs
 
-  pub IsPoly-monomial_value : (n : ℕ) (m : List ℕ) (fs : List (Polynomial E)) → ArePolys n fs → IsPoly K n (monomial_value K m fs)
+  pub IsPoly-monomial_value : (n : ℕ) (m : Exponents) (fs : List (Polynomial E)) → ArePolys n fs → IsPoly K n (monomial_value K m fs)
   IsPoly-monomial_value n [] fs h = IsPoly-one n
   IsPoly-monomial_value n (e ∷ m) [] h = IsPoly-one n
   IsPoly-monomial_value n (e ∷ m) (f ∷ fs) h =

@@ -5,7 +5,7 @@ use Rattle.std.proofs.lemmas.Bool.{eq-eqb, eqb-true}
 use Rattle.word_field.specs.Field.{FieldOps}
 use Rattle.word_field.specs.laws.Field.{zero-plus-zero, negate-zero}
 use Rattle.monomial_order.specs.declared.terms.Term.{Term}
-use Rattle.monomial_order.specs.Monomial.{product, IsMonomial}
+use Rattle.monomial_order.specs.Monomial.{Exponents, product, IsMonomial}
 use Rattle.monomial_order.specs.MonomialOrder.{MonomialOrder}
 use Rattle.polynomials.specs.Polynomial.{Polynomial, coefficient, Same, term_of, times, scaled, negated, minus, component, IsTerm, IsPoly, IsLead, IsHomogeneous}
 use Rattle.polynomials.specs.Ideal.{InIdeal}
@@ -27,7 +27,7 @@ module _ {E : Type 0} (P : Presented E) (H : IsPresentation P) where
       poly : IsPoly P.field P.order.places (minus P.field b c)
       poly = IsPoly-append P.field H.field P.order.places b (negated P.field c) h.poly (IsPoly-negated P.field H.field P.order.places c k.poly)
 
-      no_lead : (m : List ℕ) → IsLead P.field P.order (minus P.field b c) m → ⊥
+      no_lead : (m : Exponents) → IsLead P.field P.order (minus P.field b c) m → ⊥
       no_lead m l =
           ⊎_elim
           (λ z. ⊎_elim
@@ -44,12 +44,12 @@ module _ {E : Type 0} (P : Presented E) (H : IsPresentation P) where
             leads = l;
           }
 
-  nothing : (m : List ℕ) → coefficient P.field [] m ≡ P.field.zero
+  nothing : (m : Exponents) → coefficient P.field [] m ≡ P.field.zero
   unfolding coefficient
   nothing m = refl
 
   -- a multiple of a lead of the ideal is one
-  pub lead_times : (k m : List ℕ) → IsMonomial P.order.places k → LeadsIdeal P m → LeadsIdeal P (product k m)
+  pub lead_times : (k m : Exponents) → IsMonomial P.order.places k → LeadsIdeal P m → LeadsIdeal P (product k m)
   lead_times k m hk h = of_form (canonical P.field H.field P.order H.order h.member h.poly)
     where
       term : IsTerm P.field P.order.places (term_of k P.field.one)
@@ -90,7 +90,7 @@ IsPoly-component K n O d (t ∷ p) h = by_test (nat_eq (O.degree t.at) d) (IsPol
 
 module _ {E : Type 0} (P : Presented E) (H : IsPresentation P) where
   -- each lead of the ideal is that of a homogeneous member
-  pub lead_component : (m : List ℕ) (h : LeadsIdeal P m) → HasHomogeneousLead P m (component P.order (P.order.degree m) h.member)
+  pub lead_component : (m : Exponents) (h : LeadsIdeal P m) → HasHomogeneousLead P m (component P.order (P.order.degree m) h.member)
   lead_component m h = record {
     poly = IsPoly-component P.field P.order.places P.order (P.order.degree m) h.member h.poly;
     inside = ideal_component P.field H.field P.order H.order P.ideal H.ideal (P.order.degree m) h.member h.inside;
@@ -98,7 +98,7 @@ module _ {E : Type 0} (P : Presented E) (H : IsPresentation P) where
     leads = record { nonzero = nonzero; greatest = λ n k ne. h.leads.greatest n (λ z. k (whole n ∙ zero_test (nat_eq (P.order.degree n) (P.order.degree m)) (coefficient P.field h.member n) z)) ne };
   }
     where
-      whole : (n : List ℕ) → coefficient P.field (component P.order (P.order.degree m) h.member) n ≡ cond (nat_eq (P.order.degree n) (P.order.degree m)) (coefficient P.field h.member n) P.field.zero
+      whole : (n : Exponents) → coefficient P.field (component P.order (P.order.degree m) h.member) n ≡ cond (nat_eq (P.order.degree n) (P.order.degree m)) (coefficient P.field h.member n) P.field.zero
       whole n = coefficient-component P.field H.field P.order H.order (P.order.degree m) h.member n
 
       zero_test : (b : Bool) (c : E) → c ≡ P.field.zero → cond b c P.field.zero ≡ P.field.zero
@@ -109,7 +109,7 @@ module _ {E : Type 0} (P : Presented E) (H : IsPresentation P) where
       nonzero e = h.leads.nonzero
           (sym (whole m ∙ ap (λ b. cond b (coefficient P.field h.member m) P.field.zero) (eq-eqb (P.order.degree m) (P.order.degree m) refl)) ∙ e)
 
-      degree : (n : List ℕ) → coefficient P.field (component P.order (P.order.degree m) h.member) n ≢ P.field.zero → P.order.degree n ≡ P.order.degree m
+      degree : (n : Exponents) → coefficient P.field (component P.order (P.order.degree m) h.member) n ≢ P.field.zero → P.order.degree n ≡ P.order.degree m
       degree n k = elim (nat_eq (P.order.degree n) (P.order.degree m)) as (λ b. nat_eq (P.order.degree n) (P.order.degree m) ≡ b → P.order.degree n ≡ P.order.degree m) [
         | true ↦ λ e. eqb-true (P.order.degree n) (P.order.degree m) e
         | false ↦ λ e. absurd (k (whole n ∙ ap (λ b. cond b (coefficient P.field h.member n) P.field.zero) e))

@@ -5,7 +5,7 @@ use Rattle.std.specs.declared.cmp.Ordering.TheVariants.{Less}
 use Rattle.word_field.specs.laws.Field.{zero-plus-zero, negate-zero}
 use Rattle.monomial_order.specs.declared.terms.Term.{Term}
 use Rattle.monomial_order.specs.laws.Lists.{contains_cases, contains_here, contains_there, contains_none}
-use Rattle.monomial_order.specs.Monomial.{product}
+use Rattle.monomial_order.specs.Monomial.{Exponents, product}
 use Rattle.monomial_order.specs.MonomialOrder.{MonomialOrder, IsMonomialOrder, IsIncreasing}
 use Rattle.monomial_order.specs.laws.Monomial.{product_assoc, product-one}
 use Rattle.polynomials.specs.Polynomial.{Polynomial, coefficient, Same, negated, minus, IsLead, lead_monomial}
@@ -37,15 +37,15 @@ contains_other f (x ∷ before) s after y h ne =
     (λ k. contains_there (f x) (map f (before ++ after)) y (contains_other f before s after y k ne)) (contains_cases (f x) (map f (before ++ (s ∷ after))) y h)
 
 -- products of members
-AllIn-append : (M ms ns : List (List ℕ)) → AllIn M ms → AllIn M ns → AllIn M (ms ++ ns)
+AllIn-append : (M ms ns : List Exponents) → AllIn M ms → AllIn M ns → AllIn M (ms ++ ns)
 AllIn-append M [] ns h k = k
 AllIn-append M (m ∷ ms) ns h k = (h.0, AllIn-append M ms ns h.1 k)
 
-product_of-append : (ms ns : List (List ℕ)) → product_of (ms ++ ns) ≡ product (product_of ms) (product_of ns)
+product_of-append : (ms ns : List Exponents) → product_of (ms ++ ns) ≡ product (product_of ms) (product_of ns)
 product_of-append [] ns = refl
 product_of-append (m ∷ ms) ns = ap (product m) (product_of-append ms ns) ∙ sym (product_assoc m (product_of ms) (product_of ns))
 
-pub generated_times : (M : List (List ℕ)) (a b : List ℕ) → IsGenerated M a → IsGenerated M b → IsGenerated M (product a b)
+pub generated_times : (M : List Exponents) (a b : Exponents) → IsGenerated M a → IsGenerated M b → IsGenerated M (product a b)
 generated_times M a b h k = record {
   factors = h.factors ++ k.factors;
   members = AllIn-append M h.factors k.factors h.members k.members;
@@ -72,7 +72,7 @@ module _ {E : Type 0} (P : Presented E) (H : IsPresentation P) (c : ℕ) where
   }
 
   module _ (S T : List (Polynomial E)) (HS : IsReducedBasis P c S) (HT : IsReducedBasis P c T) where
-    lead_of_T : (m : List ℕ) → Contains (map lead_monomial T) m → LeadsSubalgebra P m × (P.order.degree m ≤ c) × (1 ≤ P.order.degree m)
+    lead_of_T : (m : Exponents) → Contains (map lead_monomial T) m → LeadsSubalgebra P m × (P.order.degree m ≤ c) × (1 ≤ P.order.degree m)
     lead_of_T m h =
         let r = map_contains lead_monomial T m h in
         let e = HT.elements r.0 r.1 in
@@ -80,7 +80,7 @@ module _ {E : Type 0} (P : Presented E) (H : IsPresentation P) (c : ℕ) where
 
     module _ (before : List (Polynomial E)) (s : Polynomial E) (after : List (Polynomial E)) (around : S ≡ before ++ (s ∷ after)) where
       -- factors of a smaller degree are other leads
-      others : (ms : List (List ℕ)) → AllIn (map lead_monomial (before ++ (s ∷ after))) ms → P.order.degree (product_of ms) < P.order.degree (lead_monomial s) →
+      others : (ms : List Exponents) → AllIn (map lead_monomial (before ++ (s ∷ after))) ms → P.order.degree (product_of ms) < P.order.degree (lead_monomial s) →
           AllIn (map lead_monomial (before ++ after)) ms
       others [] h l = tt
       others (m ∷ ms) h l =
@@ -90,7 +90,7 @@ module _ {E : Type 0} (P : Presented E) (H : IsPresentation P) (c : ℕ) where
           )
 
       -- a lead of a smaller degree is a product of other leads
-      smaller : (m : List ℕ) → LeadsSubalgebra P m → P.order.degree m ≤ c → P.order.degree m < P.order.degree (lead_monomial s) → IsGenerated (map lead_monomial (before ++ after)) m
+      smaller : (m : Exponents) → LeadsSubalgebra P m → P.order.degree m ≤ c → P.order.degree m < P.order.degree (lead_monomial s) → IsGenerated (map lead_monomial (before ++ after)) m
       smaller m h le lt =
           let g = HS.generates m h le in
           record {
@@ -100,7 +100,7 @@ module _ {E : Type 0} (P : Presented E) (H : IsPresentation P) (c : ℕ) where
             product = g.product;
           }
 
-      smaller_all : (ms : List (List ℕ)) → AllIn (map lead_monomial T) ms → P.order.degree (product_of ms) < P.order.degree (lead_monomial s) → IsGenerated (map lead_monomial (before ++ after)) (product_of ms)
+      smaller_all : (ms : List Exponents) → AllIn (map lead_monomial T) ms → P.order.degree (product_of ms) < P.order.degree (lead_monomial s) → IsGenerated (map lead_monomial (before ++ after)) (product_of ms)
       smaller_all [] h l = record { factors = []; members = tt; product = refl }
       smaller_all (m ∷ ms) h l =
           let e : P.order.degree (product m (product_of ms)) ≡ P.order.degree m + P.order.degree (product_of ms) = H.order.degree_product m (product_of ms) in
@@ -108,7 +108,7 @@ module _ {E : Type 0} (P : Presented E) (H : IsPresentation P) (c : ℕ) where
           generated_times (map lead_monomial (before ++ after)) m (product_of ms) (smaller m r.0 r.1 (omega arith)) (smaller_all ms h.1 (omega arith))
 
       -- a lead of S is a lead of T
-      one_factor : IsElement P c s → (ms : List (List ℕ)) → AllIn (map lead_monomial T) ms → product_of ms ≡ lead_monomial s → Contains (map lead_monomial T) (lead_monomial s)
+      one_factor : IsElement P c s → (ms : List Exponents) → AllIn (map lead_monomial T) ms → product_of ms ≡ lead_monomial s → Contains (map lead_monomial T) (lead_monomial s)
       one_factor el [] h e = absurd (let z : P.order.degree [] ≡ P.order.degree (lead_monomial s) = ap P.order.degree e in let o = degree_one P.order H.order in let a = el.at_least in omega arith)
       one_factor el (m ∷ []) h e = subst (Contains (map lead_monomial T)) (sym (product-one m) ∙ e) h.0
       one_factor el (m ∷ (k ∷ ms)) h e =
@@ -131,7 +131,7 @@ module _ {E : Type 0} (P : Presented E) (H : IsPresentation P) (c : ℕ) where
         one_factor r.0 s r.1 r.2 e g.factors g.members g.product
 
   -- two elements with one lead are equal
-  difference_zero : (s t : Polynomial E) (m : List ℕ) → coefficient P.field s m ≡ coefficient P.field t m → coefficient P.field (minus P.field s t) m ≡ P.field.zero
+  difference_zero : (s t : Polynomial E) (m : Exponents) → coefficient P.field s m ≡ coefficient P.field t m → coefficient P.field (minus P.field s t) m ≡ P.field.zero
   difference_zero s t m e =
       coefficient-minus P.field H.field s t m ∙ (ap (λ x. P.field.plus x (P.field.negate (coefficient P.field t m))) e ∙ H.field.plus_negate (coefficient P.field t m))
 
@@ -145,7 +145,7 @@ module _ {E : Type 0} (P : Presented E) (H : IsPresentation P) (c : ℕ) where
       equal : Same P.field (minus P.field s t) [] → Same P.field s t
       equal z = minus_zero P.field H.field s t z
 
-      no_lead : (m : List ℕ) → IsLead P.field P.order (minus P.field s t) m → ⊥
+      no_lead : (m : Exponents) → IsLead P.field P.order (minus P.field s t) m → ⊥
       no_lead m l =
           let differs : m ≢ lead_monomial s = λ same. l.nonzero (difference_zero s t m (ap (coefficient P.field s) same ∙ (hs.monic ∙ (sym ht.monic ∙ (ap (coefficient P.field t) (sym e) ∙ ap (coefficient P.field t) (sym same)))))) in
           let found : IsStandard P m → ⊥ = λ st. ⊎_elim
@@ -173,7 +173,7 @@ module _ {E : Type 0} (P : Presented E) (H : IsPresentation P) (c : ℕ) where
             leads = l;
           }
 
-  -- the leads rise along the list
+  -- the leads increase along the list
   rise_all : (s : Polynomial E) (S : List (Polynomial E)) → IsIncreasing P.order (lead_monomial s ∷ map lead_monomial S) → (x : Polynomial E) → Contains S x → P.order.compare (lead_monomial s) (lead_monomial x) ≡ Less
   rise_all s [] h x k = absurd (contains_none x k)
   rise_all s (y ∷ S) h x k =
@@ -184,7 +184,7 @@ module _ {E : Type 0} (P : Presented E) (H : IsPresentation P) (c : ℕ) where
   rise_tail s [] h = tt
   rise_tail s (y ∷ S) h = h.1
 
-  -- two rising lists with the same members are equal
+  -- two increasing lists with the same members are equal
   same_members : (S T : List (Polynomial E)) → IsIncreasing P.order (map lead_monomial S) → IsIncreasing P.order (map lead_monomial T) →
       ((x : Polynomial E) → Contains S x → Contains T x) → ((x : Polynomial E) → Contains T x → Contains S x) → S ≡ T
   same_members [] [] hs ht f g = refl

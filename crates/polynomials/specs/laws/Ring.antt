@@ -2,17 +2,17 @@
 use Rattle.std.proofs.Common.{◌≡◌, ℕ, refl, sym, ◌∙◌, ap, List, [], ◌∷◌, ◌++◌}
 use Rattle.word_field.specs.Field.{FieldOps, IsField, IsValue}
 use Rattle.monomial_order.specs.declared.terms.Term.{Term}
-use Rattle.monomial_order.specs.Monomial.{product}
+use Rattle.monomial_order.specs.Monomial.{Exponents, product}
 use Rattle.monomial_order.specs.laws.Monomial.{product_comm, product_assoc}
 use Rattle.polynomials.specs.Polynomial.{Polynomial, total, share, coefficient, Same, term_of, term_times, scaled, times}
 use Rattle.polynomials.specs.laws.Sums.{total_value, total-append, total_same, total-map, total_plus, total_swap}
 
 module _ {E : Type 0} (K : FieldOps E) (F : IsField K) where
-  pub coefficient_value : (p : Polynomial E) (m : List ℕ) → IsValue K (coefficient K p m)
+  pub coefficient_value : (p : Polynomial E) (m : Exponents) → IsValue K (coefficient K p m)
   unfolding coefficient
   coefficient_value p m = total_value K F (share K m) p
 
-  pub coefficient-append : (p q : Polynomial E) (m : List ℕ) → coefficient K (p ++ q) m ≡ K.plus (coefficient K p m) (coefficient K q m)
+  pub coefficient-append : (p q : Polynomial E) (m : Exponents) → coefficient K (p ++ q) m ≡ K.plus (coefficient K p m) (coefficient K q m)
   unfolding coefficient
   coefficient-append p q m = total-append K F (share K m) p q
 
@@ -32,7 +32,7 @@ module _ {E : Type 0} (K : FieldOps E) (F : IsField K) where
       (ap (λ x. K.plus x (total K f (times K p q))) (total-map K F f (term_times K t) q) ∙
       ap (K.plus (total K (λ u. f (term_times K t u)) q)) (total-times f p q))
 
-  pub coefficient-times : (p q : Polynomial E) (m : List ℕ) →
+  pub coefficient-times : (p q : Polynomial E) (m : Exponents) →
       coefficient K (times K p q) m ≡ total K (λ t. total K (λ u. share K m (term_times K t u)) q) p
   unfolding coefficient
   coefficient-times p q m = total-times (share K m) p q

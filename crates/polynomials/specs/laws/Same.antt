@@ -4,23 +4,23 @@ use lib.Pointwise.{bytes_decides}
 use Rattle.word_field.specs.Field.{FieldOps, IsField, IsValue}
 use Rattle.word_field.specs.laws.Field.{zero-plus, plus-reduce, reduce-plus, zero-times, times-zero, plus_four, plus_swap, plus-times, plus_is_zero, negate-times, plus_cancel, zero-plus-zero, times-reduce}
 use Rattle.monomial_order.specs.declared.terms.Term.{Term}
-use Rattle.monomial_order.specs.Monomial.{product}
+use Rattle.monomial_order.specs.Monomial.{Exponents, product}
 use Rattle.polynomials.specs.Polynomial.{Polynomial, same_monomial, total, share, coefficient, Same, term_times, times, negated, minus}
 use Rattle.polynomials.specs.laws.Sums.{total_value, total-append, total_same, total_times}
 use Rattle.polynomials.specs.laws.Ring.{coefficient_value, coefficient-append, coefficient-times, times_comm}
 
-pub same_true : (m n : List ℕ) → same_monomial m n ≡ true → m ≡ n
+pub same_true : (m n : Exponents) → same_monomial m n ≡ true → m ≡ n
 same_true m n h = (bytes_decides m n).0 h
 
-pub same_refl : (m : List ℕ) → same_monomial m m ≡ true
+pub same_refl : (m : Exponents) → same_monomial m m ≡ true
 same_refl m = (bytes_decides m m).1 refl
 
--- a term's coefficient times what stands for its monomial
-abbrev pub weighed : {E : Type 0} → FieldOps E → (List ℕ → E) → Term E → E
+-- a term's coefficient times what is put for its monomial
+abbrev pub weighed : {E : Type 0} → FieldOps E → (Exponents → E) → Term E → E
 weighed K g t = K.times t.by (g t.at)
 
 -- the terms of p that are not at k
-abbrev pub without : {E : Type 0} → List ℕ → Polynomial E → Polynomial E
+abbrev pub without : {E : Type 0} → Exponents → Polynomial E → Polynomial E
 without k [] = []
 without k (t ∷ p) = cond (same_monomial t.at k) (without k p) (t ∷ without k p)
 
@@ -28,15 +28,15 @@ length-cond : {A : Type 0} (b : Bool) (n : ℕ) (x y : List A) → length x ≤ 
 length-cond true n x y hx hy = hx
 length-cond false n x y hx hy = hy
 
-pub length-without : {E : Type 0} (k : List ℕ) (p : Polynomial E) → length (without k p) ≤ length p
+pub length-without : {E : Type 0} (k : Exponents) (p : Polynomial E) → length (without k p) ≤ length p
 length-without k [] = omega arith
 length-without k (t ∷ p) =
     let ih : length (without k p) ≤ length p = length-without k p in
     length-cond (same_monomial t.at k) (length (t ∷ p)) (without k p) (t ∷ without k p) (omega arith) (omega arith)
 
-module _ {E : Type 0} (K : FieldOps E) (F : IsField K) (g : List ℕ → E) where
+module _ {E : Type 0} (K : FieldOps E) (F : IsField K) (g : Exponents → E) where
   -- the terms at k together, and the rest
-  split_step : (b : Bool) (t : Term E) (k : List ℕ) (c w r : E) (p q : Polynomial E) → (b ≡ true → t.at ≡ k) → IsValue K c → IsValue K r →
+  split_step : (b : Bool) (t : Term E) (k : Exponents) (c w r : E) (p q : Polynomial E) → (b ≡ true → t.at ≡ k) → IsValue K c → IsValue K r →
       w ≡ K.plus (K.times c (g k)) r → total K (weighed K g) q ≡ r →
       K.plus (weighed K g t) w ≡ K.plus (K.times (K.plus (cond b t.by K.zero) c) (g k)) (total K (weighed K g) (cond b q (t ∷ q)))
   split_step true t k c w r p q h vc vr e eq =
@@ -51,7 +51,7 @@ module _ {E : Type 0} (K : FieldOps E) (F : IsField K) (g : List ℕ → E) wher
       (ap (λ x. K.plus (K.times x (g k)) (K.plus (weighed K g t) r)) (sym vc ∙ sym (zero-plus K F c)) ∙
       ap (λ x. K.plus (K.times (K.plus K.zero c) (g k)) (K.plus (weighed K g t) x)) (sym eq)))
 
-  pub split : (k : List ℕ) (p : Polynomial E) →
+  pub split : (k : Exponents) (p : Polynomial E) →
       total K (weighed K g) p ≡ K.plus (K.times (coefficient K p k) (g k)) (total K (weighed K g) (without k p))
   unfolding coefficient
   split k [] = sym (ap (λ x. K.plus x K.zero) (zero-times K F (g k)) ∙ zero-plus-zero K F)
@@ -60,21 +60,21 @@ module _ {E : Type 0} (K : FieldOps E) (F : IsField K) (g : List ℕ → E) wher
       (same_true t.at k) (coefficient_value K F p k) (total_value K F (weighed K g) (without k p)) (split k p) refl
 
 module _ {E : Type 0} (K : FieldOps E) (F : IsField K) where
-  -- what stands for a monomial in the coefficient at m
-  abbrev unit_at : List ℕ → List ℕ → E
+  -- what is put for a monomial in the coefficient at m
+  abbrev unit_at : Exponents → Exponents → E
   unit_at m a = cond (same_monomial a m) K.one K.zero
 
   share_is : (b : Bool) (c x : E) → K.plus (cond b c K.zero) x ≡ K.plus (K.times c (cond b K.one K.zero)) x
   share_is true c x = sym (reduce-plus K F c x) ∙ ap (λ y. K.plus y x) (sym (F.times_one c))
   share_is false c x = ap (λ y. K.plus y x) (sym (times-zero K F c))
 
-  coefficient_weighed : (p : Polynomial E) (m : List ℕ) → coefficient K p m ≡ total K (weighed K (unit_at m)) p
+  coefficient_weighed : (p : Polynomial E) (m : Exponents) → coefficient K p m ≡ total K (weighed K (unit_at m)) p
   unfolding coefficient
   coefficient_weighed [] m = refl
   coefficient_weighed (t ∷ p) m =
       share_is (same_monomial t.at m) t.by (coefficient K p m) ∙ ap (K.plus (weighed K (unit_at m) t)) (coefficient_weighed p m)
 
-  pub without_zero : (k : List ℕ) (p : Polynomial E) → ((m : List ℕ) → coefficient K p m ≡ K.zero) → (m : List ℕ) → coefficient K (without k p) m ≡ K.zero
+  pub without_zero : (k : Exponents) (p : Polynomial E) → ((m : Exponents) → coefficient K p m ≡ K.zero) → (m : Exponents) → coefficient K (without k p) m ≡ K.zero
   without_zero k p h m =
       coefficient_weighed (without k p) m ∙
       (sym (total_value K F (weighed K (unit_at m)) (without k p)) ∙
@@ -86,12 +86,12 @@ module _ {E : Type 0} (K : FieldOps E) (F : IsField K) where
   without_first t p = ap (λ b. cond b (without t.at p) (t ∷ without t.at p)) (same_refl t.at)
 
   -- a polynomial without nonzero coefficients weighs nothing
-  weighs_nothing : (g : List ℕ → E) (n : ℕ) (p : Polynomial E) → length p ≤ n → ((m : List ℕ) → coefficient K p m ≡ K.zero) → total K (weighed K g) p ≡ K.zero
+  weighs_nothing : (g : Exponents → E) (n : ℕ) (p : Polynomial E) → length p ≤ n → ((m : Exponents) → coefficient K p m ≡ K.zero) → total K (weighed K g) p ≡ K.zero
   weighs_nothing g n [] l h = refl
   weighs_nothing g zero (t ∷ p) l h = absurd (omega arith)
   weighs_nothing g (suc n) (t ∷ p) l h =
       let shorter : length (without t.at p) ≤ n = omega (arith, length-without t.at p) in
-      let rest : (m : List ℕ) → coefficient K (without t.at p) m ≡ K.zero = λ m. ap (λ q. coefficient K q m) (sym (without_first t p)) ∙ without_zero t.at (t ∷ p) h m in
+      let rest : (m : Exponents) → coefficient K (without t.at p) m ≡ K.zero = λ m. ap (λ q. coefficient K q m) (sym (without_first t p)) ∙ without_zero t.at (t ∷ p) h m in
       split K F g t.at (t ∷ p) ∙
       (ap (λ c. K.plus (K.times c (g t.at)) (total K (weighed K g) (without t.at (t ∷ p)))) (h t.at) ∙
       (ap (λ x. K.plus x (total K (weighed K g) (without t.at (t ∷ p)))) (zero-times K F (g t.at)) ∙
@@ -102,7 +102,7 @@ module _ {E : Type 0} (K : FieldOps E) (F : IsField K) where
   negate_share true c = refl
   negate_share false c = sym (Rattle.word_field.specs.laws.Field.negate-zero K F)
 
-  pub coefficient-negated : (p : Polynomial E) (m : List ℕ) → coefficient K (negated K p) m ≡ K.negate (coefficient K p m)
+  pub coefficient-negated : (p : Polynomial E) (m : Exponents) → coefficient K (negated K p) m ≡ K.negate (coefficient K p m)
   unfolding coefficient
   coefficient-negated [] m = sym (Rattle.word_field.specs.laws.Field.negate-zero K F)
   coefficient-negated (t ∷ p) m =
@@ -110,7 +110,7 @@ module _ {E : Type 0} (K : FieldOps E) (F : IsField K) where
       (ap (K.plus (K.negate (share K m t))) (coefficient-negated p m) ∙
       sym (Rattle.word_field.specs.laws.Field.negate-plus K F (share K m t) (coefficient K p m)))
 
-  weighed-negated : (g : List ℕ → E) (p : Polynomial E) → total K (weighed K g) (negated K p) ≡ K.negate (total K (weighed K g) p)
+  weighed-negated : (g : Exponents → E) (p : Polynomial E) → total K (weighed K g) (negated K p) ≡ K.negate (total K (weighed K g) p)
   weighed-negated g [] = sym (Rattle.word_field.specs.laws.Field.negate-zero K F)
   weighed-negated g (t ∷ p) =
       ap (λ x. K.plus x (total K (weighed K g) (negated K p))) (negate-times K F t.by (g t.at)) ∙
@@ -118,9 +118,9 @@ module _ {E : Type 0} (K : FieldOps E) (F : IsField K) where
       sym (Rattle.word_field.specs.laws.Field.negate-plus K F (weighed K g t) (total K (weighed K g) p)))
 
   -- a linear sum depends on the coefficients alone
-  pub weighed_same : (g : List ℕ → E) (p q : Polynomial E) → Same K p q → total K (weighed K g) p ≡ total K (weighed K g) q
+  pub weighed_same : (g : Exponents → E) (p q : Polynomial E) → Same K p q → total K (weighed K g) p ≡ total K (weighed K g) q
   weighed_same g p q h =
-      let zeros : (m : List ℕ) → coefficient K (minus K q p) m ≡ K.zero = λ m.
+      let zeros : (m : Exponents) → coefficient K (minus K q p) m ≡ K.zero = λ m.
       coefficient-append K F q (negated K p) m ∙
       (ap (K.plus (coefficient K q m)) (coefficient-negated p m ∙ ap K.negate (h m)) ∙ F.plus_negate (coefficient K q m)) in
       let nothing : K.plus (total K (weighed K g) q) (K.negate (total K (weighed K g) p)) ≡ K.zero =
@@ -136,10 +136,10 @@ module _ {E : Type 0} (K : FieldOps E) (F : IsField K) where
   share_times true c d = refl
   share_times false c d = sym (times-zero K F c)
 
-  abbrev beside : Polynomial E → List ℕ → List ℕ → E
+  abbrev beside : Polynomial E → Exponents → Exponents → E
   beside q m a = total K (λ u. cond (same_monomial (product a u.at) m) u.by K.zero) q
 
-  times_weighed : (p q : Polynomial E) (m : List ℕ) → coefficient K (times K p q) m ≡ total K (weighed K (beside q m)) p
+  times_weighed : (p q : Polynomial E) (m : Exponents) → coefficient K (times K p q) m ≡ total K (weighed K (beside q m)) p
   times_weighed p q m =
       coefficient-times K F p q m ∙
       total_same K F (λ t. total K (λ u. share K m (term_times K t u)) q) (weighed K (beside q m))

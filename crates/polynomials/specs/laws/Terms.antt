@@ -1,11 +1,11 @@
--- Falling lists: their terms, their parts, and their products with a term.
+-- Decreasing lists: their terms, their parts, and their products with a term.
 use Rattle.std.proofs.Common.{◌≡◌, ◌≢◌, ℕ, zero, suc, ◌+◌, ◌<◌, ◌≤◌, sym, ◌∙◌, subst, List, [], ◌∷◌, ◌++◌, length, get_or, arith, cond, Bool, true, false}
 use Rattle.std.specs.Prelude.{All, nat_eq}
 use Rattle.std.specs.declared.cmp.Ordering.TheVariants.{Less}
 use Rattle.word_field.specs.Field.{FieldOps, IsField, IsValue}
 use Rattle.word_field.specs.laws.Field.{times_not_zero}
 use Rattle.monomial_order.specs.declared.terms.Term.{Term}
-use Rattle.monomial_order.specs.Monomial.{product}
+use Rattle.monomial_order.specs.Monomial.{Exponents, product}
 use Rattle.monomial_order.specs.MonomialOrder.{MonomialOrder, IsMonomialOrder}
 use Rattle.monomial_order.specs.laws.Monomial.{IsMonomial-product, product_comm}
 use Rattle.polynomials.specs.Polynomial.{Polynomial, term_of, scaled, times, IsTerm, IsPoly, IsBelow, IsLeadTerm, IsDecreasing, IsSmall, IsCanonical, IsMeasured, AllAt, component}
@@ -25,7 +25,7 @@ all_back P [] ys h k d l = h k d l
 all_back P (x ∷ xs) ys h k d l = all_back P xs ys (λ j e m. h (suc j) e (omega arith)) k d l
 
 module _ {E : Type 0} where
-  pub AllAt-append : (P : List ℕ → Type 0) (p q : Polynomial E) → AllAt P p → AllAt P q → AllAt P (p ++ q)
+  pub AllAt-append : (P : Exponents → Type 0) (p q : Polynomial E) → AllAt P p → AllAt P q → AllAt P (p ++ q)
   AllAt-append P [] q h k = k
   AllAt-append P (t ∷ p) q h k = (h.0, AllAt-append P p q h.1 k)
 
@@ -40,7 +40,7 @@ module _ {E : Type 0} (K : FieldOps E) where
   all_terms n (t ∷ p) h = (h zero t (omega arith), all_terms n p (λ k d l. h (suc k) d (omega arith)))
 
   module _ (O : MonomialOrder) where
-    -- the coefficients of a falling list are values, and not zero
+    -- the coefficients of a decreasing list are values, and not zero
     pub decreasing_values : (p : Polynomial E) → IsDecreasing K O p → All (λ t. IsValue K t.by) p
     decreasing_values [] h k d l = absurd (omega arith)
     decreasing_values (t ∷ p) h zero d l = h.0.term.value
@@ -51,25 +51,25 @@ module _ {E : Type 0} (K : FieldOps E) where
     decreasing_nonzero (t ∷ p) h zero d l = h.0.nonzero
     decreasing_nonzero (t ∷ p) h (suc k) d l = decreasing_nonzero p h.1 k d (omega arith)
 
-    -- the degree of each term of a kept list can be computed
+    -- the degree of each term of a canonical list can be computed
     pub canonical_measured : (p : Polynomial E) → IsCanonical K O p → All (IsMeasured O) p
     canonical_measured [] h k d l = absurd (omega arith)
     canonical_measured (t ∷ p) h zero d l = record { monomial = h.decreasing.0.term.monomial; small = h.small.0 }
     canonical_measured (t ∷ p) h (suc k) d l = canonical_measured p record { decreasing = h.decreasing.1; small = h.small.1 } k d (omega arith)
 
-    pub IsBelow-append : (m : List ℕ) (p q : Polynomial E) → IsBelow K O m p → IsBelow K O m q → IsBelow K O m (p ++ q)
+    pub IsBelow-append : (m : Exponents) (p q : Polynomial E) → IsBelow K O m p → IsBelow K O m q → IsBelow K O m (p ++ q)
     IsBelow-append m [] q h k = k
     IsBelow-append m (t ∷ p) q h k = (h.0, IsBelow-append m p q h.1 k)
 
-    pub IsBelow-left : (m : List ℕ) (p q : Polynomial E) → IsBelow K O m (p ++ q) → IsBelow K O m p
+    pub IsBelow-left : (m : Exponents) (p q : Polynomial E) → IsBelow K O m (p ++ q) → IsBelow K O m p
     IsBelow-left m [] q h = tt
     IsBelow-left m (t ∷ p) q h = (h.0, IsBelow-left m p q h.1)
 
-    pub IsBelow-right : (m : List ℕ) (p q : Polynomial E) → IsBelow K O m (p ++ q) → IsBelow K O m q
+    pub IsBelow-right : (m : Exponents) (p q : Polynomial E) → IsBelow K O m (p ++ q) → IsBelow K O m q
     IsBelow-right m [] q h = h
     IsBelow-right m (t ∷ p) q h = IsBelow-right m p q h.1
 
-    -- the parts of a falling list fall
+    -- the parts of a decreasing list are decreasing
     pub IsDecreasing-left : (p q : Polynomial E) → IsDecreasing K O (p ++ q) → IsDecreasing K O p
     IsDecreasing-left [] q h = tt
     IsDecreasing-left (x ∷ p) q h = (record { term = h.0.term; nonzero = h.0.nonzero; above = IsBelow-left x.at p q h.0.above }, IsDecreasing-left p q h.1)
@@ -147,7 +147,7 @@ module _ {E : Type 0} (K : FieldOps E) (O : MonomialOrder) where
       AllAt-append (λ m. O.degree m ≤ d + e) (scaled K t q) (times K p q) (within_scaled L t q d e h.0 k) (within_times L p q d e h.1 k)
 
 module _ {E : Type 0} (K : FieldOps E) (F : IsField K) (O : MonomialOrder) where
-  -- a multiple by a nonzero constant falls
+  -- a multiple by a nonzero constant is decreasing
   pub IsDecreasing-multiple : (c : E) (p : Polynomial E) → IsValue K c → c ≢ K.zero → IsDecreasing K O p → IsDecreasing K O (scaled K (term_of [] c) p)
   IsDecreasing-multiple c [] v n h = tt
   IsDecreasing-multiple c (t ∷ p) v n h = (
@@ -159,7 +159,7 @@ module _ {E : Type 0} (K : FieldOps E) (F : IsField K) (O : MonomialOrder) where
     IsDecreasing-multiple c p v n h.1,
   )
     where
-      below : (m : List ℕ) (q : Polynomial E) → IsBelow K O m q → IsBelow K O m (scaled K (term_of [] c) q)
+      below : (m : Exponents) (q : Polynomial E) → IsBelow K O m q → IsBelow K O m (scaled K (term_of [] c) q)
       below m [] k = tt
       below m (u ∷ q) k = (k.0, below m q k.1)
 
@@ -173,7 +173,7 @@ module _ {E : Type 0} (K : FieldOps E) (F : IsField K) (O : MonomialOrder) where
     scaled_below s t (u ∷ p) hs ht hp h =
         (L.kept s.at u.at t.at hs.monomial.trimmed hp.0.monomial.trimmed ht.monomial.trimmed ∙ h.0, scaled_below s t p hs ht hp.1 h.1)
 
-    -- the product with a nonzero term falls
+    -- the product with a nonzero term is decreasing
     pub IsDecreasing-scaled : (s : Term E) (p : Polynomial E) → IsTerm K O.places s → s.by ≢ K.zero → IsDecreasing K O p → IsDecreasing K O (scaled K s p)
     IsDecreasing-scaled s [] hs n h = tt
     IsDecreasing-scaled s (t ∷ p) hs n h = (
@@ -187,11 +187,11 @@ module _ {E : Type 0} (K : FieldOps E) (F : IsField K) (O : MonomialOrder) where
 
 -- the terms of one degree fall
 module _ {E : Type 0} (K : FieldOps E) (O : MonomialOrder) (d : ℕ) where
-  below_test : (b : Bool) (m : List ℕ) (t : Term E) (q : Polynomial E) → (O.compare t.at m ≡ Less) → IsBelow K O m q → IsBelow K O m (cond b (t ∷ q) q)
+  below_test : (b : Bool) (m : Exponents) (t : Term E) (q : Polynomial E) → (O.compare t.at m ≡ Less) → IsBelow K O m q → IsBelow K O m (cond b (t ∷ q) q)
   below_test true m t q h k = (h, k)
   below_test false m t q h k = k
 
-  IsBelow-component : (m : List ℕ) (p : Polynomial E) → IsBelow K O m p → IsBelow K O m (component O d p)
+  IsBelow-component : (m : Exponents) (p : Polynomial E) → IsBelow K O m p → IsBelow K O m (component O d p)
   IsBelow-component m [] h = tt
   IsBelow-component m (t ∷ p) h = below_test (nat_eq (O.degree t.at) d) m t (component O d p) h.0 (IsBelow-component m p h.1)
 

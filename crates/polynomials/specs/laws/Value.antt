@@ -3,7 +3,7 @@ use Rattle.std.proofs.Common.{◌≡◌, ℕ, zero, suc, ◌+◌, refl, sym, ◌
 use Rattle.word_field.specs.Field.{FieldOps, IsField}
 use Rattle.word_field.specs.laws.Field.{times-zero, one-times}
 use Rattle.monomial_order.specs.declared.terms.Term.{Term}
-use Rattle.monomial_order.specs.Monomial.{product}
+use Rattle.monomial_order.specs.Monomial.{Exponents, product}
 use Rattle.polynomials.specs.Polynomial.{Polynomial, same_monomial, total, share, coefficient, Same, term_of, term_times, scaled, times, constant}
 use Rattle.polynomials.specs.Value.{power, monomial_value, term_value, value}
 use Rattle.polynomials.specs.laws.Sums.{total_same, total-map, total_times}
@@ -15,14 +15,14 @@ append-nil [] = refl
 append-nil (x ∷ xs) = ap (λ ys. x ∷ ys) (append-nil xs)
 
 module _ {E : Type 0} (K : FieldOps E) (F : IsField K) where
-  pub coefficient-scaled : (c : E) (p : Polynomial E) (m : List ℕ) → coefficient K (scaled K (term_of [] c) p) m ≡ K.times c (coefficient K p m)
+  pub coefficient-scaled : (c : E) (p : Polynomial E) (m : Exponents) → coefficient K (scaled K (term_of [] c) p) m ≡ K.times c (coefficient K p m)
   unfolding coefficient
   coefficient-scaled c p m =
       total-map K F (share K m) (term_times K (term_of [] c)) p ∙
       (total_same K F (λ u. share K m (term_times K (term_of [] c) u)) (λ u. K.times c (share K m u)) (λ u. share_times K F (same_monomial u.at m) c u.by) p ∙
       total_times K F c (share K m) p)
 
-  pub coefficient-constant_times : (c : E) (p : Polynomial E) (m : List ℕ) → coefficient K (times K (constant K c) p) m ≡ K.times c (coefficient K p m)
+  pub coefficient-constant_times : (c : E) (p : Polynomial E) (m : Exponents) → coefficient K (times K (constant K c) p) m ≡ K.times c (coefficient K p m)
   coefficient-constant_times c p m = ap (λ q. coefficient K q m) (append-nil (scaled K (term_of [] c) p)) ∙ coefficient-scaled c p m
 
   pub one_times : (p : Polynomial E) → Same K (times K (constant K K.one) p) p
@@ -44,7 +44,7 @@ module _ {E : Type 0} (K : FieldOps E) (F : IsField K) where
       (times_same K F f f (power K f (a + b)) (times K (power K f a) (power K f b)) (λ n. refl) (power_plus f a b) m ∙
       sym (times_assoc K F f (power K f a) (power K f b) m))
 
-  pub monomial_value-product : (a b : List ℕ) (fs : List (Polynomial E)) →
+  pub monomial_value-product : (a b : Exponents) (fs : List (Polynomial E)) →
       Same K (monomial_value K (product a b) fs) (times K (monomial_value K a fs) (monomial_value K b fs))
   monomial_value-product [] b fs m = sym (one_times (monomial_value K b fs) m)
   monomial_value-product (e ∷ a) [] fs m = sym (times_comm K F (monomial_value K (e ∷ a) fs) (constant K K.one) m ∙ one_times (monomial_value K (e ∷ a) fs) m)
@@ -59,7 +59,7 @@ module _ {E : Type 0} (K : FieldOps E) (F : IsField K) where
   value-append (t ∷ h) k fs =
       ap (λ p. term_value K fs t ++ p) (value-append h k fs) ∙ sym (append_assoc (term_value K fs t) (value K h fs) (value K k fs))
 
-  value_weighed : (h : Polynomial E) (fs : List (Polynomial E)) (m : List ℕ) →
+  value_weighed : (h : Polynomial E) (fs : List (Polynomial E)) (m : Exponents) →
       coefficient K (value K h fs) m ≡ total K (weighed K (λ a. coefficient K (monomial_value K a fs) m)) h
   unfolding coefficient
   value_weighed [] fs m = refl

@@ -6,7 +6,7 @@ use Rattle.std.proofs.lemmas.Bool.Decides.{nat_tests}
 use Rattle.std.specs.Ordering.{nat_cmp, ordering_then}
 use Rattle.std.specs.declared.cmp.Ordering.{Ordering}
 use Rattle.std.specs.declared.cmp.Ordering.TheVariants.{Less, Equal, Greater}
-use Rattle.monomial_order.specs.Monomial.{product, IsMonomial, Divides, weighted_degree}
+use Rattle.monomial_order.specs.Monomial.{Exponents, product, IsMonomial, Divides, weighted_degree}
 use Rattle.monomial_order.specs.MonomialOrder.{IsMonomialOrder}
 use Rattle.monomial_order.specs.laws.Orders.{ArePositive, word_order_laws, take-product, sum-product}
 use Rattle.word_laws.specs.Words.{Letters, AreLetters, lead_degrees, word_order_of, image_of, IsWord, IsSWord, IsSmaller, variables}
@@ -19,11 +19,11 @@ ArePositive-append : (xs ys : List ℕ) → ArePositive xs → ArePositive ys �
 ArePositive-append [] ys h k = k
 ArePositive-append (x ∷ xs) ys h k = (h.0, ArePositive-append xs ys h.1 k)
 
-leads_front : (ws vs : List ℕ) (ms : List (List ℕ)) → AreMonomials (length ws) ms → map (weighted_degree (ws ++ vs)) ms ≡ map (weighted_degree ws) ms
+leads_front : (ws vs : List ℕ) (ms : List Exponents) → AreMonomials (length ws) ms → map (weighted_degree (ws ++ vs)) ms ≡ map (weighted_degree ws) ms
 leads_front ws vs [] h = refl
 leads_front ws vs (m ∷ ms) h = ap (λ x. x ∷ map (weighted_degree (ws ++ vs)) ms) (weighted_front ws vs m h.0.within) ∙ ap (λ xs. weighted_degree ws m ∷ xs) (leads_front ws vs ms h.1)
 
--- where the degrees agree, a smaller word has no greater sum of x
+-- a smaller word of the same degree has no greater sum of x
 -- of words of one degree with one image, the smaller has no more of x
 pub x_falls : (a b x y : ℕ) (o : Ordering) → a ≡ b → ordering_then (nat_cmp a b) (ordering_then (nat_cmp x y) o) ≡ Less → x ≤ y
 x_falls a b x y o h k =
@@ -38,7 +38,7 @@ x_falls a b x y o h k =
     above : (x y : ℕ) → y < x → nat_cmp x y ≡ Greater
     above x y h = grind (arith, nat_tests)
 
-monomials : (n : ℕ) (ms : List (List ℕ)) → ((m : List ℕ) → Contains ms m → IsMonomial n m) → AreMonomials n ms
+monomials : (n : ℕ) (ms : List Exponents) → ((m : Exponents) → Contains ms m → IsMonomial n m) → AreMonomials n ms
 monomials n [] h = tt
 monomials n (m ∷ ms) h = (h m (contains_here m ms), monomials n ms (λ x k. h x (contains_there m ms x k)))
 
@@ -46,7 +46,7 @@ positive_numbers : (ds : List ℕ) → ((d : ℕ) → Contains ds d → 1 ≤ d)
 positive_numbers [] h = tt
 positive_numbers (d ∷ ds) h = (h d (contains_here d ds), positive_numbers ds (λ x k. h x (contains_there d ds x k)))
 
-positive_degrees : (f : List ℕ → ℕ) (ms : List (List ℕ)) → ((m : List ℕ) → Contains ms m → 1 ≤ f m) → ArePositive (map f ms)
+positive_degrees : (f : List ℕ → ℕ) (ms : List Exponents) → ((m : Exponents) → Contains ms m → 1 ≤ f m) → ArePositive (map f ms)
 positive_degrees f [] h = tt
 positive_degrees f (m ∷ ms) h = (h m (contains_here m ms), positive_degrees f ms (λ x k. h x (contains_there m ms x k)))
 
@@ -54,7 +54,7 @@ module _ (L : Letters) (H : AreLetters L) where
   degrees_positive : ArePositive L.degrees
   degrees_positive = positive_numbers L.degrees H.positive
 
-  lead_positive : (m : List ℕ) → Contains L.leads m → 1 ≤ weighted_degree L.degrees m
+  lead_positive : (m : Exponents) → Contains L.leads m → 1 ≤ weighted_degree L.degrees m
   lead_positive m h =
       let w = H.leads m h in
       let l = w.within in
@@ -75,7 +75,7 @@ module _ (L : Letters) (H : AreLetters L) where
   images_monomials = AreMonomials-append (length L.degrees) (variables 0 (length L.degrees)) L.leads (variables_monomials (length L.degrees) 0 (length L.degrees) (omega arith)) leads_monomials
 
   -- the image is a monomial in the x
-  pub image_x : (w : List ℕ) → IsMonomial (length L.degrees) (image_of L w)
+  pub image_x : (w : Exponents) → IsMonomial (length L.degrees) (image_of L w)
   image_x w = image_monomial (length L.degrees) w (variables 0 (length L.degrees) ++ L.leads) images_monomials
 
   pub images_degrees : map (word_order_of L).degree (variables 0 (length L.degrees) ++ L.leads) ≡ L.degrees ++ (lead_degrees L)
@@ -85,31 +85,31 @@ module _ (L : Letters) (H : AreLetters L) where
       ap (λ xs. L.degrees ++ xs) (leads_front L.degrees (lead_degrees L) L.leads leads_monomials))
 
   -- a word has the degree of its image
-  pub degree_image : (w : List ℕ) → (word_order_of L).degree (image_of L w) ≡ (word_order_of L).degree w
+  pub degree_image : (w : Exponents) → (word_order_of L).degree (image_of L w) ≡ (word_order_of L).degree w
   degree_image w =
       image_sum (word_order_of L).degree (degree_one (word_order_of L) word_laws) word_laws.degree_product w (variables 0 (length L.degrees) ++ L.leads) ∙
       ap (λ ds. weighted_degree ds w) images_degrees
 
-  pub degree_same : (v w : List ℕ) → image_of L v ≡ image_of L w → (word_order_of L).degree v ≡ (word_order_of L).degree w
+  pub degree_same : (v w : Exponents) → image_of L v ≡ image_of L w → (word_order_of L).degree v ≡ (word_order_of L).degree w
   degree_same v w e = sym (degree_image v) ∙ (ap (word_order_of L).degree e ∙ degree_image w)
 
-  pub degree_x : (m : List ℕ) → IsMonomial (length L.degrees) m → (word_order_of L).degree m ≡ weighted_degree L.degrees m
+  pub degree_x : (m : Exponents) → IsMonomial (length L.degrees) m → (word_order_of L).degree m ≡ weighted_degree L.degrees m
   degree_x m h = weighted_front L.degrees (lead_degrees L) m h.within
 
   -- a monomial in the x is a word, and its own image
-  pub x_word : (m : List ℕ) → IsMonomial (length L.degrees) m → IsWord L m
+  pub x_word : (m : Exponents) → IsMonomial (length L.degrees) m → IsWord L m
   x_word m h = record { trimmed = h.trimmed; within = let e = length-append L.degrees (lead_degrees L) in let l = h.within in omega arith }
 
-  pub image_same : (m : List ℕ) → IsMonomial (length L.degrees) m → image_of L m ≡ m
+  pub image_same : (m : Exponents) → IsMonomial (length L.degrees) m → image_of L m ≡ m
   image_same m h =
       image_front m (variables 0 (length L.degrees)) L.leads (let e = length-variables 0 (length L.degrees) in let l = h.within in omega arith) ∙
       image_variables (length L.degrees) m h
 
-  pub image_times : (u v : List ℕ) → image_of L (product u v) ≡ product (image_of L u) (image_of L v)
+  pub image_times : (u v : Exponents) → image_of L (product u v) ≡ product (image_of L u) (image_of L v)
   image_times u v = image_product u v (variables 0 (length L.degrees) ++ L.leads)
 
   -- a divisor of an s-word is one
-  pub s_divisor : (v w : List ℕ) → IsWord L v → IsSWord L w → Divides v w → IsSWord L v
+  pub s_divisor : (v w : Exponents) → IsWord L v → IsSWord L w → Divides v w → IsSWord L v
   s_divisor v w hv hw d =
       let k = cofactor v w hv.trimmed hw.0.trimmed d in
       let t : sum (take (length L.degrees) (product v k.0)) ≡ sum (take (length L.degrees) w) = ap (λ x. sum (take (length L.degrees) x)) k.2 in
@@ -119,7 +119,7 @@ module _ (L : Letters) (H : AreLetters L) where
       (hv, omega arith)
 
   -- a smaller word with the image of an s-word is one
-  pub s_smaller : (v w : List ℕ) → IsSWord L w → IsSmaller L w v → IsSWord L v
+  pub s_smaller : (v w : Exponents) → IsSWord L w → IsSmaller L w v → IsSWord L v
   s_smaller v w h k =
       let f : sum (take (length L.degrees) v) ≤ sum (take (length L.degrees) w) =
       x_falls ((word_order_of L).degree v) ((word_order_of L).degree w) (sum (take (length L.degrees) v)) (sum (take (length L.degrees) w)) _ (degree_same v w k.image) k.less in

@@ -10,10 +10,10 @@ times-requires g c = record {
   fits = product_fits (g.O.Order.order c.args.o.now) (g.met.O.Order.laws c.args.o.now) c.args.m.now c.t-item.result.at
       c.requires.term.monomial
       (all_at (IsMeasured (g.O.Order.order c.args.o.now)) c.args.terms.now c.loop-t.t-index c.t-item.result
-      (canonical_measured (g.F.Field.ops c.args.f.now) (g.O.Order.order c.args.o.now) c.args.terms.now c.requires.kept) (omega arith) c.t-item.is).monomial
+      (canonical_measured (g.F.Field.ops c.args.f.now) (g.O.Order.order c.args.o.now) c.args.terms.now c.requires.canonical) (omega arith) c.t-item.is).monomial
       (small_scaled_at (g.F.Field.ops c.args.f.now) (g.O.Order.order c.args.o.now) (term_of c.args.m.now c.args.c) c.args.terms.now c.loop-t.t-index c.t-item.result c.requires.small (omega arith) c.t-item.is);
 }
 
 pub mul-requires-clause-right : goal.mul-requires-clause-right
 mul-requires-clause-right g c =
-    all_at (λ t. IsValue (g.F.Field.ops c.args.f.now) t.by) c.args.terms.now c.loop-t.t-index c.t-item.result (decreasing_values (g.F.Field.ops c.args.f.now) (g.O.Order.order c.args.o.now) c.args.terms.now c.requires.kept.decreasing) (omega arith) c.t-item.is
+    all_at (λ t. IsValue (g.F.Field.ops c.args.f.now) t.by) c.args.terms.now c.loop-t.t-index c.t-item.result (decreasing_values (g.F.Field.ops c.args.f.now) (g.O.Order.order c.args.o.now) c.args.terms.now c.requires.canonical.decreasing) (omega arith) c.t-item.is

@@ -3,32 +3,32 @@ use Rattle.std.proofs.lemmas.Bool.{true≢false}
 use Rattle.std.specs.Prelude.{reverse}
 use Rattle.polynomials.specs.Polynomial.{IsMeasured}
 use Rattle.polynomials.specs.laws.Terms.{all_at, canonical_measured, decreasing_values}
-use Rattle.poly_core.proofs.Merging.{IsMerging, IsMerged, first_kept, second_kept, first_moved, second_moved, both_added, first_done, second_done, told_empty, told_positive}
+use Rattle.poly_core.proofs.Merging.{IsMerging, IsMerged, first_canonical, second_canonical, first_moved, second_moved, both_added, first_done, second_done, told_empty, told_positive}
 use Rattle.poly_core.proofs.sums.merge.Goals as goal
 use Rattle.poly_core.proofs.sums.merge.Goals.{then-both-test+else-not-is_empty, else-both-test, then-is_empty, else-is_empty}
 
 pub compare-requires-clause-left : goal.compare-requires-clause-left
 compare-requires-clause-left g c =
     (all_at (IsMeasured (g.O.Order.order c.args.o.now)) c.both.a.items (c.len.result - 1) c.index-s.result.now
-    (canonical_measured (g.F.Field.ops c.args.f.now) (g.O.Order.order c.args.o.now) c.both.a.items (first_kept (g.F.Field.ops c.args.f.now) (g.met.F.Field.laws c.args.f.now) (g.O.Order.order c.args.o.now) (g.met.O.Order.laws c.args.o.now) c.args.a.items c.args.b.items c.both.a.items c.both.b.items c.both.rising.items c.both.invariant))
+    (canonical_measured (g.F.Field.ops c.args.f.now) (g.O.Order.order c.args.o.now) c.both.a.items (first_canonical (g.F.Field.ops c.args.f.now) (g.met.F.Field.laws c.args.f.now) (g.O.Order.order c.args.o.now) (g.met.O.Order.laws c.args.o.now) c.args.a.items c.args.b.items c.both.a.items c.both.b.items c.both.rising.items c.both.invariant))
     (let positive = told_positive (vec_len c.both.a) c.is_empty.result c.both-test.true c.is_empty.ensures in omega arith) c.index-s.ensures).monomial
 
 pub compare-requires-clause-left_degree : goal.compare-requires-clause-left_degree
 compare-requires-clause-left_degree g c =
     (all_at (IsMeasured (g.O.Order.order c.args.o.now)) c.both.a.items (c.len.result - 1) c.index-s.result.now
-    (canonical_measured (g.F.Field.ops c.args.f.now) (g.O.Order.order c.args.o.now) c.both.a.items (first_kept (g.F.Field.ops c.args.f.now) (g.met.F.Field.laws c.args.f.now) (g.O.Order.order c.args.o.now) (g.met.O.Order.laws c.args.o.now) c.args.a.items c.args.b.items c.both.a.items c.both.b.items c.both.rising.items c.both.invariant))
+    (canonical_measured (g.F.Field.ops c.args.f.now) (g.O.Order.order c.args.o.now) c.both.a.items (first_canonical (g.F.Field.ops c.args.f.now) (g.met.F.Field.laws c.args.f.now) (g.O.Order.order c.args.o.now) (g.met.O.Order.laws c.args.o.now) c.args.a.items c.args.b.items c.both.a.items c.both.b.items c.both.rising.items c.both.invariant))
     (let positive = told_positive (vec_len c.both.a) c.is_empty.result c.both-test.true c.is_empty.ensures in omega arith) c.index-s.ensures).small
 
 pub compare-requires-clause-right : goal.compare-requires-clause-right
 compare-requires-clause-right g c =
     (all_at (IsMeasured (g.O.Order.order c.args.o.now)) c.both.b.items (c.len-in-both.result - 1) c.index-t.result.now
-    (canonical_measured (g.F.Field.ops c.args.f.now) (g.O.Order.order c.args.o.now) c.both.b.items (second_kept (g.F.Field.ops c.args.f.now) (g.met.F.Field.laws c.args.f.now) (g.O.Order.order c.args.o.now) (g.met.O.Order.laws c.args.o.now) c.args.a.items c.args.b.items c.both.a.items c.both.b.items c.both.rising.items c.both.invariant))
+    (canonical_measured (g.F.Field.ops c.args.f.now) (g.O.Order.order c.args.o.now) c.both.b.items (second_canonical (g.F.Field.ops c.args.f.now) (g.met.F.Field.laws c.args.f.now) (g.O.Order.order c.args.o.now) (g.met.O.Order.laws c.args.o.now) c.args.a.items c.args.b.items c.both.a.items c.both.b.items c.both.rising.items c.both.invariant))
     (let positive = told_positive (vec_len c.both.b) c.is_empty-in-both.result c.if-not-is_empty.true c.is_empty-in-both.ensures in omega arith) c.index-t.ensures).monomial
 
 pub compare-requires-clause-right_degree : goal.compare-requires-clause-right_degree
 compare-requires-clause-right_degree g c =
     (all_at (IsMeasured (g.O.Order.order c.args.o.now)) c.both.b.items (c.len-in-both.result - 1) c.index-t.result.now
-    (canonical_measured (g.F.Field.ops c.args.f.now) (g.O.Order.order c.args.o.now) c.both.b.items (second_kept (g.F.Field.ops c.args.f.now) (g.met.F.Field.laws c.args.f.now) (g.O.Order.order c.args.o.now) (g.met.O.Order.laws c.args.o.now) c.args.a.items c.args.b.items c.both.a.items c.both.b.items c.both.rising.items c.both.invariant))
+    (canonical_measured (g.F.Field.ops c.args.f.now) (g.O.Order.order c.args.o.now) c.both.b.items (second_canonical (g.F.Field.ops c.args.f.now) (g.met.F.Field.laws c.args.f.now) (g.O.Order.order c.args.o.now) (g.met.O.Order.laws c.args.o.now) c.args.a.items c.args.b.items c.both.a.items c.both.b.items c.both.rising.items c.both.invariant))
     (let positive = told_positive (vec_len c.both.b) c.is_empty-in-both.result c.if-not-is_empty.true c.is_empty-in-both.ensures in omega arith) c.index-t.ensures).small
 
 pub both-preserved-in-Continue-1 : goal.both-preserved-in-Continue-1
@@ -42,10 +42,10 @@ both-preserved-in-Continue-branch-2 g c =
     c.move_last-in-Greater.new.from.items c.move_last-in-Greater.new.to.items c.in_ok-move_last-in-Greater.ensures (sym c.in-Greater.ensures)
 
 pub add_last-requires-clause-a_values : goal.add_last-requires-clause-a_values
-add_last-requires-clause-a_values g c = decreasing_values (g.F.Field.ops c.args.f.now) (g.O.Order.order c.args.o.now) c.both.a.items (first_kept (g.F.Field.ops c.args.f.now) (g.met.F.Field.laws c.args.f.now) (g.O.Order.order c.args.o.now) (g.met.O.Order.laws c.args.o.now) c.args.a.items c.args.b.items c.both.a.items c.both.b.items c.both.rising.items c.both.invariant).decreasing
+add_last-requires-clause-a_values g c = decreasing_values (g.F.Field.ops c.args.f.now) (g.O.Order.order c.args.o.now) c.both.a.items (first_canonical (g.F.Field.ops c.args.f.now) (g.met.F.Field.laws c.args.f.now) (g.O.Order.order c.args.o.now) (g.met.O.Order.laws c.args.o.now) c.args.a.items c.args.b.items c.both.a.items c.both.b.items c.both.rising.items c.both.invariant).decreasing
 
 pub add_last-requires-clause-b_values : goal.add_last-requires-clause-b_values
-add_last-requires-clause-b_values g c = decreasing_values (g.F.Field.ops c.args.f.now) (g.O.Order.order c.args.o.now) c.both.b.items (second_kept (g.F.Field.ops c.args.f.now) (g.met.F.Field.laws c.args.f.now) (g.O.Order.order c.args.o.now) (g.met.O.Order.laws c.args.o.now) c.args.a.items c.args.b.items c.both.a.items c.both.b.items c.both.rising.items c.both.invariant).decreasing
+add_last-requires-clause-b_values g c = decreasing_values (g.F.Field.ops c.args.f.now) (g.O.Order.order c.args.o.now) c.both.b.items (second_canonical (g.F.Field.ops c.args.f.now) (g.met.F.Field.laws c.args.f.now) (g.O.Order.order c.args.o.now) (g.met.O.Order.laws c.args.o.now) c.args.a.items c.args.b.items c.both.a.items c.both.b.items c.both.rising.items c.both.invariant).decreasing
 
 pub both-preserved : goal.both-preserved
 both-preserved g c =

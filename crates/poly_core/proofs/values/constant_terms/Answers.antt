@@ -2,17 +2,17 @@ use Rattle.std.proofs.Common.{◌≤◌, ◌∷◌, ◌++◌, [], arith, sym, ap
 use Rattle.polynomials.specs.Polynomial.{term_of, constant, AllAt, IsCanonical, Same}
 use Rattle.polynomials.specs.laws.ReducedBasis.{degree_one}
 use Rattle.poly_core.proofs.Merging.{told_differ, told_same}
-use Rattle.poly_core.proofs.Calls.{kept_constant, zero_constant}
+use Rattle.poly_core.proofs.Calls.{canonical_constant, zero_constant}
 use Rattle.poly_core.proofs.values.constant_terms.Goals as goal
 use Rattle.poly_core.proofs.values.constant_terms.Goals.{then-ne+in_ok-push, else-ne}
 
-pub returns-clause-kept : goal.returns-clause-kept
-returns-clause-kept g c =
+pub returns-clause-canonical : goal.returns-clause-canonical
+returns-clause-canonical g c =
     elim c.if-ne.branch [
       | then-ne+in_ok-push w ↦
           subst (λ v. IsCanonical (g.F.Field.ops c.args.f.now) (g.O.Order.order c.args.o.now) v.items) (sym w.terms-is)
           (subst (IsCanonical (g.F.Field.ops c.args.f.now) (g.O.Order.order c.args.o.now)) (sym (w.in_ok-push.ensures.items ∙ (ap (λ x. x ++ (term_of w.one.result c.args.c ∷ [])) c.new-terms.ensures.items ∙ ap (λ m. term_of m c.args.c ∷ []) w.one.ensures)))
-          (kept_constant (g.F.Field.ops c.args.f.now) (g.O.Order.order c.args.o.now) (g.met.O.Order.laws c.args.o.now) c.args.c c.requires
+          (canonical_constant (g.F.Field.ops c.args.f.now) (g.O.Order.order c.args.o.now) (g.met.O.Order.laws c.args.o.now) c.args.c c.requires
           (λ z. told_differ c.ne.result (g.F.Elem.PartialEq.eq c.args.c c.zero.result) w.if-ne.true c.ne.ensures
           ((g.met.F.Field.eq_is c.args.c c.zero.result).1 (z ∙ sym c.zero.ensures)))))
       | else-ne w ↦ subst (λ v. IsCanonical (g.F.Field.ops c.args.f.now) (g.O.Order.order c.args.o.now) v.items) (sym w.terms-is) (subst (IsCanonical (g.F.Field.ops c.args.f.now) (g.O.Order.order c.args.o.now)) (sym c.new-terms.ensures.items) record { decreasing = tt; small = tt })

@@ -7,14 +7,14 @@ pub places-init : goal.places-init
 places-init g c = record {
   within = omega arith;
   partial = partial_at_end (g.F.Field.ops c.args.f.now) (g.met.F.Field.laws c.args.f.now) (g.O.Order.order c.args.o.now) (g.met.O.Order.laws c.args.o.now) c.args.t.now.by c.args.t.now.at c.args.at.now c.places-place.result c.in_ok-product.product.items c.places-place.ensures.length
-      c.in_ok-product.ensures.kept c.in_ok-product.ensures.constant c.in_ok-product.ensures.degree;
+      c.in_ok-product.ensures.canonical c.in_ok-product.ensures.constant c.in_ok-product.ensures.degree;
 }
 
 pub multiply-requires-clause-a : goal.multiply-requires-clause-a
 multiply-requires-clause-a g c =
     subst (IsCanonical (g.F.Field.ops c.args.f.now) (g.O.Order.order c.args.o.now)) (sym c.terms.ensures)
     (place_power (g.F.Field.ops c.args.f.now) (g.met.F.Field.laws c.args.f.now) (g.O.Order.order c.args.o.now) (g.met.O.Order.laws c.args.o.now) c.args.t.now.by c.args.t.now.at c.args.at.now c.args.table.now c.requires.at c.requires.table c.requires.reached (c.places.place - 1) c.places.place (omega arith) (omega arith) (let w = c.requires.term.monomial.within in omega arith) c.places.product.items c.places.invariant.partial
-    c.index-at-place.result c.index-table-place.result c.exponent-e.result c.power-power.result.now c.index-at-place.is c.index-table-place.is c.exponent-e.ensures (omega arith) c.power-power.ensures.first c.power-power.ensures.next).kept
+    c.index-at-place.result c.index-table-place.result c.exponent-e.result c.power-power.result.now c.index-at-place.is c.index-table-place.is c.exponent-e.ensures (omega arith) c.power-power.ensures.first c.power-power.ensures.next).canonical
 
 pub multiply-requires-clause-small : goal.multiply-requires-clause-small
 multiply-requires-clause-small g c =
@@ -28,7 +28,7 @@ places-preserved-then-e-gt0 g c = record {
   within = omega arith;
   partial = place_multiplied (g.F.Field.ops c.args.f.now) (g.met.F.Field.laws c.args.f.now) (g.O.Order.order c.args.o.now) (g.met.O.Order.laws c.args.o.now) c.args.t.now.by c.args.t.now.at c.args.at.now c.args.table.now c.requires.at c.requires.table c.requires.reached (c.places.place - 1) c.places.place (omega arith) (omega arith) (let w = c.requires.term.monomial.within in omega arith) c.places.product.items c.places.invariant.partial
       c.index-at-place.result c.index-table-place.result c.exponent-e.result c.power-power.result.now c.index-at-place.is c.index-table-place.is c.exponent-e.ensures (omega arith) c.power-power.ensures.first c.power-power.ensures.next
-      c.in_ok-next.next.items c.in_ok-next.ensures.kept
+      c.in_ok-next.next.items c.in_ok-next.ensures.canonical
       (λ n. c.in_ok-next.ensures.product n ∙
       ap (λ x. coefficient (g.F.Field.ops c.args.f.now) x n) (ap (λ x. times (g.F.Field.ops c.args.f.now) x c.as_slice.result.now) c.terms.ensures ∙ ap (times (g.F.Field.ops c.args.f.now) c.power-power.result.now) c.as_slice.ensures.value));
 }

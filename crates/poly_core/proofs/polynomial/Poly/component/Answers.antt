@@ -9,8 +9,8 @@ pub terms_of_degree-requires : goal.terms_of_degree-requires
 terms_of_degree-requires g c =
     subst (All (IsMeasured (g.O.Order.order c.args.o.now))) (sym c.terms.ensures) (canonical_measured (g.F.Field.ops c.requires.0) (g.O.Order.order c.args.o.now) c.args.a.now c.requires.1)
 
-pub returns-clause-kept : goal.returns-clause-kept
-returns-clause-kept g c f h =
+pub returns-clause-canonical : goal.returns-clause-canonical
+returns-clause-canonical g c f h =
     subst (IsCanonical (g.F.Field.ops f) (g.O.Order.order c.args.o.now)) (sym (c.in_ok-terms.ensures ∙ ap (component (g.O.Order.order c.args.o.now) c.args.d) c.terms.ensures))
     (canonical_component (g.F.Field.ops f) (g.O.Order.order c.args.o.now) c.args.d c.args.a.now h)
 

@@ -10,11 +10,11 @@ use Rattle.poly_core.proofs.polynomial.Poly.is_homogeneous.Goals as goal
 
 pub degree-requires-clause-monomial : goal.degree-requires-clause-monomial
 degree-requires-clause-monomial g c =
-    (all_at (IsMeasured (g.O.Order.order c.args.o.now)) c.terms-t-items.result.now c.loop-t.t-index c.t-item.result (subst (All (IsMeasured (g.O.Order.order c.args.o.now))) (sym c.terms-t-items.ensures) (canonical_measured (g.F.Field.ops c.requires.kept.0) (g.O.Order.order c.args.o.now) c.args.a.now c.requires.kept.1)) (omega arith) c.t-item.is).monomial
+    (all_at (IsMeasured (g.O.Order.order c.args.o.now)) c.terms-t-items.result.now c.loop-t.t-index c.t-item.result (subst (All (IsMeasured (g.O.Order.order c.args.o.now))) (sym c.terms-t-items.ensures) (canonical_measured (g.F.Field.ops c.requires.canonical.0) (g.O.Order.order c.args.o.now) c.args.a.now c.requires.canonical.1)) (omega arith) c.t-item.is).monomial
 
 pub degree-requires-clause-small : goal.degree-requires-clause-small
 degree-requires-clause-small g c =
-    (all_at (IsMeasured (g.O.Order.order c.args.o.now)) c.terms-t-items.result.now c.loop-t.t-index c.t-item.result (subst (All (IsMeasured (g.O.Order.order c.args.o.now))) (sym c.terms-t-items.ensures) (canonical_measured (g.F.Field.ops c.requires.kept.0) (g.O.Order.order c.args.o.now) c.args.a.now c.requires.kept.1)) (omega arith) c.t-item.is).small
+    (all_at (IsMeasured (g.O.Order.order c.args.o.now)) c.terms-t-items.result.now c.loop-t.t-index c.t-item.result (subst (All (IsMeasured (g.O.Order.order c.args.o.now))) (sym c.terms-t-items.ensures) (canonical_measured (g.F.Field.ops c.requires.canonical.0) (g.O.Order.order c.args.o.now) c.args.a.now c.requires.canonical.1)) (omega arith) c.t-item.is).small
 
 pub returns-then-degree : goal.returns-then-degree
 returns-then-degree g c f h = (

@@ -14,8 +14,8 @@ pub scale_terms-requires-clause-values : goal.scale_terms-requires-clause-values
 scale_terms-requires-clause-values g c =
     subst (All (λ t. IsValue (g.F.Field.ops c.args.f.now) t.by)) (sym c.terms.ensures) (decreasing_values (g.F.Field.ops c.args.f.now) c.requires.0 c.args.a.now c.requires.1.decreasing)
 
-pub returns-clause-kept : goal.returns-clause-kept
-returns-clause-kept g c o h =
+pub returns-clause-canonical : goal.returns-clause-canonical
+returns-clause-canonical g c o h =
     subst (IsCanonical (g.F.Field.ops c.args.f.now) o) (sym (c.in_ok-terms.ensures ∙ ap (scaled (g.F.Field.ops c.args.f.now) (term_of [] c.in-Some-inv.inverse)) c.terms.ensures))
     (canonical_multiple (g.F.Field.ops c.args.f.now) (g.met.F.Field.laws c.args.f.now) o c.in-Some-inv.inverse c.args.a.now c.in-Some-inv.ensures.value
     (inverse_not_zero (g.F.Field.ops c.args.f.now) (g.met.F.Field.laws c.args.f.now) c.in-Some.first.now.by c.in-Some-inv.inverse c.in-Some-inv.ensures.some) h)

@@ -15,8 +15,8 @@ pub scale_terms-requires-clause-values : goal.scale_terms-requires-clause-values
 scale_terms-requires-clause-values g c =
     subst (All (λ t. IsValue (g.F.Field.ops c.args.f.now) t.by)) (sym c.terms.ensures) (decreasing_values (g.F.Field.ops c.args.f.now) c.requires.a.0 c.args.a.now c.requires.a.1.decreasing)
 
-pub returns-clause-kept : goal.returns-clause-kept
-returns-clause-kept g c o h =
+pub returns-clause-canonical : goal.returns-clause-canonical
+returns-clause-canonical g c o h =
     subst (IsCanonical (g.F.Field.ops c.args.f.now) o) (sym (c.in_ok-terms.ensures ∙ ap (scaled (g.F.Field.ops c.args.f.now) (term_of [] c.args.c)) c.terms.ensures))
     (canonical_multiple (g.F.Field.ops c.args.f.now) (g.met.F.Field.laws c.args.f.now) o c.args.c c.args.a.now c.requires.factor (λ z. told_unequal c.eq.result (g.F.Elem.PartialEq.eq c.args.c c.zero.result) c.if-eq.false c.eq.ensures ((g.met.F.Field.eq_is c.args.c c.zero.result).1 (z ∙ sym c.zero.ensures))) h)
 
