@@ -1,6 +1,7 @@
 -- Products of monomials, and the lists of quotients that are still to be divided.
 use Rattle.std.specs.Prelude.{◌≡◌, ◌≢◌, ℕ, ◌<◌, ◌≤◌, List, [], Contains, slice_get, Some, Vec}
 use Rattle.std.specs.declared.alloc.Global.{Global}
+use Rattle.monomial_order.specs.Limits.{exponent_max}
 use Rattle.monomial_order.specs.Monomial.{Exponents, IsMonomial}
 use Rattle.monomial_order.specs.MonomialOrder.{MonomialOrder}
 use Rattle.polynomials.specs.Subalgebra.{IsGenerated}
@@ -17,7 +18,7 @@ AreFactors O gs = (g : Exponents) → Contains gs g → IsFactor O g
 pub record IsDividend (O : MonomialOrder) (m : Exponents) : Type 0 where
   pub monomial : IsMonomial O.places m
   pub positive : 1 ≤ O.degree m
-  pub small : O.degree m ≤ 65535
+  pub small : O.degree m ≤ exponent_max
 
 -- k is in the list of the degree e
 abbrev pub IsPending : List (Vec Exponents Global) → ℕ → Exponents → Type 0

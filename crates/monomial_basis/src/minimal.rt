@@ -1,6 +1,7 @@
 //! The monomials of a list that the others do not generate.
 ghost use Rattle.std.specs.Prelude.{◌≡◌, ◌≤◌, Contains, MatchOption, IfSome, IfOk, OnOk, IsTrue, ◌↔◌};
 ghost use Rattle.std.specs.declared.cmp.Ordering.TheVariants.{Less};
+ghost use Rattle.monomial_order.specs.Limits.{exponent_max};
 ghost use Rattle.monomial_order.specs.MonomialOrder.{IsIncreasing};
 ghost use Rattle.monomial_order.specs.Monomial.{Exponents, IsMonomial};
 ghost use Rattle.polynomials.specs.Subalgebra.{IsGenerated};
@@ -19,7 +20,7 @@ pub fn minimal_generators<O: Order>(
     bound: u32,
 ) -> Result<Vec<Monomial>, Memory>
     requires factors { AreFactors (O.order o.now) monomials.now }
-    requires small { (m : Exponents) → Contains monomials.now m → (O.order o.now).degree m ≤ 65535 }
+    requires small { (m : Exponents) → Contains monomials.now m → (O.order o.now).degree m ≤ exponent_max }
     ensures increasing { IfOk result (λ s. IsIncreasing (O.order o.now) s.items) }
     ensures members { IfOk result (λ s. (m : Exponents) → Contains s.items m
         → Contains monomials.now m × ((O.order o.now).degree m ≤ bound)) }
@@ -42,9 +43,9 @@ pub fn minimal_generators<O: Order>(
 /// The least monomial of the list above m.
 fn least_above<'a, O: Order>(o: &O, monomials: &'a [Monomial], m: &Monomial) -> Option<&'a Monomial>
     requires factors { AreFactors (O.order o.now) monomials.now }
-    requires small { (k : Exponents) → Contains monomials.now k → (O.order o.now).degree k ≤ 65535 }
+    requires small { (k : Exponents) → Contains monomials.now k → (O.order o.now).degree k ≤ exponent_max }
     requires monomial { IsMonomial (O.order o.now).places m.now }
-    requires degree { (O.order o.now).degree m.now ≤ 65535 }
+    requires degree { (O.order o.now).degree m.now ≤ exponent_max }
     ensures { MatchOption result (HasNoneAbove (O.order o.now) monomials.now m.now)
         (λ k. IsLeastAbove (O.order o.now) monomials.now m.now k.now) }
 {
@@ -60,9 +61,9 @@ fn least_above<'a, O: Order>(o: &O, monomials: &'a [Monomial], m: &Monomial) -> 
 /// Whether the monomial is less than another, or there is no other.
 fn is_below<O: Order>(o: &O, k: &Monomial, other: Option<&Monomial>) -> bool
     requires monomial { IsMonomial (O.order o.now).places k.now }
-    requires degree { (O.order o.now).degree k.now ≤ 65535 }
+    requires degree { (O.order o.now).degree k.now ≤ exponent_max }
     requires other { IfSome other (λ n. IsMonomial (O.order o.now).places n.now
-        × ((O.order o.now).degree n.now ≤ 65535)) }
+        × ((O.order o.now).degree n.now ≤ exponent_max)) }
     ensures { MatchOption other.entry (IsTrue result)
         (λ n. IsTrue result ↔ ((O.order o.now).compare k.now n.now ≡ Less)) }
 {
@@ -81,7 +82,7 @@ fn add_unless_generated<O: Order>(
 ) -> Result<(), Memory>
     requires factors { AreFactors (O.order o.now) list.old.items }
     requires monomial { IsMonomial (O.order o.now).places m.now }
-    requires degree { (O.order o.now).degree m.now ≤ 65535 }
+    requires degree { (O.order o.now).degree m.now ≤ exponent_max }
     ensures { OnOk result (AddsUnlessGenerated list.old.items list.new.items m.now) }
 {
     if is_product(alloc, o, list.as_slice(), m)? {

@@ -1,5 +1,6 @@
 //! Whether a monomial is a product of others.
 ghost use Rattle.std.specs.Prelude.{◌≡◌, ◌≢◌, ℕ, ◌+◌, ◌<◌, ◌≤◌, ◌↔◌, ◌⊎◌, [], length, false, Contains, IsTrue, IfOk, OnOk, IfSome, IsNone};
+ghost use Rattle.monomial_order.specs.Limits.{exponent_max};
 ghost use Rattle.monomial_order.specs.Monomial.{Exponents, exponent, product, Divides, IsMonomial, IsTrimmed};
 ghost use Rattle.polynomials.specs.Subalgebra.{IsGenerated};
 ghost use Rattle.monomial_basis.specs.Products.{AreFactors, IsDividend, IsPending, IsQuotient, SomePending};
@@ -18,7 +19,7 @@ pub fn is_product<O: Order>(
 ) -> Result<bool, Memory>
     requires factors { AreFactors (O.order o.now) factors.now }
     requires monomial { IsMonomial (O.order o.now).places m.now }
-    requires small { (O.order o.now).degree m.now ≤ 65535 }
+    requires small { (O.order o.now).degree m.now ≤ exponent_max }
     ensures { IfOk result (λ b. IsTrue b ↔ IsGenerated factors.now m.now) }
 {
     if m.places() == 0 {
@@ -57,7 +58,7 @@ fn divide_pending<O: Order>(
 ) -> Result<bool, Memory>
     requires factors { AreFactors (O.order o.now) factors.now }
     requires room { degree < length pending.old.items }
-    requires small { (1 ≤ degree) × (degree ≤ 65535) }
+    requires small { (1 ≤ degree) × (degree ≤ exponent_max) }
     requires monomials { (m : Exponents) → IsPending pending.old.items degree m
         → IsMonomial (O.order o.now).places m × ((O.order o.now).degree m ≡ degree) }
     ensures yes { IfOk result (λ b. IsTrue b

@@ -2,6 +2,7 @@
 use Rattle.std.specs.Prelude.{◌≢◌, ℕ, ◌+◌, ◌≤◌, List, [], ◌∷◌, ◌++◌, length, codes}
 use Rattle.std.specs.Fmt.{decimal}
 use Rattle.monomial_order.specs.declared.terms.Term.{Term}
+use Rattle.monomial_order.specs.Limits.{exponent_max}
 use Rattle.monomial_order.specs.Monomial.{IsMonomial}
 use Rattle.poly_core.specs.declared.place_names.Names.{Names}
 use Rattle.polynomials.specs.Polynomial.{Polynomial, lead_monomial}
@@ -32,4 +33,4 @@ module _ {E : Type 0} (P : Presented E) (names : Names) where
     pub named : AreNamed names s
     pub nonzero : s ≢ []
     pub monomial : IsMonomial P.order.places (lead_monomial s)
-    pub small : P.order.degree (lead_monomial s) ≤ 65535
+    pub small : P.order.degree (lead_monomial s) ≤ exponent_max
