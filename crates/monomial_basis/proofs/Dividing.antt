@@ -28,7 +28,7 @@ any_default [] i x d l e = absurd (omega arith)
 any_default (y ∷ xs) zero x d l e = e
 any_default (y ∷ xs) (suc i) x d l e = any_default xs i x d (omega arith) e
 
--- what is found by the factors before j with U is found by those before j + 1, where it is by the factor at j
+-- what is found by the factors before j with U is found by those before j + 1, if it is found by the factor at j
 pub found_more : (gs : List (List ℕ)) (j : ℕ) (g m : List ℕ) (P Q U : List ℕ → Type 0) → j < length gs → g ≡ get_or gs j g →
     ((r : List ℕ) → P r → Q r) → ((r : List ℕ) → IsTrimmed r → U g → product g r ≡ m → Q r) →
     ((i : ℕ) (r : List ℕ) → i < j → IsTrimmed r → U (get_or gs i []) → product (get_or gs i []) r ≡ m → P r) →

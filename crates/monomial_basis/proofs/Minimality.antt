@@ -64,7 +64,7 @@ all_in_end M x (f ∷ fs) h =
     (λ e. inr (subst (λ y. Contains (y ∷ fs) x) e (contains_here x fs)))
     (contains_end M x f h.0)
 
--- a product of members is a member only where it is one of the factors
+-- a product of members is a member only if it is one of the factors
 abbrev pub IsIrreducible : List (List ℕ) → Type 0
 IsIrreducible ks = (fs : List (List ℕ)) → AllIn ks fs → Contains ks (product_of fs) → Contains fs (product_of fs)
 

@@ -56,7 +56,7 @@ module _ (lists : List (Vec (List ℕ) Global)) (i : ℕ) (before after : Vec (L
       (λ other. inl (w.0, sym (slice_get-set_other lists i e after other) ∙ w.1, w.2))
       (same_or_not e i)
 
-  -- where nothing is left
+  -- if nothing is left
   pub taken_was : (k : List ℕ) → Contains before.items k → IsPending lists i k
   taken_was k h = (before, was, h)
 

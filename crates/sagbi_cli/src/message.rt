@@ -1,4 +1,4 @@
-//! The line that tells how a run ends.
+//! The line that a run puts on `note`.
 ghost use Rattle.std.specs.Prelude.{◌≡◌, ◌≤◌, []};
 ghost use Rattle.sagbi_cli.specs.Message.{line_of, kind_name, named_line};
 ghost use Rattle.sagbi_cli.specs.SinkChange.{change, Takes};
