@@ -7,8 +7,8 @@ use Rattle.word_field.specs.declared.WordField.{WordField}
 use Rattle.monomial_order.specs.declared.weight_order.WeightOrder.{WeightOrder}
 use Rattle.poly_core.specs.Presentation.{IsSame}
 use Rattle.poly_core.specs.declared.presentations.Presentation.{Presentation}
-use Rattle.polynomial_text.specs.declared.text_kind.TextKind.{TextKind}
-use Rattle.polynomial_text.specs.Results.{Fault}
+use Rattle.presentation_text.specs.declared.text_kind.TextKind.{TextKind}
+use Rattle.presentation_text.specs.Kinds.{Fault}
 use Rattle.presentation_text.specs.Reading.{reading}
 use Rattle.presentation_text.specs.Meaning.{text_max, IsRead}
 use Rattle.shelf_io.specs.Shelf.{Files}

@@ -1,6 +1,6 @@
 //! The line that a run puts on `note`.
-ghost use Rattle.std.specs.Prelude.{◌≡◌, ◌≤◌, []};
-ghost use Rattle.sagbi_cli.specs.Message.{line_of, kind_name, named_line};
+ghost use Rattle.std.specs.Prelude.{◌≤◌, []};
+ghost use Rattle.sagbi_cli.specs.Message.{line_of, named_line};
 ghost use Rattle.sagbi_cli.specs.SinkChange.{change, Takes};
 
 use crate::Outcome;
@@ -8,29 +8,6 @@ use crate::put::put_all;
 use itoa::Buffer;
 use presentation_text::TextKind;
 use shelf_io::{Sink, SinkFailed};
-
-fn kind_name(kind: TextKind) -> &'static [u8]
-    ensures { result.now ≡ kind_name kind }
-{
-    match kind {
-        TextKind::Header => b"Header",
-        TextKind::FieldUnknown => b"FieldUnknown",
-        TextKind::VarsLine => b"VarsLine",
-        TextKind::DuplicateName => b"DuplicateName",
-        TextKind::WeightsLine => b"WeightsLine",
-        TextKind::OrderLine => b"OrderLine",
-        TextKind::CountLine => b"CountLine",
-        TextKind::PolySyntax => b"PolySyntax",
-        TextKind::UnknownName => b"UnknownName",
-        TextKind::NumberTooLong => b"NumberTooLong",
-        TextKind::DegreeTooLarge => b"DegreeTooLarge",
-        TextKind::NotHomogeneous => b"NotHomogeneous",
-        TextKind::UnitIdeal => b"UnitIdeal",
-        TextKind::ConstantGenerator => b"ConstantGenerator",
-        TextKind::Truncated => b"Truncated",
-        TextKind::TextAfterEnd => b"TextAfterEnd",
-    }
-}
 
 /// Puts the line of the outcome. `name` is that of the presentation.
 pub fn put_line<N: Sink>(note: &mut N, outcome: Outcome, name: &[u8]) -> Result<(), SinkFailed>
@@ -67,5 +44,5 @@ fn put_fault<N: Sink>(note: &mut N, kind: TextKind, line: u32) -> Result<(), Sin
     let mut digits = Buffer::new();
     put_all(note, b"error: presentation line ")?;
     put_all(note, digits.format(line).as_bytes())?;
-    put_named(note, b": ", kind_name(kind))
+    put_named(note, b": ", kind.name().as_bytes())
 }

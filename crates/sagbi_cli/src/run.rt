@@ -11,12 +11,10 @@ use crate::answer::answer;
 use crate::command::command;
 use crate::message::put_line;
 use crate::{Outcome, WordList};
+use presentation_text::TEXT_MAX;
 use presentation_text::laws::one_reading;
 use shelf_io::{LoadFault, Loaded, Shelf, Sink};
 use std::alloc::Global;
-
-/// The longest text that is read.
-const TEXT_MAX: u64 = 16777216;
 
 /// Loads the presentation of that name and answers it.
 fn complete<H: Shelf, K: Sink>(

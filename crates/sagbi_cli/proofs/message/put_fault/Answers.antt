@@ -2,7 +2,8 @@ use Rattle.std.proofs.Common.{◌≡◌, ◌++◌, arith, Err, ◌∙◌}
 use Rattle.std.specs.Prelude.{codes}
 use Rattle.std.specs.Fmt.{decimal}
 use Rattle.std.proofs.lemmas.Result.{err_from_is_err_and}
-use Rattle.sagbi_cli.specs.Message.{kind_name, named_line}
+use Rattle.presentation_text.specs.Kinds.{kind_name}
+use Rattle.sagbi_cli.specs.Message.{named_line}
 use Rattle.sagbi_cli.proofs.Putting.{takes-after, takes-before}
 use Rattle.sagbi_cli.proofs.message.put_fault.Goals as goal
 
@@ -23,9 +24,10 @@ returns-in_err-put_all-2-clause-takes g c =
 pub returns-clause-takes : goal.returns-clause-takes
 returns-clause-takes g c =
     let digits : c.as_bytes.result.now ≡ decimal c.args.line = c.as_bytes.ensures.value ∙ c.format.ensures.text in
-    rw (← digits, ← c.kind_name.ensures) (takes-after g.N.Sink.taken g.N.Sink.faults c.put_named.result (codes "error: presentation line ")
-    (c.as_bytes.result.now ++ named_line (codes ": ") c.kind_name.result.now) _ _ _ c.put_all.ensures.counted
+    let named : c.as_bytes-2.result.now ≡ kind_name c.args.kind = c.as_bytes-2.ensures.value ∙ c.name.ensures in
+    rw (← digits, ← named) (takes-after g.N.Sink.taken g.N.Sink.faults c.put_named.result (codes "error: presentation line ")
+    (c.as_bytes.result.now ++ named_line (codes ": ") c.as_bytes-2.result.now) _ _ _ c.put_all.ensures.counted
     (omega (arith, c.put_all-2.ensures.counted, c.put_named.ensures.counted))
     c.in_ok-put_all.ensures.takes
-    (takes-after g.N.Sink.taken g.N.Sink.faults c.put_named.result c.as_bytes.result.now (named_line (codes ": ") c.kind_name.result.now) _ _ _
+    (takes-after g.N.Sink.taken g.N.Sink.faults c.put_named.result c.as_bytes.result.now (named_line (codes ": ") c.as_bytes-2.result.now) _ _ _
     c.put_all-2.ensures.counted c.put_named.ensures.counted c.in_ok-put_all-2.ensures.takes c.put_named.ensures.takes))
