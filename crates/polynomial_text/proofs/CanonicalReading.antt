@@ -35,14 +35,14 @@ chosen false r g y e = absurd cc
 same_ok : {A G : Type 0} (x y : A) → ◌≡◌ {A = Result A G} (Ok x) (Ok y) → x ≡ y
 same_ok x y e = cc
 
--- what each step keeps, holds in the end
+-- what no step changes holds in the end
 module _ {S X G : Type 0} (step : S → X → Result S G) (P : S → Type 0) where
   along_keeps : ((s : S) (x : X) (u : S) → P s → step s x ≡ Ok u → P u) → (s : S) (xs : List X) (t : S) → P s → along step s xs ≡ Ok t → P t
   unfolding along
   along_keeps f s [] t p e = subst P (same_ok s t e) p
   along_keeps f s (x ∷ xs) t p e = let n = step_ok (step s x) (λ u. along step u xs) t e in along_keeps f n.0 xs t (f s x n.0 p n.1) n.2
 
-  -- also where each step makes it so
+  -- also if each step makes it so
   along_makes : ((s : S) (x : X) (u : S) → step s x ≡ Ok u → P u) → (s : S) (xs : List X) (t : S) → 1 ≤ length xs → along step s xs ≡ Ok t → P t
   unfolding along
   along_makes f s [] t some e = absurd (omega arith)

@@ -15,12 +15,12 @@ use Rattle.polynomial_text.specs.Results.{◌>>=◌, each}
 use Rattle.polynomial_text.specs.PolyLine.{term_at, terms_of, signed_parts, behind_sign, IsPolyOf}
 use Rattle.polynomial_text.specs.LineReading.{AreCanonical, terms_together}
 
--- how many bytes are left, and one more where some part is
+-- how many bytes are left, and one more if there is a part
 abbrev pub signed_len : Option (Bool × List ℕ) → ℕ
 signed_len None = 0
 signed_len (Some x) = suc (length x.1)
 
--- terms that stand before what is read
+-- terms before what is read
 abbrev pub with_front : {A : Type 0} → List A → Result (List A) LineKind → Result (List A) LineKind
 with_front front read = read >>= λ more. Ok (front ++ more)
 

@@ -6,7 +6,7 @@ use Rattle.polynomial_text.specs.declared.line_fault.LineFault.TheVariants as fa
 use Rattle.polynomial_text.specs.Canonical.{IsLineFaultOf}
 use Rattle.polynomial_text.specs.Results.{along}
 
--- how many bytes are left, and one more where some part is
+-- how many bytes are left, and one more if there is a part
 abbrev pub left_len : Option (List ℕ) → ℕ
 left_len None = 0
 left_len (Some bytes) = suc (length bytes)

@@ -1,4 +1,4 @@
--- Sums of polynomials that stand in a list.
+-- Sums of polynomials of a list.
 use Rattle.std.proofs.Common.{◌≡◌, ◌≢◌, Bool, true, false, cond, List, [], ◌∷◌, ◌++◌, Result, Ok, Err, refl, sym, ap, subst, ◌∙◌, append_assoc, ⊎_elim}
 use Rattle.std.specs.Result.{OnOk}
 use Rattle.std.proofs.lemmas.Grind.{flat_map-append}

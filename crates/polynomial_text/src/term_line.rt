@@ -6,7 +6,8 @@ ghost use Rattle.polynomials.specs.Polynomial.{term_times};
 ghost use Rattle.polynomial_text.specs.Canonical.{AreDifferent};
 ghost use Rattle.polynomial_text.specs.Degrees.{degree_max};
 ghost use Rattle.polynomial_text.specs.PolyLine.{power, with_factor, term_at};
-ghost use Rattle.polynomial_text.specs.LineReading.{Gives, factor_term, bounded, low, IsFactor, IsSmallMonomial, IsSmallTerm};
+ghost use Rattle.polynomial_text.specs.LineReading.{Gives, factor_term, bounded, low};
+ghost use Rattle.polynomial_text.specs.LineReading.{IsFactor, IsSmallMonomial, IsSmallTerm};
 
 use crate::byte_class::{ByteClass, behind_blanks};
 use crate::factor::{Factor, factor_at};

@@ -1,23 +1,21 @@
 -- What is known of the names and weights that were read.
-use Rattle.std.proofs.Common.{◌≡◌, ℕ, zero, suc, Bool, true, false, cond, eqb, leb, List, [], ◌∷◌, length, Option, Some, None, Ok, Err, refl, sym, ap, subst, ◌∙◌}
-use Rattle.std.specs.Prelude.{codes}
+use Rattle.std.proofs.Common.{◌≡◌, ℕ, Bool, true, false, cond, leb, List, [], ◌∷◌, length, Option, Some, None, Ok, Err, refl, sym, subst, ◌∙◌}
 use Rattle.std.specs.List.{list_all, AllByRecursion}
 use Rattle.std.proofs.lemmas.List.Elements.{All-from_recursion}
 use Rattle.std.proofs.lemmas.Bool.{and_parts, leb-true}
 use Rattle.poly_core.specs.Names.{IsName, IsNameList, has_name_form}
-use Rattle.presentation_text.specs.declared.text_kind.TextKind.TheVariants.{DuplicateName, VarsLine, WeightsLine}
+use Rattle.presentation_text.specs.declared.text_kind.TextKind.TheVariants.{DuplicateName, VarsLine}
 use Rattle.presentation_text.specs.Lines.{tokens}
-use Rattle.presentation_text.specs.Heading.{behind_key, is_name, are_different, names_of, vars_line, number_first, numbers_first, weight_max, weights_of, weights_line}
+use Rattle.presentation_text.specs.Heading.{name_max, is_name, are_different, names_of, vars_line}
 use Rattle.presentation_text.specs.Reading.{Line, next}
 use Rattle.presentation_text.proofs.NameTokens.{HaveForm, names_form, are_distinct}
 use Rattle.presentation_text.proofs.NextLines.{next_was}
-use Rattle.presentation_text.proofs.TakenTokens.{bind_some, or_fault_ok}
 
 each_name : (names : List (List ℕ)) → list_all is_name names ≡ true → AllByRecursion IsName names
 each_name [] e = tt
 each_name (n ∷ names) e =
     let h = and_parts (is_name n) (list_all is_name names) e in
-    let k = and_parts (has_name_form n) (leb (length n) 16) h.0 in
+    let k = and_parts (has_name_form n) (leb (length n) name_max) h.0 in
     (record { form = k.0; short = leb-true _ _ k.1 }, each_name names h.1)
 
 name_list : (names : List (List ℕ)) → HaveForm names → are_different names ≡ true → IsNameList (length names) names
@@ -45,29 +43,3 @@ vars_fit line names e = judged (names_of (tokens line)) refl e
 
 pub vars_read : (last : ℕ) (ls : List Line) (x : List (List ℕ) × List Line) → next last vars_line ls ≡ Ok x → IsNameList (length x.0) x.0
 vars_read last ls x e = let w = next_was vars_line last ls x e in vars_fit w.0 x.0 w.1
-
--- so many numbers are taken
-as_many : (low high n : ℕ) (line : List (List ℕ)) (x : List ℕ × List (List ℕ)) → numbers_first low high n line ≡ Some x → length x.0 ≡ n
-unfolding numbers_first
-as_many low high zero line x e = let same : ([], line) ≡ x = cc in ap (λ (y : List ℕ × List (List ℕ)). length y.0) (sym same)
-as_many low high (suc n) line x e =
-    let first = bind_some (number_first low high line) _ x e in
-    let others = bind_some (numbers_first low high n first.0.1) _ x first.2 in
-    let same : (first.0.0 ∷ others.0.0, others.0.1) ≡ x = cc in
-    ap (λ (y : List ℕ × List (List ℕ)). length y.0) (sym same) ∙ ap suc (as_many low high n first.0.1 others.0 others.1)
-
-weights_fit : (n : ℕ) (line : List (List ℕ)) (ws : List ℕ) → weights_of n line ≡ Some ws → length ws ≡ n
-unfolding weights_of
-weights_fit n line ws e =
-    let rest = bind_some (behind_key (codes "weights") line) _ ws e in
-    let taken = bind_some (numbers_first 1 weight_max n rest.0) _ ws rest.2 in
-    chosen (eqb (length taken.0.1) 0) taken.0.0 (as_many 1 weight_max n rest.0 taken.0 taken.1) taken.2
-  where
-    chosen : (b : Bool) (ns : List ℕ) → length ns ≡ n → cond b (Some ns) None ≡ Some ws → length ws ≡ n
-    chosen true ns many h = let same : ns ≡ ws = cc in rw (← same) many
-    chosen false ns many h = absurd cc
-
-pub weights_read : (n last : ℕ) (ls : List Line) (x : List ℕ × List Line) → next last (weights_line n) ls ≡ Ok x → length x.0 ≡ n
-weights_read n last ls x e =
-    let w = next_was (weights_line n) last ls x e in
-    weights_fit n (tokens w.0) x.0 (or_fault_ok WeightsLine (weights_of n (tokens w.0)) x.0 w.1)

@@ -18,6 +18,7 @@ pub mod TextNumbers
 pub mod TextPolys
 pub mod TextRead
 pub mod TextTokens
+pub mod Weighing
 pub mod WholeTexts
 pub mod WrittenPieces
 pub mod WrittenText

@@ -1,5 +1,5 @@
 -- Names in the line of names.
-use Rattle.std.proofs.Common.{◌≡◌, ℕ, zero, suc, ◌+◌, ◌≤◌, Bool, true, false, cond, ltb, leb, not, ◌&&◌, ◌||◌, List, [], ◌∷◌, ◌++◌, length, Result, Ok, Err, Option, Some, None, refl, sym, ap, subst, ◌∙◌, arith}
+use Rattle.std.proofs.Common.{◌≡◌, ℕ, zero, suc, ◌+◌, ◌≤◌, Bool, true, false, cond, ltb, leb, not, ◌&&◌, List, [], ◌∷◌, ◌++◌, length, Result, Ok, Err, Option, Some, None, refl, sym, ap, subst, ◌∙◌, arith}
 use Rattle.std.specs.Prelude.{Contains}
 use Rattle.std.specs.List.{AllByRecursion, IsDistinct, list_any, list_all}
 use Rattle.std.specs.Str.{bytes_eq, IsUtf8}
@@ -42,17 +42,14 @@ form_over n tokens over few = rw over (grind (arith, nat_tests))
 
 -- ---- different names
 
-or_true : (a b : Bool) → b ≡ true → (a || b) ≡ true
-or_true a b h = rw h (or-true a)
-
 contains_any : (names rest : List (List ℕ)) (name : List ℕ) → Contains names name → list_any (bytes_eq name) (names ++ rest) ≡ true
 contains_any [] rest name (k, lt, e) = absurd (omega arith)
 contains_any (n ∷ names) rest name (zero, lt, e) = let same : bytes_eq name n ≡ true = (bytes_eq-Decides name n).1 (sym e) in rw same refl
-contains_any (n ∷ names) rest name (suc k, lt, e) = or_true (bytes_eq name n) (list_any (bytes_eq name) (names ++ rest)) (contains_any names rest name (k, omega arith, e))
+contains_any (n ∷ names) rest name (suc k, lt, e) = rw (contains_any names rest name (k, omega arith, e)) (or-true (bytes_eq name n))
 
 has_again : (n name : List ℕ) (names rest : List (List ℕ)) → bytes_eq n name ≡ true → list_any (bytes_eq n) (names ++ name ∷ rest) ≡ true
 has_again n name [] rest e = rw e refl
-has_again n name (m ∷ names) rest e = or_true (bytes_eq n m) (list_any (bytes_eq n) (names ++ name ∷ rest)) (has_again n name names rest e)
+has_again n name (m ∷ names) rest e = rw (has_again n name names rest e) (or-true (bytes_eq n m))
 
 -- a name behind the same name
 pub not_different : (names rest : List (List ℕ)) (name : List ℕ) → Contains names name → are_different (names ++ name ∷ rest) ≡ false

@@ -1,4 +1,4 @@
--- A text presents one presentation at most, and has a fault only where it presents none.
+-- A text presents one presentation at most, and has a fault only if it presents none.
 use Rattle.std.proofs.Common.{◌≡◌, ℕ, true, List, [], ◌∷◌, map, Result, Ok, Err, refl, sym, ap, subst, ◌∙◌}
 use Rattle.std.proofs.Math.Bool.{Bool-set}
 use Rattle.word_field.specs.Field.{FieldOps, IsField}

@@ -1,7 +1,9 @@
 -- Taking tokens one by one gives what the definition of a line says.
-use Rattle.std.proofs.Common.{◌≡◌, ℕ, suc, ◌+◌, ◌-◌, ◌<◌, ◌≤◌, true, false, eqb, List, [], ◌∷◌, ◌++◌, length, Option, Some, None, Ok, Err, refl, sym, ap, ◌∙◌, append_assoc, arith}
+use Rattle.std.proofs.Common.{◌≡◌, ℕ, suc, ◌+◌, ◌-◌, ◌<◌, ◌≤◌, true, false, eqb, List, [], ◌∷◌, ◌++◌, length, Option, Some, None, Ok, Err, refl, sym, ap, ◌∙◌, append_assoc, arith, leb, ◌&&◌, subst, Bool, cond}
+use Rattle.std.proofs.lemmas.Bool.{and_parts, leb-true}
 use Rattle.std.proofs.lemmas.List.{append-nil}
 use Rattle.monomial_order.specs.declared.tie_break.Tie.{Tie}
+use Rattle.presentation_text.specs.Numbers.{number_of, number_within}
 use Rattle.presentation_text.specs.Heading.{◌>>=◌, number_first, numbers_first, row_at, rows_of, tie_alone}
 use Rattle.polynomial_text.specs.Canonical.{IsLineFaultOf}
 use Rattle.presentation_text.specs.Kinds.{or_fault}
@@ -34,6 +36,21 @@ or_fault_kind e None k h = cc
 or_fault_kind e (Some y) k h = absurd cc
 
 -- ---- numbers
+
+pub number_between : (low high : ℕ) (token : List ℕ) (n : ℕ) → number_within low high token ≡ Some n → (low ≤ n) × (n ≤ high)
+unfolding number_within
+number_between low high token n e = by (number_of token) refl
+  where
+    small : (k : ℕ) (b : Bool) → (leb low k && leb k high) ≡ b → cond b (Some k) None ≡ Some n → (low ≤ n) × (n ≤ high)
+    small k false t h = absurd cc
+    small k true t h =
+        let same : k ≡ n = cc in
+        let parts = and_parts (leb low k) (leb k high) t in
+        subst (λ (i : ℕ). (low ≤ i) × (i ≤ high)) same (leb-true _ _ parts.0, leb-true _ _ parts.1)
+
+    by : (r : Option ℕ) → number_of token ≡ r → (low ≤ n) × (n ≤ high)
+    by None is = let none : number_within low high token ≡ None = rw is refl in absurd cc
+    by (Some k) is = let one : number_within low high token ≡ cond (leb low k && leb k high) (Some k) None = rw is refl in small k (leb low k && leb k high) refl (sym one ∙ e)
 
 module _ (low high : ℕ) where
   pub numbers_next : (front : List ℕ) (count i : ℕ) (line rest : List (List ℕ)) (n : ℕ) (total : Option (List ℕ × List (List ℕ))) → i < count → number_first low high line ≡ Some (n, rest)

@@ -1,4 +1,4 @@
--- Lines that stand one after another in a text.
+-- Lines one after another in a text.
 use Rattle.std.proofs.Common.{◌≡◌, ℕ, suc, false, eqb, List, [], ◌∷◌, ◌++◌, Result, Ok, refl}
 use Rattle.std.specs.List.{AllByRecursion}
 use Rattle.presentation_text.specs.declared.text_kind.TextKind.{TextKind}

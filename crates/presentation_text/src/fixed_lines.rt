@@ -9,7 +9,8 @@ ghost use Rattle.poly_core.specs.Names.{has_name_form};
 ghost use Rattle.polynomial_text.specs.Canonical.{IsLineFaultOf};
 ghost use Rattle.polynomial_text.specs.LineReading.{Gives};
 ghost use Rattle.presentation_text.specs.Heading.{header, size, is_name, names_of, are_different, behind_key};
-ghost use Rattle.presentation_text.specs.Heading.{number_first, numbers_first, row_at, rows_max, tie_of, tie_alone, rows_of, count_of, closing};
+ghost use Rattle.presentation_text.specs.Heading.{number_first, numbers_first, row_at, rows_max, rows_of};
+ghost use Rattle.presentation_text.specs.Heading.{tie_of, tie_alone, count_of, closing};
 ghost use Rattle.presentation_text.specs.Heading.{header_line, field_line, vars_line, weights_line, order_line};
 ghost use Rattle.presentation_text.specs.Heading.{count_line, closing_line};
 ghost use Rattle.presentation_text.specs.Kinds.{or_fault};
@@ -281,7 +282,8 @@ fn tie_alone(tokens: &mut Tokens) -> Option<Tie>
 
 /// Takes rows, at most `ROWS_MAX`, up to the tie.
 fn rows(alloc: Global, tokens: &mut Tokens, count: usize) -> Result<Vec<Row>, LineFault<TextKind>>
-    ensures read { IfOk result (λ rows. rows_of count rows_max tokens.old ≡ with_front rows.items (tie_alone tokens.new)) }
+    ensures read { IfOk result
+        (λ rows. rows_of count rows_max tokens.old ≡ with_front rows.items (tie_alone tokens.new)) }
     ensures fault { IfErr result (IsLineFaultOf (or_fault TextKind.OrderLine (rows_of count rows_max tokens.old))) }
 {
     let mut rows = Vec::new(alloc);

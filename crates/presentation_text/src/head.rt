@@ -1,5 +1,6 @@
 //! The lines of a presentation up to its order.
 ghost use Rattle.std.specs.Prelude.{◌≡◌, [], length, IfOk};
+ghost use Rattle.monomial_order.specs.Faults.{IsWeighing};
 ghost use Rattle.poly_core.specs.Names.{AreNames};
 ghost use Rattle.presentation_text.specs.Giving.{Gives, head_of};
 ghost use Rattle.presentation_text.specs.Heading.{header_line, field_line, vars_line, weights_line, order_line};
@@ -8,7 +9,7 @@ ghost use Rattle.presentation_text.specs.Reading.{next, head};
 use crate::fixed_lines::{field_line, header_line, order_line, vars_line, weights_line};
 use crate::lines::{Lines, located};
 use crate::text_fault::TextFault;
-use monomial_order::{Memory, Row, Tie, WeightOrder};
+use monomial_order::{Memory, OrderFault, Row, Tie, WeightOrder};
 use poly_core::{NameTable, Names};
 use std::alloc::Global;
 use word_field::WordField;
@@ -68,20 +69,24 @@ fn rows(alloc: Global, count: usize, lines: &mut Lines) -> Result<(Vec<Row>, Tie
     located(line.number, order_line(alloc, count, line.bytes))
 }
 
-/// The order with these weights and rows. Those that were read have no fault: only memory can run out.
+/// The order with these weights and rows.
 fn weight_order(
     alloc: Global,
     weights: &[u32],
     rows: &[Row],
     tie: Tie,
 ) -> Result<WeightOrder, Memory>
+    requires { IsWeighing weights.now rows.now }
     ensures weights { IfOk result (λ o. o.weights.items ≡ weights.now) }
     ensures rows { IfOk result (λ o. o.rows.items ≡ rows.now) }
     ensures tie { IfOk result (λ o. o.tie ≡ tie) }
 {
     match WeightOrder::new(alloc, weights, rows, tie) {
         Ok(order) => Ok(order),
-        Err(_) => Err(Memory),
+        Err(fault) => match fault {
+            OrderFault::Memory => Err(Memory),
+            _ => unreachable!(),
+        },
     }
 }
 

@@ -18,7 +18,8 @@ use word_field::WordField;
 /// The canonical text of a presentation presents it.
 pub fn text_is_read()
     ensures { (p : Presentation WordField WeightOrder ℕ) (text : List ℕ) →
-        IsValid (λ f. residues f.modulus) weight_order_of p → IsTextOf (λ f. residues f.modulus) p text → IsRead text p }
+        IsValid (λ f. residues f.modulus) weight_order_of p → IsTextOf (λ f. residues f.modulus) p text →
+        IsRead text p }
 {}
 
 /// A text presents one presentation at most.

@@ -73,7 +73,8 @@ impl<'a> Lines<'a> {
     pub fn needed_line(&mut self) -> Result<Line<'a>, TextFault>
         ensures missing { self.new.missing ≡ self.old.missing }
         ensures line { IfOk result (λ line. self.old.left ≡ (line.number, line.bytes.now) ∷ self.new.left) }
-        ensures none { IfErr result (λ e. (self.old.left ≡ []) × (e ≡ TextFault.At TextKind.Truncated self.old.missing)) }
+        ensures none { IfErr result
+            (λ e. (self.old.left ≡ []) × (e ≡ TextFault.At TextKind.Truncated self.old.missing)) }
     {
         match self.next_line() {
             Ok(line) => Ok(line),

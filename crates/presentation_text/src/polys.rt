@@ -72,7 +72,8 @@ fn next_poly(
     requires { AreNames (length h.now.order.weights.items) h.now.names }
     ensures missing { lines.new.missing ≡ lines.old.missing }
     ensures read { IfOk result (IsSumIn (field_in h.now) (order_in h.now)
-        (λ sum. next lines.old.missing (poly_line (head_of h.now) constant) lines.old.left ≡ Ok (sum, lines.new.left))) }
+        (λ sum. next lines.old.missing (poly_line (head_of h.now) constant) lines.old.left
+        ≡ Ok (sum, lines.new.left))) }
     ensures fault { IfErr result
         (IsFaultOf (next lines.old.missing (poly_line (head_of h.now) constant) lines.old.left)) }
 {
@@ -92,7 +93,8 @@ fn several(
     requires few { count ≤ count_max }
     ensures missing { lines.new.missing ≡ lines.old.missing }
     ensures read { IfOk result (λ v. AreSumsIn (field_in h.now) (order_in h.now)
-        (λ sums. several lines.old.missing (poly_line (head_of h.now) constant) count lines.old.left ≡ Ok (sums, lines.new.left)) v.items) }
+        (λ sums. several lines.old.missing (poly_line (head_of h.now) constant) count lines.old.left
+        ≡ Ok (sums, lines.new.left)) v.items) }
     ensures fault { IfErr result
         (IsFaultOf (several lines.old.missing (poly_line (head_of h.now) constant) count lines.old.left)) }
 {
@@ -107,7 +109,8 @@ fn several(
 #[tactic(auto, unfolding(crate::specs::Reading::next, crate::specs::Reading::at_line))]
 fn count(key: &[u8], lines: &mut Lines) -> Result<u32, TextFault>
     ensures missing { lines.new.missing ≡ lines.old.missing }
-    ensures read { Gives (λ n. (n, lines.new.left)) result (next lines.old.missing (count_line key.now) lines.old.left) }
+    ensures read { Gives (λ n. (n, lines.new.left)) result
+        (next lines.old.missing (count_line key.now) lines.old.left) }
 {
     let line = lines.needed_line()?;
     located(line.number, count_line(key, line.bytes))
@@ -124,7 +127,8 @@ pub(crate) fn counted(
     requires { AreNames (length h.now.order.weights.items) h.now.names }
     ensures missing { lines.new.missing ≡ lines.old.missing }
     ensures read { IfOk result (λ v. AreSumsIn (field_in h.now) (order_in h.now)
-        (λ sums. counted lines.old.missing (head_of h.now) key.now constant lines.old.left ≡ Ok (sums, lines.new.left)) v.items) }
+        (λ sums. counted lines.old.missing (head_of h.now) key.now constant lines.old.left
+        ≡ Ok (sums, lines.new.left)) v.items) }
     ensures fault { IfErr result
         (IsFaultOf (counted lines.old.missing (head_of h.now) key.now constant lines.old.left)) }
 {
