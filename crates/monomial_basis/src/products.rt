@@ -66,8 +66,8 @@ fn divide_pending<O: Order>(
     ensures no { IfOk result (λ b. b ≡ false → SomePending (O.order o.now) factors.now pending.old.items (degree + 1)
         → SomePending (O.order o.now) factors.now pending.new.items degree) }
     ensures long { OnOk result (length pending.new.items ≡ length pending.old.items) }
-    ensures others { OnOk result ((e : ℕ) (k : Exponents) → IsPending pending.new.items e k → IsPending pending.old.items e k
-        ⊎ ((m : Exponents) × IsPending pending.old.items degree m × IsQuotient (O.order o.now) factors.now m e k)) }
+    ensures others { OnOk result ((e : ℕ) (k : Exponents) → IsPending pending.new.items e k
+        → IsPending pending.old.items e k ⊎ ((m : Exponents) × IsPending pending.old.items degree m × IsQuotient (O.order o.now) factors.now m e k)) }
 {
     let monomials = take_degree(alloc, pending, degree);
     for m in &monomials {
@@ -108,9 +108,10 @@ fn divide<O: Order>(
     ensures no { IfOk result (λ b. b ≡ false → IsGenerated factors.now m.now
         → SomePending (O.order o.now) factors.now pending.new.items ((O.order o.now).degree m.now)) }
     ensures long { OnOk result (length pending.new.items ≡ length pending.old.items) }
-    ensures keeps { OnOk result ((e : ℕ) (k : Exponents) → IsPending pending.old.items e k → IsPending pending.new.items e k) }
-    ensures others { OnOk result ((e : ℕ) (k : Exponents) → IsPending pending.new.items e k → IsPending pending.old.items e k
-        ⊎ IsQuotient (O.order o.now) factors.now m.now e k) }
+    ensures keeps { OnOk result ((e : ℕ) (k : Exponents) → IsPending pending.old.items e k
+        → IsPending pending.new.items e k) }
+    ensures others { OnOk result ((e : ℕ) (k : Exponents) → IsPending pending.new.items e k
+        → IsPending pending.old.items e k ⊎ IsQuotient (O.order o.now) factors.now m.now e k) }
 {
     let place = m.places() - 1;
     for factor in factors {

@@ -109,7 +109,8 @@ const CASES: [Case; 13] = [
     // 10 = 4 + 6, 13 = 4 + 9, 15 = 6 + 9
     Case {
         command: "complete P 15",
-        text: "subalgebra 1\nfield 65521\nvars t\nweights 1\norder lex\nideal 0\ngenerators 6\nt^4\nt^6\nt^9\nt^10\nt^13\nt^15\nend\n",
+        text: "subalgebra 1\nfield 65521\nvars t\nweights 1\norder lex\nideal 0\n\
+               generators 6\nt^4\nt^6\nt^9\nt^10\nt^13\nt^15\nend\n",
         status: 0,
         report: "report 1\nbound 15\nbasis 3\n1 4 t^4 : t^4\n2 6 t^6 : t^6\n3 9 t^9 : t^9\nend\n",
         line: "",
