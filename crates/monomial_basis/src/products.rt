@@ -67,7 +67,8 @@ fn divide_pending<O: Order>(
         → SomePending (O.order o.now) factors.now pending.new.items degree) }
     ensures long { OnOk result (length pending.new.items ≡ length pending.old.items) }
     ensures others { OnOk result ((e : ℕ) (k : Exponents) → IsPending pending.new.items e k
-        → IsPending pending.old.items e k ⊎ ((m : Exponents) × IsPending pending.old.items degree m × IsQuotient (O.order o.now) factors.now m e k)) }
+        → IsPending pending.old.items e k
+        ⊎ ((m : Exponents) × IsPending pending.old.items degree m × IsQuotient (O.order o.now) factors.now m e k)) }
 {
     let monomials = take_degree(alloc, pending, degree);
     for m in &monomials {
