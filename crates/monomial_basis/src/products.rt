@@ -9,8 +9,8 @@ use monomial_order::{Memory, Monomial, Order};
 use std::alloc::Global;
 use std::mem;
 
-/// Whether the monomial is a product of the factors. The quotients that are still to be divided are listed by degree, each
-/// once.
+/// Whether the monomial is a product of the factors. The quotients that are still to be divided are listed by degree,
+/// each once.
 pub fn is_product<O: Order>(
     alloc: Global,
     o: &O,
@@ -48,7 +48,8 @@ fn empty_lists(alloc: Global, n: usize) -> Result<Vec<Vec<Monomial>>, Memory>
     Ok(lists)
 }
 
-/// Takes the monomials of the degree out of the pending ones, and adds their quotients. Answers whether one of these is 1.
+/// Takes the monomials of the degree out of the pending ones, and adds their quotients. Answers whether one of these
+/// is 1.
 fn divide_pending<O: Order>(
     alloc: Global,
     o: &O,
@@ -93,8 +94,8 @@ fn take_degree(alloc: Global, pending: &mut Vec<Vec<Monomial>>, degree: usize) -
     monomials
 }
 
-/// Adds the quotients of the monomial by the factors that have its last place. Answers whether one of them is 1. A product
-/// has such a factor, so the others can come later.
+/// Adds the quotients of the monomial by the factors that have its last place. Answers whether one of them is 1. A
+/// product has such a factor, so the others can come later.
 fn divide<O: Order>(
     alloc: Global,
     o: &O,

@@ -50,7 +50,8 @@ EndsAs defined outcome =
 
 -- a front of the report on the bytes
 abbrev pub TakesFrontOfReport : List ℕ → ℕ → SinkChange → Type 0
-TakesFrontOfReport bytes bound out = IsShort bytes × (report : List ℕ) × IsReport bytes bound report × TakesFront report out
+TakesFrontOfReport bytes bound out =
+    IsShort bytes × (report : List ℕ) × IsReport bytes bound report × TakesFront report out
 
 -- of the report on the bytes of PRES, in a run with this outcome
 abbrev pub PutsOn : List ℕ → ℕ → Outcome → SinkChange → Type 0
@@ -72,7 +73,8 @@ PutsAt None bound _ out = ⊥
 abbrev pub PutsFor : List (List ℕ) → Files → Outcome → SinkChange → Type 0
 PutsFor words files outcome out =
     (IsNoCommand words × (outcome ≡ Usage) × TakesNothing out)
-    ⊎ ((pres : List ℕ) × (bound : ℕ) × IsCompleteCommand words pres bound × PutsAt (map.get files pres) bound outcome out)
+    ⊎ ((pres : List ℕ) × (bound : ℕ) × IsCompleteCommand words pres bound
+        × PutsAt (map.get files pres) bound outcome out)
 
 -- whatever the files are, `out` takes nothing unless a report is begun
 abbrev pub TakesOnlyReports : Outcome → SinkChange → Type 0

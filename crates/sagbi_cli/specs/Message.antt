@@ -13,7 +13,8 @@ named_line message name = message ++ (name ++ codes "\n")
 abbrev pub line_of : List ℕ → Outcome → List ℕ
 line_of pres Done = []
 line_of pres Usage = codes "error: usage\n"
-line_of pres (Fault kind line) = codes "error: presentation line " ++ (decimal line ++ named_line (codes ": ") (kind_name kind))
+line_of pres (Fault kind line) =
+    codes "error: presentation line " ++ (decimal line ++ named_line (codes ": ") (kind_name kind))
 line_of pres Shelf = codes "error: shelf\n"
 line_of pres Sink = codes "error: sink\n"
 line_of pres Memory = codes "error: memory\n"

@@ -13,8 +13,8 @@ module _ {E : Type 0} (P : Presented E) (names : Names) where
   -- the number of the element, the degree of its lead, its lead, and the element
   abbrev pub element_line : ℕ → Polynomial E → List ℕ
   element_line index s =
-      decimal index ++ (codes " " ++ (decimal (P.order.degree (lead_monomial s)) ++ (codes " " ++ (monomial_text names (lead_monomial s)
-      ++ (codes " : " ++ (poly_text P.field names s ++ codes "\n"))))))
+      decimal index ++ (codes " " ++ (decimal (P.order.degree (lead_monomial s))
+      ++ (codes " " ++ (monomial_text names (lead_monomial s) ++ (codes " : " ++ (poly_text P.field names s ++ codes "\n"))))))
 
   -- a line for each element, numbered from the index on
   abbrev pub element_lines : ℕ → List (Polynomial E) → List ℕ

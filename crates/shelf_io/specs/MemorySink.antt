@@ -3,8 +3,8 @@ use Rattle.std.specs.Prelude.{ℕ, ◌+◌, ◌-◌, List, ◌++◌, length, tak
 use Rattle.shelf_io.specs.Calls.{Tally, tally}
 use Rattle.shelf_io.specs.declared.memory_sink.MemorySink.{MemorySink}
 
--- The most bytes that a put takes, and the room for all of them. The bytes taken, if all of them fitted in the room; those
--- that did; and the calls of put so far.
+-- The most bytes that a put takes, and the room for all of them. The bytes taken, if all of them fitted in the room;
+-- those that did; and the calls of put so far.
 pub record SinkState : Type 0 where
   pub most : ℕ
   pub room : ℕ
