@@ -23,9 +23,9 @@ same_default (x ∷ xs) zero d e lt = refl
 same_default (x ∷ xs) (suc k) d e lt = same_default xs k d e (omega arith)
 
 module _ {E : Type 0} (P : Presented E) (F : IsField P.field) (names : Names) (named : AreNames P.order.places names) where
-  lead_monomial : (s : Polynomial E) → s ≢ [] → IsDecreasing P.field P.order s → IsMonomial P.order.places (lead_monomial s)
-  lead_monomial [] nonzero decreasing = absurd (nonzero refl)
-  lead_monomial (t ∷ s) nonzero decreasing = falls.0.term.monomial
+  lead_is_monomial : (s : Polynomial E) → s ≢ [] → IsDecreasing P.field P.order s → IsMonomial P.order.places (lead_monomial s)
+  lead_is_monomial [] nonzero decreasing = absurd (nonzero refl)
+  lead_is_monomial (t ∷ s) nonzero decreasing = decreasing.0.term.monomial
 
   not_zero : (s : Polynomial E) → coefficient P.field s (lead_monomial s) ≡ P.field.one → s ≢ []
   unfolding coefficient
@@ -39,7 +39,7 @@ module _ {E : Type 0} (P : Presented E) (F : IsField P.field) (names : Names) (n
         values = decreasing_values P.field P.order s h.decreasing;
         named = decreasing_named P.field P.order names named s h.decreasing;
         nonzero = nonzero;
-        monomial = lead_monomial s nonzero h.decreasing;
+        monomial = lead_is_monomial s nonzero h.decreasing;
         small = omega (arith, h.at_most);
       }
 
