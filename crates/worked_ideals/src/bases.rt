@@ -4,8 +4,8 @@ ghost use Rattle.poly_core.specs.Presentation.{weight_order_of};
 ghost use Rattle.monomial_basis.specs.Products.{AreFactors, IsFactor};
 
 use crate::zeros::degree_of;
-use monomial_basis::kept::kept;
-use monomial_basis::products::is_product;
+use monomial_basis::minimal_generators;
+use monomial_basis::is_product;
 use monomial_order::{Monomial, Order, Tie, WeightOrder};
 use std::alloc::Global;
 use std::process::Abort;
@@ -62,11 +62,11 @@ fn order(alloc: Global, row: &str) -> Result<WeightOrder, Fail> {
 }
 
 /// Compares those monomials of a list that the others do not generate.
-fn judge_kept(rt: &impl Abort, alloc: Global, row: &str) -> Result<(), Fail> {
+fn judge_minimal(rt: &impl Abort, alloc: Global, row: &str) -> Result<(), Fail> {
     let o = order(alloc, row)?;
     let list = monomials(alloc, part(row, 1))?;
     assert!(rt; are_factors(&o, list.as_slice()));
-    let found = kept(alloc, &o, list.as_slice(), number(part(row, 2))?)?;
+    let found = minimal_generators(alloc, &o, list.as_slice(), number(part(row, 2))?)?;
     assert!(rt;
         are_monomials(alloc, found.as_slice(), part(row, 3))?,
         "{row}"
@@ -82,7 +82,7 @@ fn products_and_repeats_are_left_out(rt: HostRuntime) -> Result<(), Fail> {
         // 10 = 4 + 6, 13 = 4 + 9, 15 = 6 + 9
         "1 | x^4, x^6, x^9, x^10, x^13, x^15 | 15 | x^4, x^6, x^9",
     ] {
-        judge_kept(&rt, rt.alloc(), row)?;
+        judge_minimal(&rt, rt.alloc(), row)?;
     }
     Ok(())
 }

@@ -2,13 +2,13 @@
 ghost use Rattle.std.specs.Prelude.{◌≡◌, ◌≤◌, IfOk};
 ghost use Rattle.word_field.specs.Residues.{residues};
 ghost use Rattle.poly_core.specs.Presentation.{weight_order_of, presented};
-ghost use Rattle.quotient_gb.specs.Quotient.{Fits};
+ghost use Rattle.quotient_gb.specs.Quotient.{IsQuotientOf};
 ghost use Rattle.worked_cases.specs.Rings.{IsIn, IsRing};
 
 use crate::bases::are_monomials;
 use monomial_order::{Order, WeightOrder};
 use poly_core::Poly;
-use quotient_gb::quotient::Quotient;
+use quotient_gb::Quotient;
 use std::alloc::Global;
 use std::process::Abort;
 use std::test::Fail;
@@ -52,7 +52,7 @@ fn quotient_to(
 ) -> Result<Quotient<WordField, WeightOrder>, Fail>
     requires valid { IsRing p.now }
     requires small { degree ≤ 30000 }
-    ensures fits { IfOk result (Fits (presented (λ f. residues f.modulus) weight_order_of p.now)) }
+    ensures quotient { IfOk result (IsQuotientOf (presented (λ f. residues f.modulus) weight_order_of p.now)) }
     ensures degree { IfOk result (λ q. q.degree ≡ degree) }
 {
     let mut quotient = Quotient::new(alloc, p)?;
@@ -114,7 +114,7 @@ fn normal_form(
     a: &Poly<WordField>,
 ) -> Result<Poly<WordField>, Fail>
     requires valid { IsRing p.now }
-    requires fits { Fits (presented (λ f. residues f.modulus) weight_order_of p.now) quotient.now }
+    requires quotient { IsQuotientOf (presented (λ f. residues f.modulus) weight_order_of p.now) quotient.now }
     requires degree { quotient.now.degree ≡ degree }
     requires canonical { IsIn p.now a.now }
     ensures { IfOk result (IsIn p.now) }
