@@ -1,9 +1,10 @@
 //! Operations of polynomials in x and y over the field of 101 elements.
 ghost use Rattle.std.specs.Prelude.{◌≡◌, ◌≤◌, All, IfOk, IfSome, IsTrue};
 ghost use Rattle.polynomials.specs.Polynomial.{degree_of};
+ghost use Rattle.monomial_order.specs.Limits.{exponent_max};
 ghost use Rattle.poly_core.specs.Presentation.{weight_order_of};
 ghost use Rattle.polynomials.specs.Value.{value_degree, HasSmallValue};
-ghost use Rattle.worked_cases.specs.Rings.{IsIn, IsLowIn};
+ghost use Rattle.worked_cases.specs.Rings.{IsIn, IsLowIn, IsRing};
 
 use crate::monomials::monomial;
 use crate::rings::{Ring, X_AND_Y, polynomial, polynomials, ring, text_of};
@@ -14,6 +15,26 @@ use std::alloc::Global;
 use std::process::Abort;
 use std::test::Fail;
 use word_field::{Field, WordField};
+
+/// The greatest degree that is computed with.
+const EXPONENT_MAX: u32 = 65_535;
+
+/// Compares the canonical text of a polynomial with the part of the row at an index.
+fn compare(
+    rt: &impl Abort,
+    alloc: Global,
+    p: &Ring,
+    found: &Poly<WordField>,
+    row: &str,
+    index: usize,
+) -> Result<(), Fail>
+    requires ring { IsRing p.now }
+    requires found { IsIn p.now found.now }
+{
+    let text = text_of(alloc, p, found)?;
+    assert_eq!(rt; text.as_slice(), part(row, index).as_bytes(), "{row}");
+    Ok(())
+}
 
 /// The product of two polynomials.
 fn product(
@@ -96,12 +117,7 @@ fn judge_two(rt: &impl Abort, alloc: Global, row: &str) -> Result<(), Fail> {
     let a = polynomial(alloc, &p, part(row, 0))?;
     let b = polynomial(alloc, &p, part(row, 2))?;
     let found = of_two(alloc, &p, a, part(row, 1), b)?;
-    assert_eq!(rt;
-        text_of(alloc, &p, &found)?.as_slice(),
-        part(row, 3).as_bytes(),
-        "{row}"
-    );
-    Ok(())
+    compare(rt, alloc, &p, &found, row, 3)
 }
 
 /// What the operation makes of a polynomial and a number.
@@ -129,12 +145,7 @@ fn judge_one(rt: &impl Abort, alloc: Global, row: &str) -> Result<(), Fail> {
     let p = ring(alloc, X_AND_Y)?;
     let a = polynomial(alloc, &p, part(row, 0))?;
     let found = of_one(alloc, &p, &a, part(row, 1), number(part(row, 2))?)?;
-    assert_eq!(rt;
-        text_of(alloc, &p, &found)?.as_slice(),
-        part(row, 3).as_bytes(),
-        "{row}"
-    );
-    Ok(())
+    compare(rt, alloc, &p, &found, row, 3)
 }
 
 #[test]
@@ -183,7 +194,7 @@ fn value_degree(p: &Ring, at: &[Poly<WordField>], exponents: &[u16]) -> Option<u
         .checked_add(rest)
 }
 
-/// Whether the values of the terms have degrees of at most 65535.
+/// Whether the values of the terms have degrees of at most `EXPONENT_MAX`.
 fn have_small_values(p: &Ring, terms: &[Term<u32>], at: &[Poly<WordField>]) -> bool
     requires { All (IsIn p.now) at.now }
     ensures { IsTrue result → HasSmallValue (weight_order_of p.now.order) at.now terms.now }
@@ -194,13 +205,13 @@ fn have_small_values(p: &Ring, terms: &[Term<u32>], at: &[Poly<WordField>]) -> b
     }
 }
 
-/// Whether the value of the term has a degree of at most 65535.
+/// Whether the value of the term has a degree of at most `EXPONENT_MAX`.
 fn has_small_value(p: &Ring, t: &Term<u32>, at: &[Poly<WordField>]) -> bool
     requires { All (IsIn p.now) at.now }
-    ensures { IsTrue result → value_degree (weight_order_of p.now.order) at.now t.now.at ≤ 65535 }
+    ensures { IsTrue result → value_degree (weight_order_of p.now.order) at.now t.now.at ≤ exponent_max }
 {
     match value_degree(p, at, t.at.as_slice()) {
-        Some(d) => d <= 65535,
+        Some(d) => d <= EXPONENT_MAX,
         None => false,
     }
 }
@@ -228,12 +239,7 @@ fn judge_value(rt: &impl Abort, alloc: Global, row: &str) -> Result<(), Fail> {
     let h = polynomial(alloc, &p, part(row, 0))?;
     let at = polynomials(alloc, &p, part(row, 1))?;
     let found = value(rt, alloc, &p, &h, at.as_slice())?;
-    assert_eq!(rt;
-        text_of(alloc, &p, &found)?.as_slice(),
-        part(row, 2).as_bytes(),
-        "{row}"
-    );
-    Ok(())
+    compare(rt, alloc, &p, &found, row, 2)
 }
 
 #[test]

@@ -40,32 +40,42 @@ fn judge_text(rt: &impl Abort, alloc: Global, text: &str, expected: &str) -> Res
 fn writes_canonical_texts(rt: HostRuntime) -> Result<(), Fail> {
     for (text, canonical) in [
         (
-            "subalgebra 1\nfield 101\nvars x y\nweights 1 1\norder lex\nideal 1\nx^2 - y^2\ngenerators 1\ny + x\nend",
-            "subalgebra 1\nfield 101\nvars x y\nweights 1 1\norder lex\nideal 1\nx^2 + 100*y^2\ngenerators 1\nx + y\nend\n",
+            "subalgebra 1\nfield 101\nvars x y\nweights 1 1\norder lex\nideal 1\nx^2 - y^2\ngenerators 1\n\
+             y + x\nend",
+            "subalgebra 1\nfield 101\nvars x y\nweights 1 1\norder lex\nideal 1\nx^2 + 100*y^2\ngenerators 1\n\
+             x + y\nend\n",
         ),
         (
-            "# two rows\n subalgebra\t1\nfield 007\n\nvars a  b_2\r\nweights 02 3\norder 0 1 ; 10 0 ; revlex\nideal 00\ngenerators 2\n8*a^3*b_2^0 - 6*b_2*b_2\na - a\n # end\nend\n",
-            "subalgebra 1\nfield 7\nvars a b_2\nweights 2 3\norder 0 1 ; 10 0 ; revlex\nideal 0\ngenerators 2\nb_2^2 + a^3\n0\nend\n",
+            "# two rows\n subalgebra\t1\nfield 007\n\nvars a  b_2\r\nweights 02 3\norder 0 1 ; 10 0 ; revlex\n\
+             ideal 00\ngenerators 2\n8*a^3*b_2^0 - 6*b_2*b_2\na - a\n # end\nend\n",
+            "subalgebra 1\nfield 7\nvars a b_2\nweights 2 3\norder 0 1 ; 10 0 ; revlex\nideal 0\ngenerators 2\n\
+             b_2^2 + a^3\n0\nend\n",
         ),
         (
-            "subalgebra 1\nfield 2\nvars x y\nweights 1 1\norder revlex\nideal 1\n0\ngenerators 1\ny*y - x*x\nend\n",
-            "subalgebra 1\nfield 2\nvars x y\nweights 1 1\norder revlex\nideal 1\n0\ngenerators 1\nx^2 + y^2\nend\n",
+            "subalgebra 1\nfield 2\nvars x y\nweights 1 1\norder revlex\nideal 1\n0\ngenerators 1\ny*y - x*x\n\
+             end\n",
+            "subalgebra 1\nfield 2\nvars x y\nweights 1 1\norder revlex\nideal 1\n0\ngenerators 1\nx^2 + y^2\n\
+             end\n",
         ),
         (
             "subalgebra 1\nfield 65521\nvars x\nweights 64\norder lex\nideal 0\ngenerators 0\nend\n",
             "subalgebra 1\nfield 65521\nvars x\nweights 64\norder lex\nideal 0\ngenerators 0\nend\n",
         ),
         (
-            "# a circle\nsubalgebra 1\nfield 101\nvars x y\nweights 1 1\norder 0 1 ; lex\nideal 1\nx^2 - y^2\ngenerators 2\ny + x\n0\nend",
-            "subalgebra 1\nfield 101\nvars x y\nweights 1 1\norder 0 1 ; lex\nideal 1\n100*y^2 + x^2\ngenerators 2\ny + x\n0\nend\n",
+            "# a circle\nsubalgebra 1\nfield 101\nvars x y\nweights 1 1\norder 0 1 ; lex\nideal 1\nx^2 - y^2\n\
+             generators 2\ny + x\n0\nend",
+            "subalgebra 1\nfield 101\nvars x y\nweights 1 1\norder 0 1 ; lex\nideal 1\n100*y^2 + x^2\n\
+             generators 2\ny + x\n0\nend\n",
         ),
         (
             "subalgebra 1\nfield 101\nvars x y\nweights 1 1\norder lex\nideal 0\ngenerators 2\nx + y\nx*y\nend\n",
             "subalgebra 1\nfield 101\nvars x y\nweights 1 1\norder lex\nideal 0\ngenerators 2\nx + y\nx*y\nend\n",
         ),
         (
-            "# a comment\r\n\n\tsubalgebra  1 \r\nfield 0007\nvars x_1 y\nweights 1 002\norder 1 0 ; 3 1000 ; revlex\n  # more\nideal 1\nx_1^2 - 3*y\ngenerators 1\n8*y\nend\n \t\n#",
-            "subalgebra 1\nfield 7\nvars x_1 y\nweights 1 2\norder 1 0 ; 3 1000 ; revlex\nideal 1\nx_1^2 + 4*y\ngenerators 1\ny\nend\n",
+            "# a comment\r\n\n\tsubalgebra  1 \r\nfield 0007\nvars x_1 y\nweights 1 002\n\
+             order 1 0 ; 3 1000 ; revlex\n  # more\nideal 1\nx_1^2 - 3*y\ngenerators 1\n8*y\nend\n \t\n#",
+            "subalgebra 1\nfield 7\nvars x_1 y\nweights 1 2\norder 1 0 ; 3 1000 ; revlex\nideal 1\nx_1^2 + 4*y\n\
+             generators 1\ny\nend\n",
         ),
     ] {
         judge_text(&rt, rt.alloc(), text, canonical)?;

@@ -1,11 +1,12 @@
 //! Monomials that generate others.
-ghost use Rattle.std.specs.Prelude.{ℕ, ◌≤◌, List, Contains, IsTrue};
+ghost use Rattle.std.specs.Prelude.{◌≤◌, Contains, IsTrue};
+ghost use Rattle.monomial_order.specs.Limits.{exponent_max};
+ghost use Rattle.monomial_order.specs.Monomial.{Exponents};
 ghost use Rattle.poly_core.specs.Presentation.{weight_order_of};
 ghost use Rattle.monomial_basis.specs.Products.{AreFactors, IsFactor};
 
 use crate::zeros::degree_of;
-use monomial_basis::minimal_generators;
-use monomial_basis::is_product;
+use monomial_basis::{is_product, minimal_generators};
 use monomial_order::{Monomial, Order, Tie, WeightOrder};
 use std::alloc::Global;
 use std::process::Abort;
@@ -13,21 +14,25 @@ use std::test::Fail;
 use worked_cases::monomials::{is_word, monomial};
 use worked_cases::rows::{number, numbers, part};
 
-/// Whether it is a monomial of a degree from 1 to 65535.
+/// The greatest degree that is computed with.
+const EXPONENT_MAX: u32 = 65_535;
+
+/// Whether it is a monomial of a degree from 1 to `EXPONENT_MAX`.
 fn is_factor(o: &WeightOrder, m: &Monomial) -> bool
     ensures factor { IsTrue result → IsFactor (weight_order_of o.now) m.now }
-    ensures small { IsTrue result → (weight_order_of o.now).degree m.now ≤ 65535 }
+    ensures small { IsTrue result → (weight_order_of o.now).degree m.now ≤ exponent_max }
 {
     match degree_of(o.weights(), m.as_slice()) {
-        Some(degree) => m.places() <= o.places() && 1 <= degree && degree <= 65535,
+        Some(degree) => m.places() <= o.places() && 1 <= degree && degree <= EXPONENT_MAX,
         None => false,
     }
 }
 
-/// Whether the list has monomials of degrees from 1 to 65535 alone.
+/// Whether the list has monomials of degrees from 1 to `EXPONENT_MAX` alone.
 fn are_factors(o: &WeightOrder, list: &[Monomial]) -> bool
     ensures factors { IsTrue result → AreFactors (weight_order_of o.now) list.now }
-    ensures small { IsTrue result → (m : List ℕ) → Contains list.now m → (weight_order_of o.now).degree m ≤ 65535 }
+    ensures small { IsTrue result
+        → (m : Exponents) → Contains list.now m → (weight_order_of o.now).degree m ≤ exponent_max }
 {
     match list.split_first() {
         Some((m, rest)) => is_factor(o, m) && are_factors(o, rest),

@@ -1,11 +1,13 @@
 //! Ideals whose leads and normal forms were worked out by hand.
 ghost use Rattle.std.specs.Prelude.{◌≡◌, ◌≤◌, IfOk};
 ghost use Rattle.word_field.specs.Residues.{residues};
+ghost use Rattle.monomial_order.specs.Limits.{degree_max};
 ghost use Rattle.poly_core.specs.Presentation.{weight_order_of, presented};
 ghost use Rattle.quotient_gb.specs.Quotient.{IsQuotientOf};
 ghost use Rattle.worked_cases.specs.Rings.{IsIn, IsRing};
 
 use crate::bases::are_monomials;
+use crate::zeros::DEGREE_MAX;
 use monomial_order::{Order, WeightOrder};
 use poly_core::Poly;
 use quotient_gb::Quotient;
@@ -51,7 +53,7 @@ fn quotient_to(
     degree: u32,
 ) -> Result<Quotient<WordField, WeightOrder>, Fail>
     requires valid { IsRing p.now }
-    requires small { degree ≤ 30000 }
+    requires small { degree ≤ degree_max }
     ensures quotient { IfOk result (IsQuotientOf (presented (λ f. residues f.modulus) weight_order_of p.now)) }
     ensures degree { IfOk result (λ q. q.degree ≡ degree) }
 {
@@ -65,7 +67,7 @@ fn quotient_to(
 fn judge_leads(rt: &impl Abort, alloc: Global, row: &str) -> Result<(), Fail> {
     let p = ring_of(alloc, row)?;
     let degree = number(part(row, 5))?;
-    assert!(rt; degree <= 30000);
+    assert!(rt; degree <= DEGREE_MAX);
     let quotient = quotient_to(alloc, &p, degree)?;
     assert!(rt;
         are_monomials(alloc, quotient.leads(), part(row, 6))?,
@@ -128,7 +130,7 @@ fn normal_form(
 fn judge_normal_form(rt: &impl Abort, alloc: Global, row: &str) -> Result<(), Fail> {
     let p = ring_of(alloc, row)?;
     let degree = number(part(row, 5))?;
-    assert!(rt; degree <= 30000);
+    assert!(rt; degree <= DEGREE_MAX);
     let quotient = quotient_to(alloc, &p, degree)?;
     let a = polynomial(alloc, &p, part(row, 6))?;
     let found = normal_form(rt, alloc, &p, &quotient, degree, &a)?;

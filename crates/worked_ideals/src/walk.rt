@@ -3,7 +3,7 @@ ghost use Rattle.std.specs.Prelude.{◌≡◌, ◌≢◌, ◌≤◌, length, IfO
 ghost use Rattle.monomial_order.specs.Monomial.{weighted_degree, Exponents, IsMonomial, IsMultiple};
 ghost use Rattle.word_laws.specs.Words.{image_of, IsSWord};
 
-use crate::zeros::{are_zeros, degree_of, has_up_to};
+use crate::zeros::{DEGREE_MAX, are_zeros, degree_of, has_up_to};
 use monomial_order::{Monomial, Tie, WeightOrder};
 use std::alloc::Global;
 use std::process::Abort;
@@ -25,7 +25,7 @@ pub(crate) fn extend(
     c: u32,
     zeros: &[Monomial],
 ) -> Result<(), Fail> {
-    assert!(rt; c <= 30000);
+    assert!(rt; c <= DEGREE_MAX);
     assert!(rt; are_zeros(x_degrees(words), c, zeros));
     let d = words.degree();
     assert!(rt; has_up_to(x_degrees(words), d, words.zeros(), zeros));
@@ -71,7 +71,8 @@ pub(crate) fn factor(
 ) -> Result<Option<Monomial>, Fail>
     ensures monomial { IfOk result (λ _. IsMonomial (length words.now.letters.degrees) m.now) }
     ensures standard { IfOk result (λ _. ¬ IsMultiple words.now.zeros m.now) }
-    ensures none { IfOk result (λ v. IsNone v → (u : Exponents) → IsSWord words.now.letters u → image_of words.now.letters u ≢ m.now) }
+    ensures none { IfOk result (λ v. IsNone v
+        → (u : Exponents) → IsSWord words.now.letters u → image_of words.now.letters u ≢ m.now) }
 {
     assert!(rt; least(rt, alloc, words, m)?.is_some());
     Ok(words.factor(alloc, m)?)

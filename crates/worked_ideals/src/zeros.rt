@@ -1,17 +1,21 @@
 //! Tests of lists that are to be the zeros of words.
-ghost use Rattle.std.specs.Prelude.{◌≡◌, ◌≤◌, ◌<◌, ℕ, List, All, Contains, true, IfSome, IsTrue};
-ghost use Rattle.monomial_order.specs.Monomial.{weighted_degree, Divides};
+ghost use Rattle.std.specs.Prelude.{◌≡◌, ◌≤◌, ◌<◌, All, Contains, true, IfSome, IsTrue};
+ghost use Rattle.monomial_order.specs.Limits.{degree_max};
+ghost use Rattle.monomial_order.specs.Monomial.{Divides, Exponents, weighted_degree};
 ghost use Rattle.monomial_order.specs.Ranges.{all_between};
 ghost use Rattle.toric_ideal.specs.Listing.{AreZeros, IsZero};
 
 use monomial_order::Monomial;
 
-/// Whether each degree is from 1 to 30000.
+/// The greatest degree that is listed to, and of a letter.
+pub(crate) const DEGREE_MAX: u32 = 30_000;
+
+/// Whether each degree is from 1 to `DEGREE_MAX`.
 pub(crate) fn are_degrees(degrees: &[u32]) -> bool
-    ensures { IsTrue result → all_between 1 30000 degrees.now ≡ true }
+    ensures { IsTrue result → all_between 1 degree_max degrees.now ≡ true }
 {
     match degrees.split_first() {
-        Some((degree, rest)) => 1 <= *degree && *degree <= 30000 && are_degrees(rest),
+        Some((degree, rest)) => 1 <= *degree && *degree <= DEGREE_MAX && are_degrees(rest),
         None => true,
     }
 }
@@ -99,7 +103,8 @@ fn is_above(degrees: &[u32], d: u32, z: &Monomial) -> bool
 
 /// Whether each member of `some` of degree at most d is in `all`.
 pub(crate) fn has_up_to(degrees: &[u32], d: u32, some: &[Monomial], all: &[Monomial]) -> bool
-    ensures { IsTrue result → (z : List ℕ) → weighted_degree degrees.now z ≤ d → Contains some.now z → Contains all.now z }
+    ensures { IsTrue result
+        → (z : Exponents) → weighted_degree degrees.now z ≤ d → Contains some.now z → Contains all.now z }
 {
     match some.split_first() {
         Some((z, rest)) => {

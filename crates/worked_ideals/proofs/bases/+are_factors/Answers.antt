@@ -1,4 +1,5 @@
 use Rattle.std.proofs.Common.{◌≤◌}
+use Rattle.monomial_order.specs.Limits.{exponent_max}
 use Rattle.poly_core.specs.Presentation.{weight_order_of}
 use Rattle.monomial_basis.specs.Products.{IsFactor}
 use Rattle.worked_ideals.proofs.ZeroLists.{each_member}
@@ -10,4 +11,4 @@ returns-then-is_factor-clause-factors t c h =
 
 pub returns-then-is_factor-clause-small : goal.returns-then-is_factor-clause-small
 returns-then-is_factor-clause-small t c h =
-    each_member (λ m. (weight_order_of c.args.o.now).degree m ≤ 65535) c.args.list.now c.in-Some.m.now c.in-Some.rest.now c.in-Some.ensures.cases.0 (c.is_factor.ensures.small c.if-is_factor.true) (c.are_factors.ensures.small h)
+    each_member (λ m. (weight_order_of c.args.o.now).degree m ≤ exponent_max) c.args.list.now c.in-Some.m.now c.in-Some.rest.now c.in-Some.ensures.cases.0 (c.is_factor.ensures.small c.if-is_factor.true) (c.are_factors.ensures.small h)
