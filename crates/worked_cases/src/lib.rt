@@ -8,9 +8,9 @@ mod fields;
 mod lines;
 pub mod monomials;
 #[cfg(test)]
-mod orders;
+mod operations;
 #[cfg(test)]
-mod polynomials;
+mod orders;
 #[cfg(test)]
 mod products;
 pub mod rings;

@@ -97,35 +97,27 @@ const LINES: [&str; 10] = [
 ];
 
 /// The text with another line in place of one, counted from 1.
-fn changed(alloc: Global, line: usize, text: &str) -> Result<Vec<u8>, Memory> {
-    let mut bytes = Vec::new(alloc);
-    for (i, old) in LINES.iter().enumerate() {
-        let new = if line.checked_sub(1) == Some(i) {
-            text
-        } else {
-            *old
-        };
-        bytes.extend_from_slice(new.as_bytes())?;
-        bytes.push(b'\n')?;
+fn changed(alloc: Global, line: u32, text: &str) -> Result<String, Memory> {
+    let mut changed = String::new(alloc);
+    let mut number: u32 = 0;
+    for old in LINES {
+        number = number.saturating_add(1);
+        changed.push_str(if number == line { text } else { old })?;
+        changed.push_str("\n")?;
     }
-    Ok(bytes)
+    Ok(changed)
 }
 
-/// The presentation of the changed text.
-fn read_changed(
-    rt: &impl Abort,
-    alloc: Global,
-    row: &str,
-) -> Result<Result<Ring, TextFault>, Fail> {
-    let line = number(part(row, 0))?;
-    let text = changed(alloc, line as usize, part(row, 1))?;
+/// What is read of a text.
+fn read_text(rt: &impl Abort, alloc: Global, text: &str) -> Result<Ring, TextFault> {
     assert!(rt; text.len() as u64 <= TEXT_MAX);
-    Ok(read(alloc, text.as_slice()))
+    read(alloc, text.as_bytes())
 }
 
 /// Sees that the changed text has the fault of the row.
 fn judge_fault(rt: &impl Abort, alloc: Global, row: &str) -> Result<(), Fail> {
-    match read_changed(rt, alloc, row)? {
+    let text = changed(alloc, number(part(row, 0))?, part(row, 1))?;
+    match read_text(rt, alloc, text.as_str()) {
         Ok(_) => Err(Fail::new("no fault")),
         Err(fault) => {
             assert_eq!(rt;
@@ -176,20 +168,15 @@ fn finds_the_first_fault(rt: HostRuntime) -> Result<(), Fail> {
     Ok(())
 }
 
-/// Sees that the text without its last line has the line 10 missing.
 #[test]
 fn finds_a_missing_end(rt: HostRuntime) -> Result<(), Fail> {
-    let mut text = changed(rt.alloc(), 0, "")?;
-    let whole = text.len();
-    text.truncate(whole.saturating_sub(4));
-    assert!(rt; text.len() as u64 <= TEXT_MAX);
-    match read(rt.alloc(), text.as_slice()) {
+    let mut text = changed(rt.alloc(), 10, "")?;
+    text.pop();
+    match read_text(&rt, rt.alloc(), text.as_str()) {
         Ok(_) => Err(Fail::new("no fault")),
         Err(fault) => {
-            assert_eq!(rt;
-                format!(in rt.alloc(); "{fault}")?.as_str(),
-                "line 10: Truncated"
-            );
+            let found = format!(in rt.alloc(); "{fault}")?;
+            assert_eq!(rt; found.as_str(), "line 10: Truncated");
             Ok(())
         }
     }
@@ -197,9 +184,10 @@ fn finds_a_missing_end(rt: HostRuntime) -> Result<(), Fail> {
 
 /// Compares the canonical text with the line of the row in place of the changed one, and the degrees of the letters.
 fn judge_generator(rt: &impl Abort, alloc: Global, row: &str) -> Result<(), Fail> {
-    let p = read_changed(rt, alloc, row)??;
+    let text = changed(alloc, number(part(row, 0))?, part(row, 1))?;
     let expected = changed(alloc, 8, part(row, 2))?;
-    assert_eq!(rt; write(alloc, &p)?.as_slice(), expected.as_slice(), "{row}");
+    let p = ring(alloc, text.as_str())?;
+    assert_written(rt, alloc, &p, expected.as_str())?;
     let degrees = p.gen_order.s_degrees.as_slice();
     assert_eq!(rt;
         format!(in alloc; "{degrees:?}")?.as_str(),
@@ -263,11 +251,8 @@ fn judge_query_fault(rt: &impl Abort, alloc: Global, row: &str) -> Result<(), Fa
     match read_polys(alloc, &p, text.as_bytes()) {
         Ok(_) => Err(Fail::new("no fault")),
         Err(fault) => {
-            assert_eq!(rt;
-                format!(in alloc; "{fault}")?.as_str(),
-                part(row, 1),
-                "{row}"
-            );
+            let found = format!(in alloc; "{fault}")?;
+            assert_eq!(rt; found.as_str(), part(row, 1), "{row}");
             Ok(())
         }
     }

@@ -9,5 +9,5 @@ pub write_monomial-requires : goal.write_monomial-requires
 write_monomial-requires c =
     let o = c.args.p.now.order in
     let canonical = subst (IsCanonical (residues c.args.p.now.field.modulus) (weight_order_of o))
-        c.in-Some.ensures.first.1 c.requires.canonical in
+    c.in-Some.ensures.first.1 c.requires.canonical in
     names_monomials (weight_order_of o).places c.args.p.now.names c.requires.valid.names c.in-Some.t.now.at canonical.decreasing.0.term.monomial

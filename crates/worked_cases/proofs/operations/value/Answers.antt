@@ -3,7 +3,7 @@ use Rattle.word_field.specs.Residues.{residues}
 use Rattle.polynomials.specs.Polynomial.{IsPoly}
 use Rattle.polynomials.specs.laws.Decreasing.{IsDecreasing_IsPoly}
 use Rattle.poly_core.specs.Presentation.{weight_order_of}
-use Rattle.worked_cases.proofs.polynomials.value.Goals as goal
+use Rattle.worked_cases.proofs.operations.value.Goals as goal
 
 pub evaluate-requires-clause-h : goal.evaluate-requires-clause-h
 evaluate-requires-clause-h g c =

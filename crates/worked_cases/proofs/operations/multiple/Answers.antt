@@ -5,7 +5,7 @@ use Rattle.polynomials.specs.laws.Terms.{IsSmall-left, small_times}
 use Rattle.polynomials.specs.Polynomial.{scaled}
 use Rattle.poly_core.specs.Presentation.{weight_order_of}
 use Rattle.polynomial_text.specs.Degrees.{IsLow}
-use Rattle.worked_cases.proofs.polynomials.multiple.Goals as goal
+use Rattle.worked_cases.proofs.operations.multiple.Goals as goal
 
 pub times_term-requires-clause-small : goal.times_term-requires-clause-small
 times_term-requires-clause-small c =

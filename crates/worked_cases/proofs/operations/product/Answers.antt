@@ -3,7 +3,7 @@ use Rattle.word_field.specs.Residues.{residues}
 use Rattle.monomial_order.specs.laws.Ties.{weight_laws}
 use Rattle.polynomials.specs.laws.Terms.{small_times}
 use Rattle.poly_core.specs.Presentation.{weight_order_of}
-use Rattle.worked_cases.proofs.polynomials.product.Goals as goal
+use Rattle.worked_cases.proofs.operations.product.Goals as goal
 
 pub mul-requires-clause-small : goal.mul-requires-clause-small
 mul-requires-clause-small c =
