@@ -3,7 +3,7 @@ use Rattle.std.specs.Prelude.{◌≡◌, ◌≢◌, ℕ, ◌+◌, ◌-◌, ◌�
 use Rattle.std.specs.Fmt.{decimal}
 use Rattle.std.specs.List.{list_all, IsDistinct}
 use Rattle.std.specs.Str.{bytes_eq}
-use Rattle.monomial_order.specs.Monomial.{exponent}
+use Rattle.monomial_order.specs.Monomial.{Exponents, exponent}
 use Rattle.poly_core.specs.declared.place_names.Names.{Names}
 use Rattle.poly_core.specs.declared.place_names.Names.TheVariants.{Listed, Numbered, Paired}
 
@@ -19,7 +19,7 @@ abbrev pub name_of : Names → ℕ → List ℕ
 name_of names i = unwrap_or (name_at names i) []
 
 -- each place of nonzero exponent has a name
-abbrev pub IsNamed : Names → List ℕ → Type 0
+abbrev pub IsNamed : Names → Exponents → Type 0
 IsNamed names m = (i : ℕ) → exponent m i ≢ 0 → IsSome (name_at names i)
 
 -- an ASCII letter

@@ -2,13 +2,13 @@
 use Rattle.std.specs.Prelude.{◌≡◌, ℕ, ◌+◌, ◌<◌, ◌≤◌, List, [], length, slice_index_or}
 use Rattle.word_field.specs.Field.{FieldOps}
 use Rattle.monomial_order.specs.declared.terms.Term.{Term}
-use Rattle.monomial_order.specs.Monomial.{exponent}
+use Rattle.monomial_order.specs.Monomial.{Exponents, exponent}
 use Rattle.monomial_order.specs.MonomialOrder.{MonomialOrder}
 use Rattle.polynomials.specs.Polynomial.{Polynomial, Same, IsCanonical}
 use Rattle.polynomials.specs.Value.{power}
 
 -- each row of the table has an entry for the power at its place of the monomial, if it is above 1
-abbrev pub Reaches : {E : Type 0} → List (List (Polynomial E)) → List ℕ → Type 0
+abbrev pub Reaches : {E : Type 0} → List (List (Polynomial E)) → Exponents → Type 0
 Reaches rows m = (i : ℕ) → i < length rows → exponent m i ≤ length (slice_index_or rows i []) + 1
 
 module _ {E : Type 0} (K : FieldOps E) (O : MonomialOrder) where
