@@ -8,8 +8,9 @@ use Rattle.monomial_order.specs.MonomialOrder.{MonomialOrder, IsMonomialOrder}
 use Rattle.monomial_order.specs.laws.Monomial.{product_assoc, product_comm, exponent-product, exponent_past, IsMonomial-product}
 use Rattle.monomial_order.specs.laws.Cofactors.{same_exponents, length-product_right}
 use Rattle.monomial_order.specs.laws.Lists.{contains_cases}
+use Rattle.monomial_order.specs.laws.Comparing.{degree_one}
 use Rattle.polynomials.specs.Subalgebra.{IsGenerated, AllIn, product_of}
-use Rattle.monomial_basis.specs.Products.{AreFactors, IsQuotient, SomeWaits, Waits}
+use Rattle.monomial_basis.specs.Products.{AreFactors, IsQuotient, SomePending, IsPending}
 
 pub product_cancel : (g k r : List ℕ) → IsTrimmed k → IsTrimmed r → product g k ≡ product g r → k ≡ r
 product_cancel g k r hk hr e = same_exponents k r hk hr (λ i.
@@ -27,7 +28,7 @@ any_default [] i x d l e = absurd (omega arith)
 any_default (y ∷ xs) zero x d l e = e
 any_default (y ∷ xs) (suc i) x d l e = any_default xs i x d (omega arith) e
 
--- what is found by the factors before j with U is found by those before j + 1, where it is by the factor at j
+-- what is found by the factors before j with U is found by those before j + 1, if it is found by the factor at j
 pub found_more : (gs : List (List ℕ)) (j : ℕ) (g m : List ℕ) (P Q U : List ℕ → Type 0) → j < length gs → g ≡ get_or gs j g →
     ((r : List ℕ) → P r → Q r) → ((r : List ℕ) → IsTrimmed r → U g → product g r ≡ m → Q r) →
     ((i : ℕ) (r : List ℕ) → i < j → IsTrimmed r → U (get_or gs i []) → product (get_or gs i []) r ≡ m → P r) →
@@ -109,20 +110,17 @@ module _ (O : MonomialOrder) (L : IsMonomialOrder O) (gs : List (List ℕ)) (F :
         | false ↦ λ f. let w = h.within in let l : O.places ≤ i = ltb-false i O.places f in let z = exponent_past k i (omega arith) in omega arith
       ] refl)
 
-  pub degree_one : O.degree [] ≡ 0
-  degree_one = let e = L.degree_product [] [] in omega arith
-
   pub some_place : (m : List ℕ) → 1 ≤ O.degree m → 1 ≤ length m
-  some_place [] h = absurd (let z = degree_one in omega arith)
+  some_place [] h = absurd (let z = degree_one O L in omega arith)
   some_place (a ∷ m) h = omega arith
 
-  -- a product that has the place p has a quotient among those that wait
-  pub some_waits : (m : List ℕ) (p : ℕ) (lists : List (Vec (List ℕ) Global)) → exponent m p ≢ 0 →
-      ((i : ℕ) (r : List ℕ) → i < length gs → IsTrimmed r → exponent (get_or gs i []) p ≢ 0 → product (get_or gs i []) r ≡ m → Waits lists (O.degree r) r) →
-      IsGenerated gs m → SomeWaits O gs lists (O.degree m)
-  some_waits m p lists some found w = by_factor (factor_at gs p w.factors w.members (λ z. some (ap (λ x. exponent x p) (sym w.product) ∙ z)))
+  -- a product that has the place p has a pending quotient
+  pub some_pending : (m : List ℕ) (p : ℕ) (lists : List (Vec (List ℕ) Global)) → exponent m p ≢ 0 →
+      ((i : ℕ) (r : List ℕ) → i < length gs → IsTrimmed r → exponent (get_or gs i []) p ≢ 0 → product (get_or gs i []) r ≡ m → IsPending lists (O.degree r) r) →
+      IsGenerated gs m → SomePending O gs lists (O.degree m)
+  some_pending m p lists some found w = by_factor (factor_at gs p w.factors w.members (λ z. some (ap (λ x. exponent x p) (sym w.product) ∙ z)))
     where
-      by_factor : HasFactorAt gs p (product_of w.factors) → SomeWaits O gs lists (O.degree m)
+      by_factor : HasFactorAt gs p (product_of w.factors) → SomePending O gs lists (O.degree m)
       by_factor q =
           let f = q.factor in
           let r = product_of q.others in

@@ -1,5 +1,5 @@
-pub mod Waiting
+pub mod PendingLists
 pub mod Dividing
-pub mod Keeping
+pub mod Minimality
 pub mod Repeats
 pub mod MonomialBasis

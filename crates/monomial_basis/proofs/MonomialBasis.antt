@@ -1,77 +1,60 @@
--- A subalgebra of monomials: its lead_monomial monomials are the products of its generators, and the generators that are needed are its reduced basis.
-use Rattle.std.proofs.Common.{◌≡◌, ◌≢◌, ℕ, zero, suc, ◌+◌, ◌<◌, ◌≤◌, refl, sym, ◌∙◌, ap, subst, List, [], ◌∷◌, ◌++◌, length, take, arith, cond, ⊎_elim, true, false, get_or}
+-- A subalgebra of monomials: its lead monomials are the products of its generators, and the minimal generators are its
+-- reduced basis.
+use Rattle.std.proofs.Common.{◌≡◌, ◌≢◌, ℕ, zero, suc, ◌+◌, ◌<◌, ◌≤◌, refl, sym, ◌∙◌, ap, subst, List, [], ◌∷◌, ◌++◌, length, take, arith, cond, ⊎_elim, get_or}
 use Rattle.std.specs.Prelude.{Contains, map}
 use Rattle.std.proofs.lemmas.List.{map-append, append-nil, take_more}
 use Rattle.word_field.specs.Field.{FieldOps, IsField}
-use Rattle.word_field.specs.laws.Field.{zero-plus-zero}
 use Rattle.monomial_order.specs.declared.terms.Term.{Term}
 use Rattle.monomial_order.specs.Monomial.{variable, IsMonomial, IsTrimmed}
 use Rattle.monomial_order.specs.MonomialOrder.{MonomialOrder, IsMonomialOrder, IsIncreasing}
 use Rattle.monomial_order.specs.laws.Lists.{contains_cases, contains_here, contains_there, contains_none}
-use Rattle.polynomials.specs.Polynomial.{Polynomial, same_monomial, coefficient, Same, term_of, scaled, times, constant, minus, IsTerm, lead_monomial}
+use Rattle.polynomials.specs.Polynomial.{Polynomial, AllAt, coefficient, Same, term_of, scaled, times, constant, minus, IsTerm, lead_monomial}
 use Rattle.polynomials.specs.Ideal.{Multiple, AreMultiples, sum_of, InIdeal}
 use Rattle.polynomials.specs.Value.{power, monomial_value, value}
 use Rattle.polynomials.specs.Subalgebra.{Presented, IsPresentation, IsGenerator, AreGenerators, product_of, AllIn, IsGenerated, LeadsIdeal, IsStandard, InSubalgebra, LeadsSubalgebra, IsElement, IsReducedBasis}
 use Rattle.poly_core.specs.Presentation.{AreCanonicalGenerators}
-use Rattle.polynomials.specs.laws.Ring.{times_comm}
-use Rattle.polynomials.specs.laws.Same.{same_true, same_refl}
+use Rattle.polynomials.specs.laws.Same.{same_refl}
 use Rattle.polynomials.specs.laws.Value.{one_times}
+use Rattle.polynomials.specs.laws.Coefficients.{single_term, times_one}
+use Rattle.polynomials.specs.laws.Degrees.{all_found}
+use Rattle.polynomials.specs.laws.Terms.{AllAt-append}
 use Rattle.polynomials.specs.laws.Congruence.{minus_zero, congruent_same}
 use Rattle.polynomials.specs.laws.ReducedBasis.{generated_times, map_contains}
 use Rattle.monomial_basis.specs.Products.{AreFactors}
-use Rattle.monomial_basis.specs.Kept.{Rises, IsMinimal}
+use Rattle.monomial_basis.specs.MinimalGenerators.{IsMinimal}
 use Rattle.monomial_basis.specs.MonomialGenerators.{monomial_poly, AreMonomials, leads_of}
 use Rattle.monomial_basis.proofs.Dividing.{generated_one}
-use Rattle.monomial_basis.proofs.Keeping.{generated_member}
-
--- the monomial of each term is a product of members of G
-abbrev AllGenerated : {E : Type 0} → List (List ℕ) → Polynomial E → Type 0
-AllGenerated G [] = Unit {0}
-AllGenerated G (t ∷ p) = IsGenerated G t.at × AllGenerated G p
+use Rattle.monomial_basis.proofs.Minimality.{generated_member}
 
 module _ {E : Type 0} (K : FieldOps E) (G : List (List ℕ)) where
-  generated_append : (p q : Polynomial E) → AllGenerated G p → AllGenerated G q → AllGenerated G (p ++ q)
-  generated_append [] q h k = k
-  generated_append (t ∷ p) q h k = (h.0, generated_append p q h.1 k)
-
-  generated_scaled : (t : Term E) (q : Polynomial E) → IsGenerated G t.at → AllGenerated G q → AllGenerated G (scaled K t q)
+  generated_scaled : (t : Term E) (q : Polynomial E) → IsGenerated G t.at → AllAt (IsGenerated G) q → AllAt (IsGenerated G) (scaled K t q)
   generated_scaled t [] h k = tt
   generated_scaled t (u ∷ q) h k = (generated_times G t.at u.at h k.0, generated_scaled t q h k.1)
 
-  generated_product : (p q : Polynomial E) → AllGenerated G p → AllGenerated G q → AllGenerated G (times K p q)
+  generated_product : (p q : Polynomial E) → AllAt (IsGenerated G) p → AllAt (IsGenerated G) q → AllAt (IsGenerated G) (times K p q)
   generated_product [] q h k = tt
-  generated_product (t ∷ p) q h k = generated_append (scaled K t q) (times K p q) (generated_scaled t q h.0 k) (generated_product p q h.1 k)
+  generated_product (t ∷ p) q h k = AllAt-append (IsGenerated G) (scaled K t q) (times K p q) (generated_scaled t q h.0 k) (generated_product p q h.1 k)
 
-  generated_constant : (c : E) → AllGenerated G (constant K c)
+  generated_constant : (c : E) → AllAt (IsGenerated G) (constant K c)
   generated_constant c = (generated_one G, tt)
 
-  generated_power : (f : Polynomial E) (e : ℕ) → AllGenerated G f → AllGenerated G (power K f e)
+  generated_power : (f : Polynomial E) (e : ℕ) → AllAt (IsGenerated G) f → AllAt (IsGenerated G) (power K f e)
   generated_power f zero h = generated_constant K.one
   generated_power f (suc e) h = generated_product f (power K f e) h (generated_power f e h)
 
-  generated_monomial_value : (m : List ℕ) (fs : List (Polynomial E)) → ((f : Polynomial E) → Contains fs f → AllGenerated G f) → AllGenerated G (monomial_value K m fs)
+  generated_monomial_value : (m : List ℕ) (fs : List (Polynomial E)) → ((f : Polynomial E) → Contains fs f → AllAt (IsGenerated G) f) → AllAt (IsGenerated G) (monomial_value K m fs)
   generated_monomial_value [] fs h = generated_constant K.one
   generated_monomial_value (e ∷ m) [] h = generated_constant K.one
   generated_monomial_value (e ∷ m) (f ∷ fs) h =
       generated_product (power K f e) (monomial_value K m fs) (generated_power f e (h f (contains_here f fs)))
       (generated_monomial_value m fs (λ g c. h g (contains_there f fs g c)))
 
-  generated_value : (w : Polynomial E) (fs : List (Polynomial E)) → ((f : Polynomial E) → Contains fs f → AllGenerated G f) → AllGenerated G (value K w fs)
+  generated_value : (w : Polynomial E) (fs : List (Polynomial E)) → ((f : Polynomial E) → Contains fs f → AllAt (IsGenerated G) f) → AllAt (IsGenerated G) (value K w fs)
   generated_value [] fs h = tt
   generated_value (t ∷ w) fs h =
-      generated_append (times K (constant K t.by) (monomial_value K t.at fs)) (value K w fs)
+      AllAt-append (IsGenerated G) (times K (constant K t.by) (monomial_value K t.at fs)) (value K w fs)
       (generated_product (constant K t.by) (monomial_value K t.at fs) (generated_constant t.by) (generated_monomial_value t.at fs h))
       (generated_value w fs h)
-
-  -- a monomial with a nonzero coefficient is that of some term
-  generated_found : IsField K → (p : Polynomial E) (m : List ℕ) → AllGenerated G p → coefficient K p m ≢ K.zero → IsGenerated G m
-  unfolding coefficient
-  generated_found F [] m h n = absurd (n refl)
-  generated_found F (t ∷ p) m h n =
-      elim (same_monomial t.at m) as (λ b. same_monomial t.at m ≡ b → IsGenerated G m) [
-        | true ↦ λ e. subst (IsGenerated G) (same_true t.at m e) h.0
-        | false ↦ λ e. generated_found F p m h.1 (λ z. n (ap (λ b. K.plus (cond b t.by K.zero) (coefficient K p m)) e ∙ (ap (K.plus K.zero) z ∙ zero-plus-zero K F)))
-      ] refl
 
 -- what generates the members of G up to a degree generates their products up to it
 generated_bounded : (O : MonomialOrder) → IsMonomialOrder O → (G ks : List (List ℕ)) (c : ℕ) → ((m : List ℕ) → Contains G m → O.degree m ≤ c → IsGenerated ks m) →
@@ -96,12 +79,10 @@ length-variable zero = refl
 length-variable (suc i) = ap suc (length-variable i)
 
 module _ {E : Type 0} (K : FieldOps E) (F : IsField K) where
-  times_one : (p : Polynomial E) → Same K (times K p (constant K K.one)) p
-  times_one p m = times_comm K F p (constant K K.one) m ∙ one_times K F p m
-
   value_variable : (fs : List (Polynomial E)) (i : ℕ) (f : Polynomial E) → i < length fs → get_or fs i f ≡ f → Same K (monomial_value K (variable i) fs) f
   value_variable [] i f l e m = absurd (omega arith)
-  value_variable (g ∷ fs) zero f l e m = times_one (power K g 1) m ∙ (times_one g m ∙ ap (λ p. coefficient K p m) e)
+  value_variable (g ∷ fs) zero f l e m =
+      times_one K F (power K g 1) m ∙ (times_one K F g m ∙ ap (λ p. coefficient K p m) e)
   value_variable (g ∷ fs) (suc i) f l e m = one_times K F (monomial_value K (variable i) fs) m ∙ value_variable fs i f (omega arith) e m
 
   generator_value : (fs : List (Polynomial E)) (i : ℕ) (f : Polynomial E) → i < length fs → get_or fs i f ≡ f → Same K (value K (monomial_poly K (variable i)) fs) f
@@ -113,16 +94,7 @@ module _ {E : Type 0} (K : FieldOps E) (F : IsField K) where
   unfolding coefficient
   coefficient_monomial m = ap (λ b. K.plus (cond b K.one K.zero) K.zero) (same_refl m) ∙ (F.plus_zero K.one ∙ F.one_value)
 
-  -- a monomial has no other
-  monomial_alone : (m n : List ℕ) → coefficient K (monomial_poly K m) n ≢ K.zero → m ≡ n
-  unfolding coefficient
-  monomial_alone m n h =
-      elim (same_monomial m n) as (λ b. same_monomial m n ≡ b → m ≡ n) [
-        | true ↦ λ e. same_true m n e
-        | false ↦ λ e. absurd (h (ap (λ b. K.plus (cond b K.one K.zero) K.zero) e ∙ zero-plus-zero K F))
-      ] refl
-
--- a lead_monomial among monomials is that of a generator
+-- a lead among monomials is that of a generator
 lead_of_generator : {E : Type 0} (K : FieldOps E) (fs : List (Polynomial E)) → AreMonomials K fs → (m : List ℕ) → Contains (leads_of fs) m → Contains fs (monomial_poly K m)
 lead_of_generator K [] M m h = absurd (contains_none m h)
 lead_of_generator K ([] ∷ fs) M m h = contains_there [] fs (monomial_poly K m) (lead_of_generator K fs (λ f c. M f (contains_there [] fs f c)) m h)
@@ -141,14 +113,14 @@ lead_of_generator {E = E} K ((t ∷ p) ∷ fs) M m h =
         (M (t ∷ p) (contains_here (t ∷ p) fs))
 
 generators_generated : {E : Type 0} (fs : List (Polynomial E)) (K : FieldOps E) → AreMonomials K fs → (G : List (List ℕ)) → ((m : List ℕ) → Contains (leads_of fs) m → Contains G m) →
-    (f : Polynomial E) → Contains fs f → AllGenerated G f
+    (f : Polynomial E) → Contains fs f → AllAt (IsGenerated G) f
 generators_generated [] K M G w f c = absurd (contains_none f c)
 generators_generated ([] ∷ fs) K M G w f c =
-    ⊎_elim (λ e. subst (AllGenerated G) e tt) (λ k. generators_generated fs K (λ g i. M g (contains_there [] fs g i)) G w f k) (contains_cases [] fs f c)
+    ⊎_elim (λ e. subst (AllAt (IsGenerated G)) e tt) (λ k. generators_generated fs K (λ g i. M g (contains_there [] fs g i)) G w f k) (contains_cases [] fs f c)
 generators_generated ((t ∷ p) ∷ fs) K M G w f c =
     ⊎_elim
-    (λ e. subst (AllGenerated G) e (⊎_elim (λ z. absurd cc)
-    (λ r. subst (AllGenerated G) (sym r.1) (generated_member G r.0 (subst (Contains G) (ap lead_monomial r.1) (w t.at (contains_here t.at (leads_of fs)))), tt))
+    (λ e. subst (AllAt (IsGenerated G)) e (⊎_elim (λ z. absurd cc)
+    (λ r. subst (AllAt (IsGenerated G)) (sym r.1) (generated_member G r.0 (subst (Contains G) (ap lead_monomial r.1) (w t.at (contains_here t.at (leads_of fs)))), tt))
     (M (t ∷ p) (contains_here (t ∷ p) fs))))
     (λ k. generators_generated fs K (λ g i. M g (contains_there (t ∷ p) fs g i)) G (λ m i. w m (contains_there t.at (leads_of fs) m i)) f k)
     (contains_cases (t ∷ p) fs f c)
@@ -161,7 +133,7 @@ map-lead : {E : Type 0} (K : FieldOps E) (ks : List (List ℕ)) → map lead_mon
 map-lead K [] = refl
 map-lead K (k ∷ ks) = ap (λ l. k ∷ l) (map-lead K ks)
 
--- where the ideal has no generator, its members are zero
+-- if the ideal has no generator, its members are zero
 in_nothing : {E : Type 0} (K : FieldOps E) (n : ℕ) (rs : List (Polynomial E)) (a : Polynomial E) → rs ≡ [] → InIdeal K n rs a → Same K a []
 in_nothing {E = E} K n rs a none h = by_parts h.parts h.multiples h.sums
   where
@@ -183,8 +155,8 @@ module _ {E : Type 0} (P : Presented E) (H : IsPresentation P) (none : P.ideal �
       let w = h.inside.witness in
       let same : Same P.field h.member (value P.field w P.generators) =
       minus_zero P.field H.field h.member (value P.field w P.generators) (in_nothing P.field P.order.places P.ideal (minus P.field h.member (value P.field w P.generators)) none h.inside.inside) in
-      generated_found P.field (leads_of P.generators) H.field (value P.field w P.generators) m
-      (generated_value P.field (leads_of P.generators) w P.generators (generators_generated P.generators P.field M (leads_of P.generators) (λ n c. c)))
+      all_found P.field H.field P.order H.order (IsGenerated (leads_of P.generators)) (value P.field w P.generators)
+      (generated_value P.field (leads_of P.generators) w P.generators (generators_generated P.generators P.field M (leads_of P.generators) (λ n c. c))) m
       (λ z. h.leads.nonzero (same m ∙ z))
 
   generator_of : (m : List ℕ) → Contains (leads_of P.generators) m → IsGenerator P.field P.order (monomial_poly P.field m)
@@ -222,24 +194,19 @@ module _ {E : Type 0} (P : Presented E) (H : IsPresentation P) (none : P.ideal �
         monic = coefficient_monomial P.field H.field m;
         homogeneous = record {
           some = (m, λ z. H.field.one_not_zero (sym (coefficient_monomial P.field H.field m) ∙ z));
-          each = λ n h. ap P.order.degree (sym (monomial_alone P.field H.field m n h));
+          each = λ n h. ap P.order.degree (sym (single_term P.field H.field m P.field.one n h));
         };
         at_least = factor.positive;
         at_most = l;
-        standard = λ n h. subst (IsStandard P) (monomial_alone P.field H.field m n h) (standard m factor.monomial);
-        tail = λ n h ne. absurd (ne (sym (monomial_alone P.field H.field m n h)));
+        standard = λ n h. subst (IsStandard P) (single_term P.field H.field m P.field.one n h) (standard m factor.monomial);
+        tail = λ n h ne. absurd (ne (sym (single_term P.field H.field m P.field.one n h)));
       }
 
-  rise_of : (ks : List (List ℕ)) → Rises P.order ks → IsIncreasing P.order ks
-  rise_of [] h = tt
-  rise_of (k ∷ []) h = tt
-  rise_of (k ∷ (l ∷ ks)) h = (h.0, rise_of (l ∷ ks) h.1)
-
-  -- the generators that are needed are the reduced basis
-  pub monomial_basis : (c : ℕ) (ks : List (List ℕ)) → Rises P.order ks → ((m : List ℕ) → Contains ks m → Contains (leads_of P.generators) m × (P.order.degree m ≤ c)) → IsMinimal ks →
+  -- the minimal generators are the reduced basis
+  pub monomial_basis : (c : ℕ) (ks : List (List ℕ)) → IsIncreasing P.order ks → ((m : List ℕ) → Contains ks m → Contains (leads_of P.generators) m × (P.order.degree m ≤ c)) → IsMinimal ks →
       ((m : List ℕ) → Contains (leads_of P.generators) m → P.order.degree m ≤ c → IsGenerated ks m) → IsReducedBasis P c (map (monomial_poly P.field) ks)
-  monomial_basis c ks rises members minimal generates = record {
-    increasing = subst (IsIncreasing P.order) (sym (map-lead P.field ks)) (rise_of ks rises);
+  monomial_basis c ks increasing members minimal generates = record {
+    increasing = subst (IsIncreasing P.order) (sym (map-lead P.field ks)) increasing;
     elements = λ s i. let r = map_contains (monomial_poly P.field) ks s i in
         let k = members r.0 r.1 in
         subst (IsElement P c) r.2 (element c r.0 k.0 k.1);
@@ -276,7 +243,7 @@ pub leads_small : {E : Type 0} (K : FieldOps E) (O : MonomialOrder) (fs : List (
 leads_small K O [] h m c = absurd (contains_none m c)
 leads_small K O ([] ∷ fs) h m c = leads_small K O fs h.1 m c
 leads_small K O ((t ∷ f) ∷ fs) h m c =
-    ⊎_elim (λ e. subst (λ x. O.degree x ≤ 65535) e h.0.kept.small.0) (λ k. leads_small K O fs h.1 m k) (contains_cases t.at (leads_of fs) m c)
+    ⊎_elim (λ e. subst (λ x. O.degree x ≤ 65535) e h.0.canonical.small.0) (λ k. leads_small K O fs h.1 m k) (contains_cases t.at (leads_of fs) m c)
 
 pub polynomials_more : {E : Type 0} (K : FieldOps E) → IsField K → (ms : List (List ℕ)) (ps qs : List (Polynomial E)) (m : List ℕ) (c : E) (p : Polynomial E) → c ≡ K.one →
     (c ≢ K.zero → p ≡ term_of m c ∷ []) → ps ≡ map (monomial_poly K) ms → qs ≡ ps ++ (p ∷ []) → qs ≡ map (monomial_poly K) (ms ++ (m ∷ []))

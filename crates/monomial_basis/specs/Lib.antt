@@ -1,3 +1,3 @@
 pub mod Products
-pub mod Kept
+pub mod MinimalGenerators
 pub mod MonomialGenerators

@@ -1,14 +1,16 @@
 //! Whether a monomial is a product of others.
-ghost use Rattle.std.specs.Prelude.{◌≡◌, ◌≢◌, ℕ, ◌+◌, ◌<◌, ◌≤◌, ◌↔◌, ◌⊎◌, List, [], length, false, Contains, IsTrue, IfOk, OnOk, IfSome, IsNone};
-ghost use Rattle.monomial_order.specs.Monomial.{exponent, product, Divides, IsMonomial, IsTrimmed};
+ghost use Rattle.std.specs.Prelude.{◌≡◌, ◌≢◌, ℕ, ◌+◌, ◌<◌, ◌≤◌, ◌↔◌, ◌⊎◌, [], length, false, Contains, IsTrue, IfOk, OnOk, IfSome, IsNone};
+ghost use Rattle.monomial_order.specs.Limits.{exponent_max};
+ghost use Rattle.monomial_order.specs.Monomial.{Exponents, exponent, product, Divides, IsMonomial, IsTrimmed};
 ghost use Rattle.polynomials.specs.Subalgebra.{IsGenerated};
-ghost use Rattle.monomial_basis.specs.Products.{AreFactors, Waits, IsQuotient, SomeWaits};
+ghost use Rattle.monomial_basis.specs.Products.{AreFactors, IsDividend, IsPending, IsQuotient, SomePending};
 
 use monomial_order::{Memory, Monomial, Order};
 use std::alloc::Global;
 use std::mem;
 
-/// Whether the monomial is a product of the factors. Quotients wait by their degrees, each once.
+/// Whether the monomial is a product of the factors. The quotients that are still to be divided are listed by degree,
+/// each once.
 pub fn is_product<O: Order>(
     alloc: Global,
     o: &O,
@@ -17,17 +19,17 @@ pub fn is_product<O: Order>(
 ) -> Result<bool, Memory>
     requires factors { AreFactors (O.order o.now) factors.now }
     requires monomial { IsMonomial (O.order o.now).places m.now }
-    requires small { (O.order o.now).degree m.now ≤ 65535 }
+    requires small { (O.order o.now).degree m.now ≤ exponent_max }
     ensures { IfOk result (λ b. IsTrue b ↔ IsGenerated factors.now m.now) }
 {
     if m.places() == 0 {
         return Ok(true);
     }
     let degree = o.degree(m) as usize;
-    let mut waiting = empty_lists(alloc, degree + 1)?;
-    add(&mut waiting, degree, m.copy(alloc)?)?;
+    let mut pending = empty_lists(alloc, degree + 1)?;
+    add(&mut pending, degree, m.copy(alloc)?)?;
     for i in 0..degree {
-        if divide_waiting(alloc, o, factors, &mut waiting, degree - i)? {
+        if divide_pending(alloc, o, factors, &mut pending, degree - i)? {
             return Ok(true);
         }
     }
@@ -37,7 +39,7 @@ pub fn is_product<O: Order>(
 /// So many empty lists.
 fn empty_lists(alloc: Global, n: usize) -> Result<Vec<Vec<Monomial>>, Memory>
     ensures long { IfOk result (λ lists. length lists.items ≡ n) }
-    ensures empty { IfOk result (λ lists. (e : ℕ) (k : List ℕ) → Waits lists.items e k → ⊥) }
+    ensures empty { IfOk result (λ lists. (e : ℕ) (k : Exponents) → IsPending lists.items e k → ⊥) }
 {
     let mut lists = Vec::new(alloc);
     for _ in 0..n {
@@ -46,70 +48,72 @@ fn empty_lists(alloc: Global, n: usize) -> Result<Vec<Vec<Monomial>>, Memory>
     Ok(lists)
 }
 
-/// Takes the monomials of the degree out of those that wait, and puts their quotients there; true where
-/// one of these is 1.
-fn divide_waiting<O: Order>(
+/// Takes the monomials of the degree out of the pending ones, and adds their quotients. Answers whether one of these
+/// is 1.
+fn divide_pending<O: Order>(
     alloc: Global,
     o: &O,
     factors: &[Monomial],
-    waiting: &mut Vec<Vec<Monomial>>,
+    pending: &mut Vec<Vec<Monomial>>,
     degree: usize,
 ) -> Result<bool, Memory>
     requires factors { AreFactors (O.order o.now) factors.now }
-    requires room { degree < length waiting.old.items }
-    requires positive { 1 ≤ degree }
-    requires small { degree ≤ 65535 }
-    requires monomials { (m : List ℕ) → Waits waiting.old.items degree m → IsMonomial (O.order o.now).places m × ((O.order o.now).degree m ≡ degree) }
-    ensures yes { IfOk result (λ b. IsTrue b → (m : List ℕ) × Waits waiting.old.items degree m × IsGenerated factors.now m) }
-    ensures no { IfOk result (λ b. b ≡ false → SomeWaits (O.order o.now) factors.now waiting.old.items (degree + 1)
-        → SomeWaits (O.order o.now) factors.now waiting.new.items degree) }
-    ensures long { OnOk result (length waiting.new.items ≡ length waiting.old.items) }
-    ensures others { OnOk result ((e : ℕ) (k : List ℕ) → Waits waiting.new.items e k → Waits waiting.old.items e k
-        ⊎ ((m : List ℕ) × Waits waiting.old.items degree m × IsQuotient (O.order o.now) factors.now m e k)) }
+    requires room { degree < length pending.old.items }
+    requires small { (1 ≤ degree) × (degree ≤ exponent_max) }
+    requires monomials { (m : Exponents) → IsPending pending.old.items degree m
+        → IsMonomial (O.order o.now).places m × ((O.order o.now).degree m ≡ degree) }
+    ensures yes { IfOk result (λ b. IsTrue b
+        → (m : Exponents) × IsPending pending.old.items degree m × IsGenerated factors.now m) }
+    ensures no { IfOk result (λ b. b ≡ false → SomePending (O.order o.now) factors.now pending.old.items (degree + 1)
+        → SomePending (O.order o.now) factors.now pending.new.items degree) }
+    ensures long { OnOk result (length pending.new.items ≡ length pending.old.items) }
+    ensures others { OnOk result ((e : ℕ) (k : Exponents) → IsPending pending.new.items e k
+        → IsPending pending.old.items e k
+        ⊎ ((m : Exponents) × IsPending pending.old.items degree m × IsQuotient (O.order o.now) factors.now m e k)) }
 {
-    let monomials = take(alloc, waiting, degree);
+    let monomials = take_degree(alloc, pending, degree);
     for m in &monomials {
-        if divide(alloc, o, factors, m, waiting)? {
+        if divide(alloc, o, factors, m, pending)? {
             return Ok(true);
         }
     }
     Ok(false)
 }
 
-/// Takes the monomials of the degree out of those that wait, each once.
-fn take(alloc: Global, waiting: &mut Vec<Vec<Monomial>>, degree: usize) -> Vec<Monomial>
-    requires { degree < length waiting.old.items }
-    ensures taken { (k : List ℕ) → Contains result.items k → Waits waiting.old.items degree k }
-    ensures long { length waiting.new.items ≡ length waiting.old.items }
-    ensures others { (e : ℕ) (k : List ℕ) → Waits waiting.new.items e k → Waits waiting.old.items e k }
-    ensures parted { (e : ℕ) (k : List ℕ) → Waits waiting.old.items e k
-        → ((e ≢ degree) × Waits waiting.new.items e k) ⊎ ((e ≡ degree) × Contains result.items k) }
+/// Takes the monomials of the degree out of the pending ones, each once.
+fn take_degree(alloc: Global, pending: &mut Vec<Vec<Monomial>>, degree: usize) -> Vec<Monomial>
+    requires { degree < length pending.old.items }
+    ensures taken { (k : Exponents) → Contains result.items k → IsPending pending.old.items degree k }
+    ensures long { length pending.new.items ≡ length pending.old.items }
+    ensures others { (e : ℕ) (k : Exponents) → IsPending pending.new.items e k → IsPending pending.old.items e k }
+    ensures parted { (e : ℕ) (k : Exponents) → IsPending pending.old.items e k
+        → ((e ≢ degree) × IsPending pending.new.items e k) ⊎ ((e ≡ degree) × Contains result.items k) }
 {
-    let mut monomials = mem::replace(&mut waiting[degree], Vec::new(alloc));
+    let mut monomials = mem::replace(&mut pending[degree], Vec::new(alloc));
     drop_repeats(&mut monomials);
     monomials
 }
 
-/// Puts the quotients of the monomial by the factors that have its last place among those that wait; true where one of
-/// them is 1. A product has such a factor, so the others can come later.
+/// Adds the quotients of the monomial by the factors that have its last place. Answers whether one of them is 1. A
+/// product has such a factor, so the others can come later.
 fn divide<O: Order>(
     alloc: Global,
     o: &O,
     factors: &[Monomial],
     m: &Monomial,
-    waiting: &mut Vec<Vec<Monomial>>,
+    pending: &mut Vec<Vec<Monomial>>,
 ) -> Result<bool, Memory>
     requires factors { AreFactors (O.order o.now) factors.now }
-    requires monomial { IsMonomial (O.order o.now).places m.now }
-    requires positive { 1 ≤ (O.order o.now).degree m.now }
-    requires small { (O.order o.now).degree m.now ≤ 65535 }
-    requires room { (O.order o.now).degree m.now ≤ length waiting.old.items }
+    requires dividend { IsDividend (O.order o.now) m.now }
+    requires room { (O.order o.now).degree m.now ≤ length pending.old.items }
     ensures yes { IfOk result (λ b. IsTrue b → IsGenerated factors.now m.now) }
-    ensures no { IfOk result (λ b. b ≡ false → IsGenerated factors.now m.now → SomeWaits (O.order o.now) factors.now waiting.new.items ((O.order o.now).degree m.now)) }
-    ensures long { OnOk result (length waiting.new.items ≡ length waiting.old.items) }
-    ensures keeps { OnOk result ((e : ℕ) (k : List ℕ) → Waits waiting.old.items e k → Waits waiting.new.items e k) }
-    ensures others { OnOk result ((e : ℕ) (k : List ℕ) → Waits waiting.new.items e k → Waits waiting.old.items e k
-        ⊎ IsQuotient (O.order o.now) factors.now m.now e k) }
+    ensures no { IfOk result (λ b. b ≡ false → IsGenerated factors.now m.now
+        → SomePending (O.order o.now) factors.now pending.new.items ((O.order o.now).degree m.now)) }
+    ensures long { OnOk result (length pending.new.items ≡ length pending.old.items) }
+    ensures keeps { OnOk result ((e : ℕ) (k : Exponents) → IsPending pending.old.items e k
+        → IsPending pending.new.items e k) }
+    ensures others { OnOk result ((e : ℕ) (k : Exponents) → IsPending pending.new.items e k
+        → IsPending pending.old.items e k ⊎ IsQuotient (O.order o.now) factors.now m.now e k) }
 {
     let place = m.places() - 1;
     for factor in factors {
@@ -118,13 +122,13 @@ fn divide<O: Order>(
                 return Ok(true);
             }
             let degree = o.degree(&quotient) as usize;
-            add(waiting, degree, quotient)?;
+            add(pending, degree, quotient)?;
         }
     }
     Ok(false)
 }
 
-/// The cofactor of a factor that has the place, where the factor divides the monomial.
+/// The cofactor of a factor, if the factor has the place and divides the monomial.
 fn quotient_with(
     alloc: Global,
     m: &Monomial,
@@ -142,21 +146,22 @@ fn quotient_with(
 }
 
 /// Puts a monomial into the list of its degree.
-fn add(waiting: &mut Vec<Vec<Monomial>>, degree: usize, m: Monomial) -> Result<(), Memory>
-    requires { degree < length waiting.old.items }
-    ensures has { OnOk result (Waits waiting.new.items degree m) }
-    ensures long { length waiting.new.items ≡ length waiting.old.items }
-    ensures keeps { (e : ℕ) (k : List ℕ) → Waits waiting.old.items e k → Waits waiting.new.items e k }
-    ensures others { (e : ℕ) (k : List ℕ) → Waits waiting.new.items e k → Waits waiting.old.items e k ⊎ ((e ≡ degree) × (k ≡ m)) }
+fn add(pending: &mut Vec<Vec<Monomial>>, degree: usize, m: Monomial) -> Result<(), Memory>
+    requires { degree < length pending.old.items }
+    ensures has { OnOk result (IsPending pending.new.items degree m) }
+    ensures long { length pending.new.items ≡ length pending.old.items }
+    ensures keeps { (e : ℕ) (k : Exponents) → IsPending pending.old.items e k → IsPending pending.new.items e k }
+    ensures others { (e : ℕ) (k : Exponents) → IsPending pending.new.items e k
+        → IsPending pending.old.items e k ⊎ ((e ≡ degree) × (k ≡ m)) }
 {
-    put(&mut waiting[degree], m)
+    put(&mut pending[degree], m)
 }
 
 /// Puts a monomial at the end of a list.
 fn put(list: &mut Vec<Monomial>, m: Monomial) -> Result<(), Memory>
     ensures has { OnOk result (Contains list.new.items m) }
-    ensures keeps { (k : List ℕ) → Contains list.old.items k → Contains list.new.items k }
-    ensures others { (k : List ℕ) → Contains list.new.items k → Contains list.old.items k ⊎ (k ≡ m) }
+    ensures keeps { (k : Exponents) → Contains list.old.items k → Contains list.new.items k }
+    ensures others { (k : Exponents) → Contains list.new.items k → Contains list.old.items k ⊎ (k ≡ m) }
 {
     make_room(list)?;
     list.push(m)?;
@@ -165,8 +170,8 @@ fn put(list: &mut Vec<Monomial>, m: Monomial) -> Result<(), Memory>
 
 /// Drops the repeats of a full list, and makes room for as many again as are left.
 fn make_room(list: &mut Vec<Monomial>) -> Result<(), Memory>
-    ensures keeps { (k : List ℕ) → Contains list.old.items k → Contains list.new.items k }
-    ensures others { (k : List ℕ) → Contains list.new.items k → Contains list.old.items k }
+    ensures keeps { (k : Exponents) → Contains list.old.items k → Contains list.new.items k }
+    ensures others { (k : Exponents) → Contains list.new.items k → Contains list.old.items k }
 {
     if list.len() < list.capacity() {
         return Ok(());
@@ -179,8 +184,8 @@ fn make_room(list: &mut Vec<Monomial>) -> Result<(), Memory>
 
 /// Sorts a list and drops its repeats.
 fn drop_repeats(list: &mut Vec<Monomial>)
-    ensures keeps { (k : List ℕ) → Contains list.old.items k → Contains list.new.items k }
-    ensures others { (k : List ℕ) → Contains list.new.items k → Contains list.old.items k }
+    ensures keeps { (k : Exponents) → Contains list.old.items k → Contains list.new.items k }
+    ensures others { (k : Exponents) → Contains list.new.items k → Contains list.old.items k }
 {
     list.sort_unstable_by(|a, b| a.as_slice().cmp(&b.as_slice()));
     list.dedup();

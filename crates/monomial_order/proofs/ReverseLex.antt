@@ -8,6 +8,7 @@ use Rattle.std.specs.Ordering.{nat_cmp, ordering_then}
 use Rattle.std.specs.declared.cmp.Ordering.{Ordering}
 use Rattle.std.specs.declared.cmp.Ordering.TheVariants.{Less, Equal, Greater}
 use Rattle.monomial_order.specs.Orders.{reverse_lex}
+use Rattle.monomial_order.specs.laws.Comparing.{cmp_greater}
 
 then_assoc : (o p q : Ordering) → ordering_then (ordering_then o p) q ≡ ordering_then o (ordering_then p q)
 then_assoc Less p q = refl
@@ -32,9 +33,6 @@ shorter (a ∷ m) (b ∷ n) h = ap (λ o. ordering_then o (nat_cmp b a)) (shorte
 
 cmp_less : (x y : ℕ) → x < y → nat_cmp x y ≡ Less
 cmp_less x y h = grind (arith, nat_tests)
-
-cmp_greater : (x y : ℕ) → y < x → nat_cmp x y ≡ Greater
-cmp_greater x y h = grind (arith, nat_tests)
 
 apart : (x y : ℕ) → x ≢ y → (x < y) ⊎ (y < x)
 apart x y h = grind arith

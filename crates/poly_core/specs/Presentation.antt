@@ -2,7 +2,6 @@
 use Rattle.std.specs.Prelude.{◌≡◌, ℕ, ◌≤◌, ◌⊎◌, List, [], ◌∷◌, length, map}
 use Rattle.word_field.specs.Field.{FieldOps}
 use Rattle.monomial_order.specs.Limits.{degree_max}
-use Rattle.monomial_order.specs.declared.terms.Term.{Term}
 use Rattle.monomial_order.specs.declared.weight_order.WeightOrder.{WeightOrder}
 use Rattle.monomial_order.specs.MonomialOrder.{MonomialOrder}
 use Rattle.monomial_order.specs.Orders.{weight_order}

@@ -93,21 +93,3 @@ impl NameTable {
         })
     }
 }
-
-#[cfg(test)]
-mod tests {
-    use super::*;
-    use std::test::Fail;
-
-    #[test]
-    fn each_name_has_one_place(rt: HostRuntime) -> Result<(), Fail> {
-        let mut table = NameTable::new(rt.alloc());
-        assert!(rt; table.push("x")?);
-        assert!(rt; !table.push("x")?);
-        assert_eq!(rt; table.place("x"), Some(0));
-        assert_eq!(rt; table.place("w"), None);
-        assert_eq!(rt; table.len(), 1);
-        assert_eq!(rt; table.name(0), "x");
-        Ok(())
-    }
-}

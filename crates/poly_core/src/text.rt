@@ -6,6 +6,7 @@ ghost use Rattle.word_field.specs.Field.{IsValue};
 ghost use Rattle.poly_core.specs.Text.{factor_text, factors_text, monomial_text, term_text, poly_text, AreValues, AreNamed};
 
 use crate::{Names, Poly};
+use itoa::Buffer;
 use monomial_order::{Memory, Monomial, Term};
 use std::alloc::Global;
 use word_field::Field;
@@ -27,10 +28,8 @@ fn push_bytes(out: &mut Vec<u8>, bytes: &[u8]) -> Result<(), Memory>
 fn push_decimal(out: &mut Vec<u8>, n: u64) -> Result<(), Memory>
     ensures { OnOk result (out.new.items ≡ out.old.items ++ decimal n) }
 {
-    if n >= 10 {
-        push_decimal(out, n / 10)?;
-    }
-    push_byte(out, b'0' + (n % 10) as u8)
+    let mut digits = Buffer::new();
+    push_bytes(out, digits.format(n).as_bytes())
 }
 
 /// A letter and a number.

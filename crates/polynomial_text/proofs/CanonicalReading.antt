@@ -14,14 +14,15 @@ use Rattle.polynomials.specs.Polynomial.{Polynomial, term_of, term_times, coeffi
 use Rattle.poly_core.specs.Text.{poly_text, AreNamed}
 use Rattle.polynomials.specs.laws.Decreasing.{IsDecreasing_unique}
 use Rattle.polynomials.specs.laws.Degrees.{all_found, decreasing_all}
-use Rattle.polynomial_text.specs.declared.text_kind.TextKind.{TextKind}
-use Rattle.polynomial_text.specs.declared.text_kind.TextKind.TheVariants.{PolySyntax, DegreeTooLarge}
+use Rattle.polynomial_text.specs.declared.line_fault.LineKind.{LineKind}
+use Rattle.polynomial_text.specs.declared.line_fault.LineKind.TheVariants.{PolySyntax, DegreeTooLarge}
 use Rattle.polynomial_text.specs.Results.{◌>>=◌, along, each}
-use Rattle.polynomial_text.specs.Blanks.{is_blank}
-use Rattle.polynomial_text.specs.Digits.{is_digit}
-use Rattle.polynomial_text.specs.PolyLine.{front, behind, number_at, exponent_at, power, place_of, is_named, power_at, factor_at, with_factor, term_at, behind_sign, signed_parts, terms_of, IsPolyOf}
-use Rattle.polynomial_text.specs.Canonical.{AreDifferent, IsCanonical}
-use Rattle.polynomial_text.specs.CanonicalPoly.{canonical_terms}
+use Rattle.monomial_order.specs.Limits.{degree_max}
+use Rattle.polynomial_text.specs.Degrees.{IsLow}
+use Rattle.polynomial_text.specs.Bytes.{is_blank, is_digit, front, behind}
+use Rattle.polynomial_text.specs.PolyLine.{number_at, exponent_at, power, place_of, is_named, power_at, factor_at, with_factor, term_at, behind_sign, signed_parts, terms_of, IsPolyOf}
+use Rattle.polynomial_text.specs.Canonical.{AreDifferent, IsCanonicalText}
+use Rattle.polynomial_text.specs.laws.CanonicalPoly.{canonical_terms}
 
 -- the value of a step that did not fail
 step_ok : {A B G : Type 0} (r : Result A G) (f : A → Result B G) (y : B) → (r >>= f) ≡ Ok y → (x : A) × (r ≡ Ok x) × (f x ≡ Ok y)
@@ -35,14 +36,14 @@ chosen false r g y e = absurd cc
 same_ok : {A G : Type 0} (x y : A) → ◌≡◌ {A = Result A G} (Ok x) (Ok y) → x ≡ y
 same_ok x y e = cc
 
--- what each step keeps, holds in the end
+-- what no step changes holds in the end
 module _ {S X G : Type 0} (step : S → X → Result S G) (P : S → Type 0) where
   along_keeps : ((s : S) (x : X) (u : S) → P s → step s x ≡ Ok u → P u) → (s : S) (xs : List X) (t : S) → P s → along step s xs ≡ Ok t → P t
   unfolding along
   along_keeps f s [] t p e = subst P (same_ok s t e) p
   along_keeps f s (x ∷ xs) t p e = let n = step_ok (step s x) (λ u. along step u xs) t e in along_keeps f n.0 xs t (f s x n.0 p n.1) n.2
 
-  -- also where each step makes it so
+  -- also if each step makes it so
   along_makes : ((s : S) (x : X) (u : S) → step s x ≡ Ok u → P u) → (s : S) (xs : List X) (t : S) → 1 ≤ length xs → along step s xs ≡ Ok t → P t
   unfolding along
   along_makes f s [] t some e = absurd (omega arith)
@@ -81,7 +82,7 @@ module _ {E : Type 0} (K : FieldOps E) (O : MonomialOrder) (names : Names) where
   -- a monomial that a text may have
   record IsReadable (m : List ℕ) : Type 0 where
     named : IsNamed names m
-    small : O.degree m ≤ 30000
+    small : O.degree m ≤ degree_max
 
   factor_named : (bytes : List ℕ) (x : Term E × List ℕ) → factor_at K O names bytes ≡ Ok x → IsNamed names x.0.at
   unfolding factor_at power_at
@@ -92,7 +93,7 @@ module _ {E : Type 0} (K : FieldOps E) (O : MonomialOrder) (names : Names) where
         | false ↦ λ h. let g = chosen (is_letter b) (power_at K O names (b ∷ bytes)) PolySyntax x h in placed (place_of names O.places (front is_name_byte (b ∷ bytes))) refl g.1
       ] e
     where
-      number : (r : Result (ℕ × List ℕ) TextKind) → (r >>= λ n. Ok (term_of [] (K.of_word n.0), n.1)) ≡ Ok x → IsNamed names x.0.at
+      number : (r : Result (ℕ × List ℕ) LineKind) → (r >>= λ n. Ok (term_of [] (K.of_word n.0), n.1)) ≡ Ok x → IsNamed names x.0.at
       number r h =
           let n = step_ok r (λ n. Ok (term_of [] (K.of_word n.0), n.1)) x h in
           subst (λ (y : Term E × List ℕ). IsNamed names y.0.at) (same_ok (term_of [] (K.of_word n.0.0), n.0.1) x n.2) (λ i ne. absurd (ne refl))
@@ -110,13 +111,13 @@ module _ {E : Type 0} (K : FieldOps E) (O : MonomialOrder) (names : Names) where
     factor : Term E
     named : IsNamed names factor.at
     product : u ≡ term_times K t factor
-    small : O.degree u.at ≤ 30000
+    small : O.degree u.at ≤ degree_max
 
   next_factor : (t : Term E) (part : List ℕ) (u : Term E) → with_factor K O names t part ≡ Ok u → IsNext t u
   unfolding with_factor
   next_factor t part u e = by_step (factor_at K O names (behind is_blank part)) refl e
     where
-      grown : (x : Term E × List ℕ) → IsNamed names x.0.at → (low blank : Bool) → nat_le (O.degree (product t.at x.0.at)) 30000 ≡ low →
+      grown : (x : Term E × List ℕ) → IsNamed names x.0.at → (low blank : Bool) → nat_le (O.degree (product t.at x.0.at)) degree_max ≡ low →
           cond low (cond blank (Ok (term_times K t x.0)) (Err PolySyntax)) (Err DegreeTooLarge) ≡ Ok u → IsNext t u
       grown x named low blank is h =
           let one = chosen low (cond blank (Ok (term_times K t x.0)) (Err PolySyntax)) DegreeTooLarge u h in
@@ -126,14 +127,14 @@ module _ {E : Type 0} (K : FieldOps E) (O : MonomialOrder) (names : Names) where
             factor = x.0;
             named = named;
             product = sym same;
-            small = subst (λ (v : Term E). O.degree v.at ≤ 30000) same (leb-true (O.degree (product t.at x.0.at)) 30000 (is ∙ one.0));
+            small = subst (λ (v : Term E). O.degree v.at ≤ degree_max) same (leb-true (O.degree (product t.at x.0.at)) degree_max (is ∙ one.0));
           }
 
-      by_step : (r : Result (Term E × List ℕ) TextKind) → factor_at K O names (behind is_blank part) ≡ r → with_factor K O names t part ≡ Ok u → IsNext t u
+      by_step : (r : Result (Term E × List ℕ) LineKind) → factor_at K O names (behind is_blank part) ≡ r → with_factor K O names t part ≡ Ok u → IsNext t u
       by_step (Err kind) is h = let k = rw is at h in absurd cc
       by_step (Ok x) is h =
           let k = rw is at h in
-          grown x (factor_named (behind is_blank part) x is) (nat_le (O.degree (product t.at x.0.at)) 30000) (list_all is_blank x.1) refl k
+          grown x (factor_named (behind is_blank part) x is) (nat_le (O.degree (product t.at x.0.at)) degree_max) (list_all is_blank x.1) refl k
 
   term_readable : (part : Bool × List ℕ) (t : Term E) → term_at K O names part ≡ Ok t → IsReadable t.at
   unfolding term_at
@@ -144,7 +145,7 @@ module _ {E : Type 0} (K : FieldOps E) (O : MonomialOrder) (names : Names) where
         named = along_keeps (with_factor K O names) (λ u. IsNamed names u.at)
             (λ s x u p h. let n = next_factor s x u h in subst (λ (v : Term E). IsNamed names v.at) (sym n.product) (named_product names s.at n.factor.at p n.named))
             start parts t (λ i ne. absurd (ne refl)) e;
-        small = along_makes (with_factor K O names) (λ u. O.degree u.at ≤ 30000) (λ s x u h. (next_factor s x u h).small) start parts t (omega (arith, length-slice_split (λ b. b == 42) part.1)) e;
+        small = along_makes (with_factor K O names) (λ u. O.degree u.at ≤ degree_max) (λ s x u h. (next_factor s x u h).small) start parts t (omega (arith, length-slice_split (λ b. b == 42) part.1)) e;
       }
 
   each_readable : (parts : List (Bool × List ℕ)) (ts : Polynomial E) → each (term_at K O names) parts ≡ Ok ts → AllAt IsReadable ts
@@ -163,36 +164,39 @@ module _ {E : Type 0} (K : FieldOps E) (O : MonomialOrder) (names : Names) where
   all_named [] h = tt
   all_named (t ∷ p) h = (h.0.named, all_named p h.1)
 
-  all_small : (p : Polynomial E) → AllAt IsReadable p → AllAt (λ m. O.degree m ≤ 30000) p
+  all_small : (p : Polynomial E) → AllAt IsReadable p → IsLow O p
   all_small [] h = tt
   all_small (t ∷ p) h = (h.0.small, all_small p h.1)
 
 module _ {E : Type 0} (K : FieldOps E) (F : IsField K) (O : MonomialOrder) (L : IsMonomialOrder O) (names : Names) (line : List ℕ) where
   readable : (p : Polynomial E) → IsPolyOf K O names line p → AllAt (IsReadable K O names) p
   readable p h =
-      decreasing_all K F O L (IsReadable K O names) p h.kept.decreasing
+      decreasing_all K F O L (IsReadable K O names) p h.canonical.decreasing
       (λ m ne. all_found K F O L (IsReadable K O names) h.terms (terms_readable K O names line h.terms h.read) m (λ z. ne (h.sum m ∙ z)))
 
   pub poly_named : (p : Polynomial E) → IsPolyOf K O names line p → AreNamed names p
   poly_named p h = all_named K O names p (readable p h)
 
+  pub poly_low : (p : Polynomial E) → IsPolyOf K O names line p → IsLow O p
+  poly_low p h = all_small K O names p (readable p h)
+
   -- the polynomial of a line that is its text
-  pub canonical_found : (p : Polynomial E) → IsPolyOf K O names line p → line ≡ poly_text K names p → IsCanonical K O names line p
-  canonical_found p h text = record { kept = h.kept; named = poly_named p h; small = all_small K O names p (readable p h); text = text }
+  pub canonical_found : (p : Polynomial E) → IsPolyOf K O names line p → line ≡ poly_text K names p → IsCanonicalText K O names line p
+  canonical_found p h text = record { canonical = h.canonical; named = poly_named p h; small = poly_low p h; text = text }
 
   module _ (few : K.size ≤ 2 ^ 32) (D : AreDifferent O.places names) where
     -- a line that is the text of a polynomial has no fault
-    pub canonical_no_fault : (kind : TextKind) → terms_of K O names line ≡ Err kind → (p : Polynomial E) → IsCanonical K O names line p → ⊥
+    pub canonical_no_fault : (kind : LineKind) → terms_of K O names line ≡ Err kind → (p : Polynomial E) → IsCanonicalText K O names line p → ⊥
     canonical_no_fault kind e p h =
-        let read = canonical_terms K F few O L names D p h.kept h.named h.small in
+        let read = canonical_terms K F few O L names D p h.canonical h.named h.small in
         let is : terms_of K O names line ≡ Ok read.0 = ap (terms_of K O names) h.text ∙ read.1 in
         let clash = sym e ∙ is in cc
 
     -- and no polynomial with another text
-    pub canonical_only : (p : Polynomial E) → IsPolyOf K O names line p → (q : Polynomial E) → IsCanonical K O names line q → line ≡ poly_text K names p
+    pub canonical_only : (p : Polynomial E) → IsPolyOf K O names line p → (q : Polynomial E) → IsCanonicalText K O names line q → line ≡ poly_text K names p
     canonical_only p h q k =
-        let read = canonical_terms K F few O L names D q k.kept k.named k.small in
+        let read = canonical_terms K F few O L names D q k.canonical k.named k.small in
         let is : terms_of K O names line ≡ Ok read.0 = ap (terms_of K O names) k.text ∙ read.1 in
         let same : h.terms ≡ read.0 = same_ok h.terms read.0 (sym h.read ∙ is) in
-        let one : p ≡ q = IsDecreasing_unique K F O L p q h.kept.decreasing k.kept.decreasing (λ m. h.sum m ∙ (ap (λ ts. coefficient K ts m) same ∙ sym (read.2 m))) in
+        let one : p ≡ q = IsDecreasing_unique K F O L p q h.canonical.decreasing k.canonical.decreasing (λ m. h.sum m ∙ (ap (λ ts. coefficient K ts m) same ∙ sym (read.2 m))) in
         k.text ∙ ap (poly_text K names) (sym one)

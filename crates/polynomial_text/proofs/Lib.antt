@@ -1,7 +1,7 @@
 pub mod CanonicalReading
+pub mod Fronts
 pub mod LineAlong
 pub mod LineDigits
-pub mod LineFronts
 pub mod LineParts
 pub mod LinePlaces
 pub mod LinePowers

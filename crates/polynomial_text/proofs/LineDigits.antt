@@ -1,20 +1,18 @@
--- Numbers of at most 18 digits.
-use Rattle.std.proofs.Common.{◌≡◌, ℕ, zero, suc, ◌+◌, ◌-◌, ◌*◌, ◌<◌, ◌≤◌, Bool, true, false, ◌&&◌, List, [], ◌∷◌, length, take, get_or, refl, arith}
+-- Numbers of at most digits_max digits.
+use Rattle.std.proofs.Common.{◌≡◌, ℕ, zero, suc, ◌+◌, ◌-◌, ◌*◌, ◌<◌, ◌≤◌, true, List, [], ◌∷◌, length, take, get_or, arith}
 use Rattle.std.specs.List.{list_all}
 use Rattle.std.specs.Char.{digit_value}
 use Rattle.std.specs.Str.Parse.{digits_value, AllDigits}
+use Rattle.std.proofs.lemmas.Bool.{and_parts}
 use Rattle.std.proofs.lemmas.Bool.Decides.{nat_tests}
 use Rattle.std.proofs.lemmas.Int.Digits.{digits_value_more}
+use Rattle.std.proofs.lemmas.List.{length-take}
 use Rattle.std.proofs.lemmas.Str.{digit_value_digit}
 use Rattle.std.proofs.lemmas.Str.Parse.{IsNumeralModel, numerals_by_value, tells_digits, digits_value_short, digit_at}
-use Rattle.polynomial_text.specs.Digits.{is_digit}
+use Rattle.polynomial_text.specs.Bytes.{digits_max, is_digit}
 
 pub own : IsNumeralModel (AllDigits 10) (digits_value 10)
 own = numerals_by_value (AllDigits 10) tells_digits
-
-pub both : (a b : Bool) → (a && b) ≡ true → (a ≡ true) × (b ≡ true)
-both true b e = (refl, e)
-both false b e = absurd cc
 
 digit_low : (c : ℕ) → is_digit c ≡ true → digit_value c < 10
 digit_low c e = grind (arith, nat_tests)
@@ -22,20 +20,15 @@ digit_low c e = grind (arith, nat_tests)
 -- digits by the test are digits of std
 pub are_digits : (ds : List ℕ) → list_all is_digit ds ≡ true → AllDigits 10 ds
 are_digits [] e = tt
-are_digits (d ∷ ds) e = let h = both (is_digit d) (list_all is_digit ds) e in (digit_low d h.0, are_digits ds h.1)
+are_digits (d ∷ ds) e = let h = and_parts (is_digit d) (list_all is_digit ds) e in (digit_low d h.0, are_digits ds h.1)
 
-pub digits_take : (ds : List ℕ) (i : ℕ) → AllDigits 10 ds → AllDigits 10 (take i ds)
+digits_take : (ds : List ℕ) (i : ℕ) → AllDigits 10 ds → AllDigits 10 (take i ds)
 digits_take ds zero all = tt
 digits_take [] (suc i) all = tt
 digits_take (d ∷ ds) (suc i) all = (all.0, digits_take ds i all.1)
 
-length-take-le : (ds : List ℕ) (i : ℕ) → length (take i ds) ≤ i
-length-take-le ds zero = omega arith
-length-take-le [] (suc i) = omega arith
-length-take-le (d ∷ ds) (suc i) = let h = length-take-le ds i in omega arith
-
-pub value_room : (ds : List ℕ) (i : ℕ) → list_all is_digit ds ≡ true → length ds ≤ 18 → i < length ds → digits_value 10 (take i ds) < 100000000000000000
-value_room ds i e short lt = digits_value_short own (take i ds) 17 (digits_take ds i (are_digits ds e)) (let h = length-take-le ds i in omega arith)
+pub value_room : (ds : List ℕ) (i : ℕ) → list_all is_digit ds ≡ true → length ds ≤ digits_max → i < length ds → digits_value 10 (take i ds) < 100000000000000000
+value_room ds i e short lt = digits_value_short own (take i ds) 17 (digits_take ds i (are_digits ds e)) (omega (arith, length-take i ds))
 
 -- one more digit
 pub value_next : (ds : List ℕ) (i : ℕ) → list_all is_digit ds ≡ true → i < length ds → digits_value 10 (take i ds) * 10 + (get_or ds i 0 - 48) ≡ digits_value 10 (take (i + 1) ds)

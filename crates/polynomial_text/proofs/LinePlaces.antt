@@ -1,108 +1,45 @@
 -- The place of a name, and numbers in names.
-use Rattle.std.proofs.Common.{◌≡◌, ◌≢◌, ℕ, zero, suc, ◌+◌, ◌-◌, ◌<◌, ◌≤◌, ◌^◌, Bool, true, false, cond, ltb, List, [], ◌∷◌, length, take, drop, get_or, Option, Some, None, Result, Ok, Err, IfSome, IsNone, refl, sym, ap, subst, ◌∙◌, arith, ◌⊎◌, inl, inr, ⊎_elim}
-use Rattle.std.specs.Prelude.{slice_get, IsSome, Contains}
+use Rattle.std.proofs.Common.{◌≡◌, ◌≢◌, ℕ, zero, suc, ◌+◌, ◌-◌, ◌<◌, ◌≤◌, ◌^◌, true, false, cond, ltb, List, [], ◌∷◌, length, take, drop, get_or, Option, Some, None, Result, Ok, Err, IfSome, IsNone, refl, sym, ap, ◌∙◌, arith, ◌⊎◌, inl, inr, ⊎_elim}
+use Rattle.std.specs.Prelude.{slice_get, Contains}
 use Rattle.std.specs.Fmt.{decimal}
-use Rattle.std.specs.List.{list_all, AllByRecursion, IsDistinct}
+use Rattle.std.specs.List.{IsDistinct}
 use Rattle.std.specs.Result.{OkIff, result_ok}
-use Rattle.std.specs.Str.{bytes_eq, IsUtf8, IsAscii}
+use Rattle.std.specs.Str.{bytes_eq, IsUtf8}
 use Rattle.std.specs.Str.Parse.{digits_value, AllDigits, ParsesUnsigned}
 use Rattle.std.proofs.lemmas.Bool.{le-ltb, lt-ltb, ltb-true, ltb-false}
-use Rattle.std.proofs.lemmas.Bool.Decides.{nat_tests}
 use Rattle.std.proofs.lemmas.Fmt.{decimal-digits_value, digits_decimal, digits_value-decimal, decimal_nonempty, first_decimal, decimal_digit, IsAscii-decimal}
 use Rattle.std.proofs.lemmas.List.{take_rest}
-use Rattle.std.proofs.lemmas.Slice.Eq.{bytes_eq-Decides}
 use Rattle.std.proofs.lemmas.Str.{IsUtf8-from_ascii}
 use Rattle.std.proofs.lemmas.Str.Parse.{parse_plain, digit_at}
-use Rattle.poly_core.specs.Names.{name_at, is_letter, is_name_byte, has_name_form}
+use Rattle.poly_core.specs.Names.{name_at}
 use Rattle.poly_core.specs.declared.place_names.Names.{Names}
 use Rattle.poly_core.specs.declared.place_names.Names.TheVariants.{Numbered, Paired}
 use Rattle.polynomial_text.specs.Canonical.{AreDifferent}
+use Rattle.polynomial_text.specs.laws.Names.{named_is, place_found, name_is_text, one_index}
 use Rattle.polynomial_text.specs.PolyLine.{place_of, is_named}
-use Rattle.polynomial_text.proofs.LineDigits.{own, both}
+use Rattle.polynomial_text.proofs.LineDigits.{own}
 
 -- ---- the place that a name has
 
-named : (o : Option (List ℕ)) (word : List ℕ) → is_named o word ≡ true → o ≡ Some word
-named None word e = absurd cc
-named (Some name) word e = ap Some ((bytes_eq-Decides name word).0 e)
-
-is_itself : (word : List ℕ) → is_named (Some word) word ≡ true
-is_itself word = (bytes_eq-Decides word word).1 refl
-
-apart : (names : Names) (word : List ℕ) (i k : ℕ) → i < suc k → name_at names i ≡ Some word → is_named (name_at names k) word ≡ false → i < k
-apart names word i k lt at e =
-    elim (ltb i k) as (λ t. ltb i k ≡ t → i < k) [
-      | true ↦ λ t. ltb-true i k t
-      | false ↦ λ t.
-          let ge : k ≤ i = ltb-false i k t in
-          let same : i ≡ k = omega arith in
-          let yes : is_named (name_at names k) word ≡ true = subst (λ (j : ℕ). is_named (name_at names j) word ≡ true) same (ap (λ (o : Option (List ℕ)). is_named o word) at ∙ is_itself word) in
-          absurd cc
-    ] refl
-
-has_some : (o : Option (List ℕ)) (word : List ℕ) → o ≡ Some word → IsSome o
-has_some o word h = rw h refl
-
-found_below : (n : ℕ) (names : Names) (word : List ℕ) (i k : ℕ) → AreDifferent n names → k ≤ n → i < k → name_at names i ≡ Some word → place_of names k word ≡ Some i
-unfolding place_of
-found_below n names word i zero different le lt at = absurd (omega arith)
-found_below n names word i (suc k) different le lt at =
-    elim (is_named (name_at names k) word) as (λ t. is_named (name_at names k) word ≡ t → cond t (Some k) (place_of names k word) ≡ Some i) [
-      | true ↦ λ e. ap Some (sym (different.differ i k (omega arith) (omega arith) (has_some (name_at names i) word at) (at ∙ sym (named (name_at names k) word e))))
-      | false ↦ λ e. found_below n names word i k different (omega arith) (apart names word i k lt at e) at
-    ] refl
-
 pub place_is : (n : ℕ) (names : Names) (word : List ℕ) (i : ℕ) → AreDifferent n names → i < n → name_at names i ≡ Some word → Some i ≡ place_of names n word
-place_is n names word i different lt at = sym (found_below n names word i n different (omega arith) lt at)
+place_is n names word i different lt at = sym (place_found n names different n i word lt (omega arith) at)
 
 pub no_place : (n : ℕ) (names : Names) (word : List ℕ) → ((i : ℕ) → i < n → name_at names i ≡ Some word → ⊥) → None ≡ place_of names n word
 unfolding place_of
 no_place zero names word never = refl
 no_place (suc n) names word never =
     elim (is_named (name_at names n) word) as (λ t. is_named (name_at names n) word ≡ t → None ≡ cond t (Some n) (place_of names n word)) [
-      | true ↦ λ e. absurd (never n (omega arith) (named (name_at names n) word e))
+      | true ↦ λ e. absurd (never n (omega arith) (named_is (name_at names n) word e))
       | false ↦ λ e. no_place n names word (λ i lt at. never i (omega arith) at)
     ] refl
 
 -- ---- names of a table
 
-low_byte : (b : ℕ) → is_name_byte b ≡ true → b < 128
-low_byte b e = grind (arith, nat_tests)
-
-letter_byte : (b : ℕ) → is_letter b ≡ true → b < 128
-letter_byte b e = grind (arith, nat_tests)
-
-bytes_ascii : (name : List ℕ) → list_all is_name_byte name ≡ true → IsAscii name
-bytes_ascii [] all i = omega arith
-bytes_ascii (b ∷ name) all zero = low_byte b (both (is_name_byte b) (list_all is_name_byte name) all).0
-bytes_ascii (b ∷ name) all (suc i) = bytes_ascii name (both (is_name_byte b) (list_all is_name_byte name) all).1 i
-
-name_ascii : (name : List ℕ) → has_name_form name ≡ true → IsAscii name
-name_ascii [] form i = absurd cc
-name_ascii (b ∷ name) form zero = letter_byte b (both (is_letter b) (list_all is_name_byte name) form).0
-name_ascii (b ∷ name) form (suc i) = bytes_ascii name (both (is_letter b) (list_all is_name_byte name) form).1 i
-
 pub name_text : (n : ℕ) (names : Names) (word : List ℕ) (i : ℕ) → AreDifferent n names → i < n → name_at names i ≡ Some word → IsUtf8 word
-name_text n names word i different lt at = IsUtf8-from_ascii word (name_ascii word (rw at at (different.form i lt)))
-
-fails_at : (p : List ℕ → Bool) (names : List (List ℕ)) (name : List ℕ) (i : ℕ) → AllByRecursion (λ y. p y ≡ false) names → slice_get names i ≡ Some name → p name ≡ false
-fails_at p [] name i all e = absurd cc
-fails_at p (n ∷ names) name zero all e = let same : n ≡ name = cc in rw (← same) all.0
-fails_at p (n ∷ names) name (suc i) all e = fails_at p names name i all.1 e
+name_text n names word i different lt at = name_is_text word (rw at at (different.form i lt))
 
 pub one_place : (names : List (List ℕ)) (name : List ℕ) (i j : ℕ) → IsDistinct bytes_eq names → slice_get names i ≡ Some name → slice_get names j ≡ Some name → i ≡ j
-unfolding IsDistinct
-one_place [] name i j d h k = absurd cc
-one_place (n ∷ names) name zero zero d h k = refl
-one_place (n ∷ names) name zero (suc j) d h k =
-    let same : bytes_eq n name ≡ true = (bytes_eq-Decides n name).1 cc in
-    let other : bytes_eq n name ≡ false = fails_at (bytes_eq n) names name j d.0 k in
-    absurd cc
-one_place (n ∷ names) name (suc i) zero d h k =
-    let same : bytes_eq n name ≡ true = (bytes_eq-Decides n name).1 cc in
-    let other : bytes_eq n name ≡ false = fails_at (bytes_eq n) names name i d.0 h in
-    absurd cc
-one_place (n ∷ names) name (suc i) (suc j) d h k = ap suc (one_place names name i j d.1 h k)
+one_place names name i j d h k = one_index names i j d (rw h refl) (h ∙ sym k)
 
 pub within : (names : List (List ℕ)) (name : List ℕ) (i : ℕ) → slice_get names i ≡ Some name → i < length names
 within [] name i e = absurd cc

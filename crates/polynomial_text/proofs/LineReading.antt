@@ -1,30 +1,30 @@
 -- Reading one part after the other, as the loops do.
 use Rattle.std.proofs.Common.{◌≡◌, ℕ, suc, List, [], ◌∷◌, Option, Some, None, Result, Ok, Err, refl, sym, ap, ◌∙◌, length}
-use Rattle.polynomial_text.specs.declared.text_kind.TextKind.{TextKind}
+use Rattle.polynomial_text.specs.declared.line_fault.LineKind.{LineKind}
 use Rattle.polynomial_text.specs.declared.line_fault.LineFault.{LineFault}
 use Rattle.polynomial_text.specs.declared.line_fault.LineFault.TheVariants as faults
 use Rattle.polynomial_text.specs.Canonical.{IsLineFaultOf}
 use Rattle.polynomial_text.specs.Results.{along}
 
--- how many bytes are left, and one more where some part is
+-- how many bytes are left, and one more if there is a part
 abbrev pub left_len : Option (List ℕ) → ℕ
 left_len None = 0
 left_len (Some bytes) = suc (length bytes)
 
-module _ {S X : Type 0} (step : S → X → Result S TextKind) where
-  pub along_next : (state next : S) (parts left : List X) (part : X) (total : Result S TextKind) → parts ≡ part ∷ left → step state part ≡ Ok next → along step state parts ≡ total → along step next left ≡ total
+module _ {S X : Type 0} (step : S → X → Result S LineKind) where
+  pub along_next : (state next : S) (parts left : List X) (part : X) (total : Result S LineKind) → parts ≡ part ∷ left → step state part ≡ Ok next → along step state parts ≡ total → along step next left ≡ total
   unfolding along
   along_next state next parts left part total split here so_far =
       let one : along step state (part ∷ left) ≡ along step next left = rw here refl in
       sym one ∙ (ap (along step state) (sym split) ∙ so_far)
 
-  pub along_stop : (state : S) (parts left : List X) (part : X) (total : Result S TextKind) (e : LineFault) → parts ≡ part ∷ left → IsLineFaultOf (step state part) e → along step state parts ≡ total → IsLineFaultOf total e
+  pub along_stop : (state : S) (parts left : List X) (part : X) (total : Result S LineKind) (e : LineFault LineKind) → parts ≡ part ∷ left → IsLineFaultOf (step state part) e → along step state parts ≡ total → IsLineFaultOf total e
   unfolding along
   along_stop state parts left part total faults.Memory split here so_far = tt
   along_stop state parts left part total (faults.Kind kind) split here so_far =
       let one : along step state (part ∷ left) ≡ Err kind = rw here refl in
       sym so_far ∙ (ap (along step state) split ∙ one)
 
-  pub along_all : (state : S) (total : Result S TextKind) → along step state [] ≡ total → total ≡ Ok state
+  pub along_all : (state : S) (total : Result S LineKind) → along step state [] ≡ total → total ≡ Ok state
   unfolding along
   along_all state total so_far = sym so_far

@@ -1,4 +1,4 @@
--- Sums of polynomials that stand in a list.
+-- Sums of polynomials of a list.
 use Rattle.std.proofs.Common.{◌≡◌, ◌≢◌, Bool, true, false, cond, List, [], ◌∷◌, ◌++◌, Result, Ok, Err, refl, sym, ap, subst, ◌∙◌, append_assoc, ⊎_elim}
 use Rattle.std.specs.Result.{OnOk}
 use Rattle.std.proofs.lemmas.Grind.{flat_map-append}
@@ -9,34 +9,34 @@ use Rattle.monomial_order.specs.declared.terms.Term.{Term}
 use Rattle.monomial_order.specs.MonomialOrder.{MonomialOrder}
 use Rattle.polynomials.specs.Polynomial.{Polynomial, term_of, coefficient, Same, IsCanonical, same_monomial}
 use Rattle.polynomials.specs.laws.Same.{append_same}
-use Rattle.polynomial_text.specs.LineReading.{AreKept, terms_together}
+use Rattle.polynomial_text.specs.LineReading.{AreCanonical, terms_together}
 
 together_last : {E : Type 0} (ps : List (Polynomial E)) (p : Polynomial E) → terms_together (ps ++ p ∷ []) ≡ terms_together ps ++ p
 together_last ps p = flat_map-append (λ q. q) ps (p ∷ []) ∙ ap (λ q. terms_together ps ++ q) (append-nil p)
 
 module _ {E : Type 0} (K : FieldOps E) (O : MonomialOrder) where
-  kept_before : (ps : List (Polynomial E)) (p : Polynomial E) → AreKept K O (ps ++ p ∷ []) → AreKept K O ps
-  kept_before [] p h = tt
-  kept_before (q ∷ ps) p h = (h.0, kept_before ps p h.1)
+  canonical_before : (ps : List (Polynomial E)) (p : Polynomial E) → AreCanonical K O (ps ++ p ∷ []) → AreCanonical K O ps
+  canonical_before [] p h = tt
+  canonical_before (q ∷ ps) p h = (h.0, canonical_before ps p h.1)
 
-  kept_last : (ps : List (Polynomial E)) (p : Polynomial E) → AreKept K O (ps ++ p ∷ []) → IsCanonical K O p
-  kept_last [] p h = h.0
-  kept_last (q ∷ ps) p h = kept_last ps p h.1
+  canonical_last : (ps : List (Polynomial E)) (p : Polynomial E) → AreCanonical K O (ps ++ p ∷ []) → IsCanonical K O p
+  canonical_last [] p h = h.0
+  canonical_last (q ∷ ps) p h = canonical_last ps p h.1
 
-  kept_push : (ps : List (Polynomial E)) (p : Polynomial E) → AreKept K O ps → IsCanonical K O p → AreKept K O (ps ++ p ∷ [])
-  kept_push [] p h k = (k, tt)
-  kept_push (q ∷ ps) p h k = (h.0, kept_push ps p h.1 k)
+  canonical_push : (ps : List (Polynomial E)) (p : Polynomial E) → AreCanonical K O ps → IsCanonical K O p → AreCanonical K O (ps ++ p ∷ [])
+  canonical_push [] p h k = (k, tt)
+  canonical_push (q ∷ ps) p h k = (h.0, canonical_push ps p h.1 k)
 
   -- a polynomial is put behind a list that was left as it was
-  pub kept_put : (old same new : List (Polynomial E)) (p : Polynomial E) → AreKept K O old → IsCanonical K O p → same ≡ old → new ≡ same ++ p ∷ [] → AreKept K O new
-  kept_put old same new p h k e put = subst (AreKept K O) (sym (put ∙ ap (λ qs. qs ++ p ∷ []) e)) (kept_push old p h k)
+  pub canonical_put : (old same new : List (Polynomial E)) (p : Polynomial E) → AreCanonical K O old → IsCanonical K O p → same ≡ old → new ≡ same ++ p ∷ [] → AreCanonical K O new
+  canonical_put old same new p h k e put = subst (AreCanonical K O) (sym (put ∙ ap (λ qs. qs ++ p ∷ []) e)) (canonical_push old p h k)
 
   -- the last polynomial was taken
-  pub kept_rest : (old new : List (Polynomial E)) (p : Polynomial E) → AreKept K O old → old ≡ new ++ p ∷ [] → AreKept K O new
-  kept_rest old new p h e = kept_before new p (subst (AreKept K O) e h)
+  pub canonical_rest : (old new : List (Polynomial E)) (p : Polynomial E) → AreCanonical K O old → old ≡ new ++ p ∷ [] → AreCanonical K O new
+  canonical_rest old new p h e = canonical_before new p (subst (AreCanonical K O) e h)
 
-  pub kept_taken : (old new : List (Polynomial E)) (p : Polynomial E) → AreKept K O old → old ≡ new ++ p ∷ [] → IsCanonical K O p
-  kept_taken old new p h e = kept_last new p (subst (AreKept K O) e h)
+  pub canonical_taken : (old new : List (Polynomial E)) (p : Polynomial E) → AreCanonical K O old → old ≡ new ++ p ∷ [] → IsCanonical K O p
+  canonical_taken old new p h e = canonical_last new p (subst (AreCanonical K O) e h)
 
 module _ {E : Type 0} (K : FieldOps E) (F : IsField K) where
   -- the last polynomial and a sum are added up

@@ -1,10 +1,7 @@
-pub mod Blanks
+pub mod Bytes
 pub mod Canonical
-pub mod CanonicalFactors
-pub mod CanonicalParts
-pub mod CanonicalPoly
-pub mod CanonicalTerms
-pub mod Digits
+pub mod Degrees
 pub mod LineReading
 pub mod PolyLine
 pub mod Results
+pub mod laws

@@ -1,27 +1,24 @@
 -- What the calls give that read a polynomial line from left to right.
-use Rattle.std.specs.Prelude.{◌≡◌, ◌≤◌, ◌<◌, ℕ, List, [], ◌∷◌, Bool, ◌==◌, ◌||◌, Option, Some, None, Result, Ok, Err, nat_le, if◌then◌else◌}
+use Rattle.std.specs.Prelude.{◌≡◌, ◌≤◌, ◌<◌, ℕ, List, [], ◌∷◌, Bool, ◌==◌, Option, Some, None, Result, Ok, Err, nat_le, if◌then◌else◌}
 use Rattle.std.specs.List.{slice_split, flat_map}
 use Rattle.word_field.specs.Field.{FieldOps, IsValue}
 use Rattle.monomial_order.specs.declared.terms.Term.{Term}
 use Rattle.monomial_order.specs.Monomial.{IsMonomial}
 use Rattle.monomial_order.specs.MonomialOrder.{MonomialOrder}
 use Rattle.polynomials.specs.Polynomial.{Polynomial, term_of, IsCanonical}
-use Rattle.polynomial_text.specs.declared.text_kind.TextKind.{TextKind}
-use Rattle.polynomial_text.specs.declared.text_kind.TextKind.TheVariants.{DegreeTooLarge}
+use Rattle.polynomial_text.specs.declared.line_fault.LineKind.{LineKind}
+use Rattle.polynomial_text.specs.declared.line_fault.LineKind.TheVariants.{DegreeTooLarge}
 use Rattle.polynomial_text.specs.declared.line_fault.LineFault.{LineFault}
 use Rattle.polynomial_text.specs.declared.factor.Factor.{Factor}
+use Rattle.monomial_order.specs.Limits.{degree_max}
 use Rattle.polynomial_text.specs.Results.{◌>>=◌}
 use Rattle.polynomial_text.specs.Canonical.{IsLineFaultOf}
 use Rattle.polynomial_text.specs.PolyLine.{power, number_at, signed_parts}
 
 -- what a call returned, seen by view, is what reading gives, unless memory ran out
-abbrev pub Gives : {X Y : Type 0} → (X → Y) → Result X LineFault → Result Y TextKind → Type 0
+abbrev pub Gives : {X Y K : Type 0} → (X → Y) → Result X (LineFault K) → Result Y K → Type 0
 Gives view (Ok x) read = read ≡ Ok (view x)
 Gives view (Err e) read = IsLineFaultOf read e
-
--- `+` or `-`
-abbrev pub is_sign : ℕ → Bool
-is_sign b = b == 43 || b == 45
 
 -- the parts between `*`, of bytes and of what is left behind a part
 abbrev pub factor_parts : List ℕ → List (List ℕ)
@@ -36,25 +33,25 @@ abbrev pub signed_parts_left : Option (Bool × List ℕ) → List (Bool × List 
 signed_parts_left None = []
 signed_parts_left (Some x) = signed_parts x.0 x.1
 
--- a monomial of a degree of at most 30000
+-- a monomial of a degree of at most degree_max
 pub record IsSmallMonomial (O : MonomialOrder) (m : List ℕ) : Type 0 where
   pub monomial : IsMonomial O.places m
-  pub small : O.degree m ≤ 30000
+  pub small : O.degree m ≤ degree_max
 
--- a monomial, where its degree is at most 30000
-unfoldable pub low : MonomialOrder → List ℕ → Result (List ℕ) TextKind
-low O m = if nat_le (O.degree m) 30000 then Ok m else Err DegreeTooLarge
+-- a monomial, if its degree is at most degree_max
+unfoldable pub low : MonomialOrder → List ℕ → Result (List ℕ) LineKind
+low O m = if nat_le (O.degree m) degree_max then Ok m else Err DegreeTooLarge
 
--- a term, where its degree is at most 30000
-unfoldable pub bounded : {E : Type 0} → MonomialOrder → Term E → Result (Term E) TextKind
-bounded O t = if nat_le (O.degree t.at) 30000 then Ok t else Err DegreeTooLarge
+-- a term, if its degree is at most degree_max
+unfoldable pub bounded : {E : Type 0} → MonomialOrder → Term E → Result (Term E) LineKind
+bounded O t = if nat_le (O.degree t.at) degree_max then Ok t else Err DegreeTooLarge
 
 -- a factor as a term
 abbrev pub factor_term : {E : Type 0} → Factor E → Term E
 factor_term x = term_of (power x.place x.exponent) x.by
 
 -- the element of the field of the number at the front of the bytes
-abbrev pub constant_at : {E : Type 0} → FieldOps E → List ℕ → Result (Term E × List ℕ) TextKind
+abbrev pub constant_at : {E : Type 0} → FieldOps E → List ℕ → Result (Term E × List ℕ) LineKind
 constant_at K bytes = number_at bytes >>= λ n. Ok (term_of [] (K.of_word n.0), n.1)
 
 module _ {E : Type 0} (K : FieldOps E) (O : MonomialOrder) where
@@ -63,15 +60,15 @@ module _ {E : Type 0} (K : FieldOps E) (O : MonomialOrder) where
     pub value : IsValue K x.by
     pub place : 1 ≤ x.exponent → x.place < O.places
 
-  -- a term of a degree of at most 30000
+  -- a term of a degree of at most degree_max
   pub record IsSmallTerm (t : Term E) : Type 0 where
     pub at : IsSmallMonomial O t.at
     pub value : IsValue K t.by
 
-  -- polynomials that are kept one by one
-  abbrev pub AreKept : List (Polynomial E) → Type 0
-  AreKept [] = Unit {0}
-  AreKept (p ∷ ps) = IsCanonical K O p × AreKept ps
+  -- each polynomial is canonical
+  abbrev pub AreCanonical : List (Polynomial E) → Type 0
+  AreCanonical [] = Unit {0}
+  AreCanonical (p ∷ ps) = IsCanonical K O p × AreCanonical ps
 
 -- all terms of polynomials
 abbrev pub terms_together : {E : Type 0} → List (Polynomial E) → Polynomial E

@@ -1,20 +1,10 @@
--- What is made of a text, or the first fault in it.
-use Rattle.std.specs.Prelude.{ℕ, List, [], ◌∷◌, Option, Some, None, Result, Ok, Err}
-use Rattle.polynomial_text.specs.declared.text_kind.TextKind.{TextKind}
-
--- a kind of fault, and the number of its line
-abbrev pub Fault : Type 0
-Fault = TextKind × ℕ
+-- Steps that may fail: the first fault ends them.
+use Rattle.std.specs.Prelude.{List, [], ◌∷◌, Result, Ok, Err}
 
 infixl 10 ◌>>=◌
 abbrev pub ◌>>=◌ : {A B F : Type 0} → Result A F → (A → Result B F) → Result B F
 (Ok x) >>= f = f x
 (Err e) >>= f = Err e
-
--- a value, or a fault where there is none
-abbrev pub or_fault : {A F : Type 0} → F → Option A → Result A F
-or_fault e None = Err e
-or_fault e (Some x) = Ok x
 
 -- what a step makes of a state along a list; the first fault ends it
 unfoldable pub along : {S X F : Type 0} → (S → X → Result S F) → S → List X → Result S F

@@ -1,19 +1,21 @@
-//! Numbers and exponents in a polynomial line.
+//! Numbers and exponents in a line.
 ghost use Rattle.std.specs.Prelude.{◌≡◌, ◌≤◌, length, true};
 ghost use Rattle.std.specs.List.{list_all};
 ghost use Rattle.std.specs.Str.Parse.{digits_value};
-ghost use Rattle.polynomial_text.specs.Digits.{is_digit};
+ghost use Rattle.polynomial_text.specs.Bytes.{digits_max, is_digit};
 ghost use Rattle.polynomial_text.specs.PolyLine.{number_at, exponent_at};
 ghost use Rattle.polynomial_text.specs.LineReading.{Gives};
 
-use crate::line_bytes::{behind_blanks, digits};
-use crate::line_fault::LineFault;
-use crate::text_kind::TextKind;
+use crate::byte_class::{ByteClass, behind_blanks};
+use crate::line_fault::{LineFault, LineKind};
 
-/// The number that at most 18 digits are.
-pub fn value(digits: &[u8]) -> u64
+/// The most digits of a number.
+pub const DIGITS_MAX: usize = 18;
+
+/// The number that the digits are.
+pub fn digits_value(digits: &[u8]) -> u64
     requires digits { list_all is_digit digits.now ≡ true }
-    requires short { length digits.now ≤ 18 }
+    requires short { length digits.now ≤ digits_max }
     ensures { result ≡ digits_value 10 digits.now }
 {
     let mut value = 0;
@@ -23,24 +25,22 @@ pub fn value(digits: &[u8]) -> u64
     value
 }
 
-/// The number at the front, and what stands behind it.
+/// The number at the front, and what is behind it.
 #[tactic(auto, unfolding(crate::specs::PolyLine::number_at))]
-pub(crate) fn number_at(bytes: &[u8]) -> Result<(u64, &[u8]), LineFault>
+pub(crate) fn number_at(bytes: &[u8]) -> Result<(u64, &[u8]), LineFault<LineKind>>
     ensures { Gives (λ x. (x.0, x.1.now)) result (number_at bytes.now) }
 {
-    let (digits, rest) = digits(bytes);
-    if digits.is_empty() {
-        return Err(LineFault::Kind(TextKind::PolySyntax));
+    let (digits, rest) = ByteClass::Digit.split(bytes);
+    match digits.len() {
+        0 => Err(LineFault::Kind(LineKind::PolySyntax)),
+        1..=DIGITS_MAX => Ok((digits_value(digits), rest)),
+        _ => Err(LineFault::Kind(LineKind::NumberTooLong)),
     }
-    if digits.len() > 18 {
-        return Err(LineFault::Kind(TextKind::NumberTooLong));
-    }
-    Ok((value(digits), rest))
 }
 
-/// The exponent behind a name, and what stands behind it.
+/// The exponent behind a name, and what is behind it.
 #[tactic(auto, unfolding(crate::specs::PolyLine::exponent_at))]
-pub(crate) fn exponent_at(bytes: &[u8]) -> Result<(u64, &[u8]), LineFault>
+pub(crate) fn exponent_at(bytes: &[u8]) -> Result<(u64, &[u8]), LineFault<LineKind>>
     ensures { Gives (λ x. (x.0, x.1.now)) result (exponent_at bytes.now) }
 {
     let rest = behind_blanks(bytes);

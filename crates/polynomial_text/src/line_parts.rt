@@ -1,10 +1,10 @@
-//! Parts of a polynomial line: terms between signs, and factors between `*`.
-ghost use Rattle.std.specs.Prelude.{◌≡◌, ◌<◌, ◌∷◌, ◌==◌, Bool, false, length, position, IfSome};
+//! Parts of a line: terms between signs, and factors between `*`.
+ghost use Rattle.std.specs.Prelude.{◌≡◌, ◌<◌, ◌∷◌, Bool, false, length, IfSome};
 ghost use Rattle.std.specs.Option.{option_map, option_copied};
 ghost use Rattle.polynomial_text.specs.PolyLine.{signed_parts, behind_sign};
-ghost use Rattle.polynomial_text.specs.LineReading.{is_sign, factor_parts, factor_parts_left, signed_parts_left};
+ghost use Rattle.polynomial_text.specs.LineReading.{factor_parts, factor_parts_left, signed_parts_left};
 
-use crate::line_bytes::are_blanks;
+use crate::byte_class::ByteClass;
 
 /// Bytes behind a sign, or at the start of a line.
 #[derive(Clone, Copy)]
@@ -13,47 +13,38 @@ pub(crate) struct SignedText<'a> {
     pub(crate) text: &'a [u8],
 }
 
-fn find_star(bytes: &[u8]) -> Option<usize>
-    ensures { result ≡ position (λ b. b == 42) bytes.now }
-{
-    bytes.iter().position(|b| *b == b'*')
-}
-
-/// What stands before the first `*`, and what stands behind it.
+/// The part before the first `*`, and what is behind that `*`.
 pub(crate) fn factor_part(text: &[u8]) -> (&[u8], Option<&[u8]>)
     ensures parts { factor_parts text.now ≡ result.0.now ∷ factor_parts_left (option_copied result.1) }
     ensures shorter { IfSome result.1 (λ rest. length rest.now < length text.now) }
 {
-    match find_star(text) {
-        Some(i) => (&text[..i], Some(&text[i + 1..])),
-        None => (text, None),
+    let (part, behind) = ByteClass::Factor.split(text);
+    match behind {
+        [_, rest @ ..] => (part, Some(rest)),
+        [] => (part, None),
     }
 }
 
-fn find_sign(bytes: &[u8]) -> Option<usize>
-    ensures { result ≡ position is_sign bytes.now }
-{
-    bytes.iter().position(|b| *b == b'+' || *b == b'-')
-}
-
-/// What stands before the first sign, and the bytes behind that sign.
+/// The part before the first sign, and the bytes behind that sign.
 pub(crate) fn signed_part(text: &[u8]) -> (&[u8], Option<SignedText<'_>>)
-    ensures parts { (minus : Bool) → signed_parts minus text.now ≡ (minus, result.0.now) ∷ signed_parts_left (option_map (λ x. (x.minus, x.text.now)) result.1) }
+    ensures parts { (minus : Bool) → signed_parts minus text.now
+        ≡ (minus, result.0.now) ∷ signed_parts_left (option_map (λ x. (x.minus, x.text.now)) result.1) }
     ensures shorter { IfSome result.1 (λ rest. length rest.text.now < length text.now) }
 {
-    match find_sign(text) {
-        Some(i) => {
+    let (part, behind) = ByteClass::Term.split(text);
+    match behind {
+        [sign, rest @ ..] => {
             let rest = SignedText {
-                minus: text[i] == b'-',
-                text: &text[i + 1..],
+                minus: *sign == b'-',
+                text: rest,
             };
-            (&text[..i], Some(rest))
+            (part, Some(rest))
         }
-        None => (text, None),
+        [] => (part, None),
     }
 }
 
-/// The line without the sign that may stand before its first term.
+/// The line without the sign that may be before its first term.
 pub(crate) fn first_text(line: &[u8]) -> SignedText<'_>
     ensures { behind_sign (signed_parts false line.now) ≡ signed_parts result.minus result.text.now }
 {
@@ -63,7 +54,7 @@ pub(crate) fn first_text(line: &[u8]) -> SignedText<'_>
     };
     let (front, behind) = signed_part(line);
     match behind {
-        Some(rest) => { if are_blanks(front) { rest } else { whole } }
-        None => whole,
+        Some(rest) if ByteClass::Blank.has_all(front) => rest,
+        _ => whole,
     }
 }

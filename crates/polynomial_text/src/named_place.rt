@@ -1,5 +1,6 @@
 //! The place of a name.
-ghost use Rattle.std.specs.Prelude.{◌≡◌, ◌≢◌, ◌<◌, ◌≤◌, ◌+◌, ◌-◌, ◌^◌, ◌↔◌, ℕ, ◌∷◌, length, slice_index, IsTrue, IfSome, IsNone};
+ghost use Rattle.std.specs.Prelude.{◌≡◌, ◌≢◌, ◌<◌, ◌≤◌, ◌+◌, ◌-◌, ◌^◌, ◌↔◌, ℕ, ◌∷◌, length, slice_index};
+ghost use Rattle.std.specs.Prelude.{IsTrue, IfSome, IsNone};
 ghost use Rattle.std.specs.Fmt.{decimal};
 ghost use Rattle.poly_core.specs.declared.place_names.Names.TheVariants as ways;
 ghost use Rattle.polynomial_text.specs.Canonical.{AreDifferent};
@@ -9,7 +10,8 @@ use poly_core::{NameTable, Names};
 
 /// Whether there is neither a sign nor a zero that leads other digits.
 fn is_plain(digits: &[u8]) -> bool
-    ensures { IsTrue result ↔ ((slice_index digits.now 0 ≢ 43) × (slice_index digits.now 0 ≡ 48 → length digits.now ≡ 1)) }
+    ensures { IsTrue result
+        ↔ ((slice_index digits.now 0 ≢ 43) × (slice_index digits.now 0 ≡ 48 → length digits.now ≡ 1)) }
 {
     match digits {
         [b'+', ..] => false,

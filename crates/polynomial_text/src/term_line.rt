@@ -1,21 +1,25 @@
-//! Terms in a polynomial line.
+//! Terms in a line.
 ghost use Rattle.std.specs.Prelude.{◌≡◌, ◌≤◌, ◌<◌, ◌+◌, ◌*◌, ◌&&◌, ℕ, [], nat_le, if◌then◌else◌, IfOk};
 ghost use Rattle.word_field.specs.Field.{IsValue};
 ghost use Rattle.monomial_order.specs.Monomial.{IsMonomial, product};
 ghost use Rattle.polynomials.specs.Polynomial.{term_times};
 ghost use Rattle.polynomial_text.specs.Canonical.{AreDifferent};
+ghost use Rattle.monomial_order.specs.Limits.{degree_max};
 ghost use Rattle.polynomial_text.specs.PolyLine.{power, with_factor, term_at};
-ghost use Rattle.polynomial_text.specs.LineReading.{Gives, factor_term, bounded, low, IsFactor, IsSmallMonomial, IsSmallTerm};
+ghost use Rattle.polynomial_text.specs.LineReading.{Gives, factor_term, bounded, low};
+ghost use Rattle.polynomial_text.specs.LineReading.{IsFactor, IsSmallMonomial, IsSmallTerm};
 
+use crate::byte_class::{ByteClass, behind_blanks};
 use crate::factor::{Factor, factor_at};
-use crate::line_bytes::{are_blanks, behind_blanks};
-use crate::line_fault::LineFault;
-use crate::line_parts::{SignedText, factor_part};
-use crate::text_kind::TextKind;
+use crate::line_fault::{LineFault, LineKind};
+use crate::line_parts::factor_part;
+use crate::line_reader::LineReader;
 use monomial_order::{Memory, Monomial, Order, Term};
-use poly_core::Names;
 use std::alloc::Global;
 use word_field::Field;
+
+/// The greatest degree of a term.
+pub const DEGREE_MAX: u64 = 30000;
 
 /// The power of the variable at a place.
 fn power(alloc: Global, place: usize, exponent: u16) -> Result<Monomial, Memory>
@@ -27,7 +31,7 @@ fn power(alloc: Global, place: usize, exponent: u16) -> Result<Monomial, Memory>
     Monomial::from_places(alloc, &exponents)
 }
 
-/// Whether the product of a monomial with a power of the variable at a place has a degree of at most 30000.
+/// Whether the product of a monomial with a power of the variable at a place has a degree of at most `DEGREE_MAX`.
 fn is_low<O: Order>(
     alloc: Global,
     o: &O,
@@ -37,14 +41,14 @@ fn is_low<O: Order>(
 ) -> Result<bool, Memory>
     requires monomial { IsSmallMonomial (O.order o.now) m.now }
     requires place { place < (O.order o.now).places }
-    ensures { IfOk result (λ b. b ≡ nat_le ((O.order o.now).degree (product m.now (power place exponent))) 30000) }
+    ensures { IfOk result (λ b. b ≡ nat_le ((O.order o.now).degree (product m.now (power place exponent))) degree_max) }
 {
-    if exponent > 30000 {
+    if exponent > DEGREE_MAX {
         return Ok(false);
     }
     let variable = power(alloc, place, 1)?;
     let raised = exponent * u64::from(o.degree(&variable));
-    Ok(u64::from(o.degree(m)) + raised <= 30000)
+    Ok(u64::from(o.degree(m)) + raised <= DEGREE_MAX)
 }
 
 /// The product with a power of the variable at a place.
@@ -55,7 +59,7 @@ fn times_power<O: Order>(
     m: Monomial,
     place: usize,
     exponent: u64,
-) -> Result<Monomial, LineFault>
+) -> Result<Monomial, LineFault<LineKind>>
     requires monomial { IsSmallMonomial (O.order o.now) m }
     requires place { 1 ≤ exponent → place < (O.order o.now).places }
     ensures read { Gives (λ x. x) result (low (O.order o.now) (product m (power place exponent))) }
@@ -65,7 +69,7 @@ fn times_power<O: Order>(
         return Ok(m);
     }
     if !is_low(alloc, o, &m, place, exponent)? {
-        return Err(LineFault::Kind(TextKind::DegreeTooLarge));
+        return Err(LineFault::Kind(LineKind::DegreeTooLarge));
     }
     let raised = power(alloc, place, exponent as u16)?;
     Ok(m.times(alloc, &raised)?)
@@ -79,7 +83,7 @@ fn times_factor<F: Field, O: Order>(
     o: &O,
     t: Term<F::Elem>,
     x: Factor<F::Elem>,
-) -> Result<Term<F::Elem>, LineFault>
+) -> Result<Term<F::Elem>, LineFault<LineKind>>
     requires term { IsSmallTerm (F.ops f.now) (O.order o.now) t }
     requires factor { IsFactor (F.ops f.now) (O.order o.now) x }
     ensures read { Gives (λ u. u) result (bounded (O.order o.now) (term_times (F.ops f.now) t (factor_term x))) }
@@ -93,22 +97,20 @@ fn times_factor<F: Field, O: Order>(
 /// The product of a term and the factor that a part is.
 #[tactic(auto, unfolding(crate::specs::LineReading::bounded, crate::specs::PolyLine::with_factor))]
 fn with_factor<F: Field, O: Order>(
-    alloc: Global,
-    f: &F,
-    o: &O,
-    names: &Names,
+    reader: &LineReader<F, O>,
     t: Term<F::Elem>,
     part: &[u8],
-) -> Result<Term<F::Elem>, LineFault>
-    requires names { AreDifferent (O.order o.now).places names.now }
-    requires term { IsSmallTerm (F.ops f.now) (O.order o.now) t }
-    ensures read { Gives (λ u. u) result (with_factor (F.ops f.now) (O.order o.now) names.now t part.now) }
-    ensures small { IfOk result (IsSmallTerm (F.ops f.now) (O.order o.now)) }
+) -> Result<Term<F::Elem>, LineFault<LineKind>>
+    requires names { AreDifferent (O.order reader.now.order.now).places reader.now.names.now }
+    requires term { IsSmallTerm (F.ops reader.now.field.now) (O.order reader.now.order.now) t }
+    ensures read { Gives (λ u. u) result
+        (with_factor (F.ops reader.now.field.now) (O.order reader.now.order.now) reader.now.names.now t part.now) }
+    ensures small { IfOk result (IsSmallTerm (F.ops reader.now.field.now) (O.order reader.now.order.now)) }
 {
-    let (factor, rest) = factor_at(f, o, names, behind_blanks(part))?;
-    let t = times_factor(alloc, f, o, t, factor)?;
-    if !are_blanks(rest) {
-        return Err(LineFault::Kind(TextKind::PolySyntax));
+    let (factor, rest) = factor_at(reader, behind_blanks(part))?;
+    let t = times_factor(reader.alloc, reader.field, reader.order, t, factor)?;
+    if !ByteClass::Blank.has_all(rest) {
+        return Err(LineFault::Kind(LineKind::PolySyntax));
     }
     Ok(t)
 }
@@ -127,22 +129,20 @@ fn sign<F: Field>(alloc: Global, f: &F, minus: bool) -> Term<F::Elem>
 
 /// The product of the factors of a part, with its sign.
 pub(crate) fn term_at<F: Field, O: Order>(
-    alloc: Global,
-    f: &F,
-    o: &O,
-    names: &Names,
+    reader: &LineReader<F, O>,
     minus: bool,
     text: &[u8],
-) -> Result<Term<F::Elem>, LineFault>
-    requires { AreDifferent (O.order o.now).places names.now }
-    ensures read { Gives (λ u. u) result (term_at (F.ops f.now) (O.order o.now) names.now (minus, text.now)) }
-    ensures small { IfOk result (IsSmallTerm (F.ops f.now) (O.order o.now)) }
+) -> Result<Term<F::Elem>, LineFault<LineKind>>
+    requires { AreDifferent (O.order reader.now.order.now).places reader.now.names.now }
+    ensures read { Gives (λ u. u) result
+        (term_at (F.ops reader.now.field.now) (O.order reader.now.order.now) reader.now.names.now (minus, text.now)) }
+    ensures small { IfOk result (IsSmallTerm (F.ops reader.now.field.now) (O.order reader.now.order.now)) }
 {
-    let mut t = sign(alloc, f, minus);
+    let mut t = sign(reader.alloc, reader.field, minus);
     let mut rest = Some(text);
     while let Some(text) = rest {
         let (part, behind) = factor_part(text);
-        t = with_factor(alloc, f, o, names, t, part)?;
+        t = with_factor(reader, t, part)?;
         rest = behind;
     }
     Ok(t)

@@ -1,7 +1,6 @@
 -- The ideal that a list of polynomials generates.
 use Rattle.std.specs.Prelude.{ℕ, List, [], ◌∷◌, ◌++◌, Contains}
 use Rattle.word_field.specs.Field.{FieldOps}
-use Rattle.monomial_order.specs.declared.terms.Term.{Term}
 use Rattle.polynomials.specs.Polynomial.{Polynomial, Same, times, IsPoly, minus}
 
 -- a polynomial times a member of the list rs

@@ -1,8 +1,6 @@
 -- The subalgebra that a list of polynomials generates modulo an ideal, and its reduced basis to a degree.
 use Rattle.std.specs.Prelude.{◌≡◌, ◌≢◌, ℕ, ◌≤◌, ◌⊎◌, List, [], ◌∷◌, ◌++◌, length, map, Contains}
-use Rattle.std.specs.declared.cmp.Ordering.TheVariants.{Less}
 use Rattle.word_field.specs.Field.{FieldOps, IsField}
-use Rattle.monomial_order.specs.declared.terms.Term.{Term}
 use Rattle.monomial_order.specs.Monomial.{Exponents, product, IsMonomial}
 use Rattle.monomial_order.specs.MonomialOrder.{IsIncreasing, MonomialOrder, IsMonomialOrder}
 use Rattle.polynomials.specs.Polynomial.{Polynomial, coefficient, IsPoly, IsLead, IsHomogeneous, IsDecreasing, lead_monomial, minus}

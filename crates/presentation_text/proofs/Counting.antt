@@ -1,18 +1,16 @@
 -- Counted polynomials.
-use Rattle.std.proofs.Common.{◌≡◌, ℕ, ◌≤◌, Bool, true, false, cond, leb, ◌&&◌, List, Option, Some, None, Ok, refl, sym, subst, ◌∙◌}
-use Rattle.std.proofs.lemmas.Bool.{leb-true}
+use Rattle.std.proofs.Common.{◌≡◌, ℕ, ◌≤◌, List, Ok, refl}
 use Rattle.presentation_text.specs.declared.text_fault.TextFault.{TextFault}
 use Rattle.presentation_text.specs.declared.text_fault.TextFault.TheVariants as faults
-use Rattle.polynomial_text.specs.declared.text_kind.TextKind.{TextKind}
-use Rattle.polynomial_text.specs.declared.text_kind.TextKind.TheVariants.{CountLine}
-use Rattle.presentation_text.specs.Numbers.{number_of, number_within}
-use Rattle.presentation_text.specs.Lines.{words}
-use Rattle.presentation_text.specs.Heading.{◌>>=◌, behind_word, only, count_of, count_line}
+use Rattle.presentation_text.specs.declared.text_kind.TextKind.{TextKind}
+use Rattle.presentation_text.specs.declared.text_kind.TextKind.TheVariants.{CountLine}
+use Rattle.presentation_text.specs.Numbers.{number_within}
+use Rattle.presentation_text.specs.Lines.{tokens}
+use Rattle.presentation_text.specs.Heading.{count_max, behind_key, only, count_of, count_line}
 use Rattle.presentation_text.specs.Reading.{Line, Head, next, several, poly_line, counted}
 use Rattle.presentation_text.specs.Meaning.{IsFaultOf}
-use Rattle.presentation_text.proofs.NameWords.{and_parts}
 use Rattle.presentation_text.proofs.NextLines.{next_was}
-use Rattle.presentation_text.proofs.TakenWords.{or_fault_ok}
+use Rattle.presentation_text.proofs.TakenTokens.{bind_some, number_between, or_fault_ok}
 
 module _ (last : ℕ) (h : Head) (key : List ℕ) (constant : TextKind) (ls : List Line) where
   pub counted_is : (n : ℕ) (rest : List Line) → next last (count_line key) ls ≡ Ok (n, rest) → counted last h key constant ls ≡ several last (poly_line h constant) n rest
@@ -24,27 +22,11 @@ module _ (last : ℕ) (h : Head) (key : List ℕ) (constant : TextKind) (ls : Li
   counted_err faults.Memory h = tt
   counted_err (faults.At kind line) h = rw h refl
 
-bind_some : {A B : Type 0} (r : Option A) (f : A → Option B) (y : B) → (r >>= f) ≡ Some y → (x : A) × (r ≡ Some x) × (f x ≡ Some y)
-bind_some (Some x) f y e = (x, refl, e)
-bind_some None f y e = absurd cc
-
-within_high : (low high : ℕ) (word : List ℕ) (n : ℕ) → number_within low high word ≡ Some n → n ≤ high
-unfolding number_within
-within_high low high word n e = by (number_of word) refl
-  where
-    small : (k : ℕ) (b : Bool) → (leb low k && leb k high) ≡ b → cond b (Some k) None ≡ Some n → n ≤ high
-    small k false t h = absurd cc
-    small k true t h = let same : k ≡ n = cc in subst (λ (i : ℕ). i ≤ high) same (leb-true _ _ (and_parts (leb low k) (leb k high) t).1)
-
-    by : (r : Option ℕ) → number_of word ≡ r → n ≤ high
-    by None is = let none : number_within low high word ≡ None = rw is refl in absurd cc
-    by (Some k) is = let one : number_within low high word ≡ cond (leb low k && leb k high) (Some k) None = rw is refl in small k (leb low k && leb k high) refl (sym one ∙ e)
-
-pub count_small : (last : ℕ) (key : List ℕ) (ls : List Line) (x : ℕ × List Line) → next last (count_line key) ls ≡ Ok x → x.0 ≤ 256
+pub count_small : (last : ℕ) (key : List ℕ) (ls : List Line) (x : ℕ × List Line) → next last (count_line key) ls ≡ Ok x → x.0 ≤ count_max
 unfolding count_of
 count_small last key ls x e =
     let w = next_was (count_line key) last ls x e in
-    let c = or_fault_ok CountLine (count_of key (words w.0)) x.0 w.1 in
-    let b = bind_some (behind_word key (words w.0)) _ x.0 c in
-    let o = bind_some (only b.0) (number_within 0 256) x.0 b.2 in
-    within_high 0 256 o.0 x.0 o.2
+    let c = or_fault_ok CountLine (count_of key (tokens w.0)) x.0 w.1 in
+    let b = bind_some (behind_key key (tokens w.0)) _ x.0 c in
+    let o = bind_some (only b.0) (number_within 0 count_max) x.0 b.2 in
+    (number_between 0 count_max o.0 x.0 o.2).1

@@ -1,19 +1,20 @@
 -- What is judged on a sum of terms is so for the polynomial that is the sum.
-use Rattle.std.proofs.Common.{◌≡◌, ◌≢◌, inl, inr, ℕ, ◌≤◌, Bool, true, false, not, cond, eqb, ◌&&◌, ◌||◌, List, [], ◌∷◌, map, filter, Ok, Err, refl, sym, ap, subst, ◌∙◌, arith, eq-eqb}
+use Rattle.std.proofs.Common.{◌≡◌, ◌≢◌, inl, inr, ℕ, ◌≤◌, Bool, true, false, not, cond, eqb, List, [], ◌∷◌, map, filter, Ok, Err, refl, sym, ap, subst, ◌∙◌, arith, eq-eqb}
 use Rattle.std.specs.List.{list_all, list_any, AllByRecursion}
-use Rattle.std.proofs.lemmas.Bool.{eqb-true}
+use Rattle.std.proofs.lemmas.Bool.{and_parts, or_parts, eqb-true, false_from_ne_true, not-true, not_from_false, true≢false}
 use Rattle.word_field.specs.Residues.{residues, is_listed}
 use Rattle.word_field.specs.laws.Residues.{residues_field}
 use Rattle.monomial_order.specs.declared.terms.Term.{Term}
 use Rattle.monomial_order.specs.MonomialOrder.{MonomialOrder, IsMonomialOrder}
-use Rattle.polynomials.specs.Polynomial.{Polynomial, coefficient, AllAt, IsCanonical, IsDegree, IsZeroOrHomogeneous}
+use Rattle.polynomials.specs.Polynomial.{Polynomial, coefficient, Same, AllAt, IsCanonical, IsDegree, IsZeroOrHomogeneous}
 use Rattle.polynomials.specs.laws.Decreasing.{coefficient_first}
 use Rattle.polynomials.specs.laws.Degrees.{all_found}
 use Rattle.poly_core.specs.Presentation.{IsCanonicalGenerator}
-use Rattle.polynomial_text.specs.declared.text_kind.TextKind.{TextKind}
-use Rattle.polynomial_text.specs.declared.text_kind.TextKind.TheVariants.{NotHomogeneous}
+use Rattle.monomial_order.specs.Limits.{degree_max}
+use Rattle.polynomial_text.specs.Degrees.{IsLow}
+use Rattle.presentation_text.specs.declared.text_kind.TextKind.{TextKind}
+use Rattle.presentation_text.specs.declared.text_kind.TextKind.TheVariants.{NotHomogeneous}
 use Rattle.presentation_text.specs.Judging.{degrees, is_one_degree, judged}
-use Rattle.presentation_text.specs.KeptSums.{IsSumOf}
 
 -- ---- lists of degrees
 
@@ -25,10 +26,6 @@ all_one d (e ∷ ds) all = rest ds all.1
     rest [] h = refl
     rest (f ∷ fs) h = let same : eqb e f ≡ true = eq-eqb e f (all.0 ∙ sym h.0) in rw (same, rest fs h.1) refl
 
-and_parts : (a b : Bool) → (a && b) ≡ true → (a ≡ true) × (b ≡ true)
-and_parts true b e = (refl, e)
-and_parts false b e = absurd cc
-
 one_of : (ds : List ℕ) → is_one_degree ds ≡ true → (d : ℕ) × AllByRecursion (λ e. e ≡ d) ds
 one_of [] e = (0, tt)
 one_of (d ∷ ds) e = (d, (refl, rest ds e))
@@ -39,21 +36,13 @@ one_of (d ∷ ds) e = (d, (refl, rest ds e))
 
 none_zero : (ds : List ℕ) → AllByRecursion (λ e. e ≢ 0) ds → list_any (λ d. eqb d 0) ds ≡ false
 none_zero [] all = refl
-none_zero (d ∷ ds) all = let other : eqb d 0 ≡ false = differs d all.0 in rw (other, none_zero ds all.1) refl
-  where
-    differs : (d : ℕ) → d ≢ 0 → eqb d 0 ≡ false
-    differs d h = elim (eqb d 0) as (λ t. eqb d 0 ≡ t → t ≡ false) [ true ↦ λ e. absurd (h (eqb-true d 0 e)) | false ↦ λ e. refl ] refl
+none_zero (d ∷ ds) all = rw (false_from_ne_true (eqb d 0) (λ e. all.0 (eqb-true d 0 e)), none_zero ds all.1) refl
 
 zero_none : (ds : List ℕ) → list_any (λ d. eqb d 0) ds ≡ false → AllByRecursion (λ e. e ≢ 0) ds
 zero_none [] h = tt
-zero_none (d ∷ ds) h = let k = or_parts (eqb d 0) (list_any (λ e. eqb e 0) ds) h in (λ z. let yes : eqb d 0 ≡ true = eq-eqb d 0 z in absurd (clash (sym yes ∙ k.0)), zero_none ds k.1)
-  where
-    or_parts : (a b : Bool) → (a || b) ≡ false → (a ≡ false) × (b ≡ false)
-    or_parts true b e = absurd cc
-    or_parts false b e = (refl, e)
-
-    clash : true ≡ false → ⊥
-    clash e = absurd cc
+zero_none (d ∷ ds) h =
+    let k = or_parts (eqb d 0) (list_any (λ e. eqb e 0) ds) h in
+    (λ z. true≢false (sym (eq-eqb d 0 z) ∙ k.0), zero_none ds k.1)
 
 module _ (n : ℕ) (listed : is_listed n ≡ true) (O : MonomialOrder) (L : IsMonomialOrder O) (sum : Polynomial ℕ) where
   -- the monomial has a coefficient in the sum
@@ -61,10 +50,10 @@ module _ (n : ℕ) (listed : is_listed n ≡ true) (O : MonomialOrder) (L : IsMo
   stands t = not (eqb (coefficient (residues n) sum t.at) 0)
 
   stays : (t : Term ℕ) → coefficient (residues n) sum t.at ≢ 0 → stands t ≡ true
-  stays t h = elim (eqb (coefficient (residues n) sum t.at) 0) as (λ b. eqb (coefficient (residues n) sum t.at) 0 ≡ b → not b ≡ true) [ true ↦ λ e. absurd (h (eqb-true _ 0 e)) | false ↦ λ e. refl ] refl
+  stays t h = not_from_false _ (false_from_ne_true (eqb (coefficient (residues n) sum t.at) 0) (λ e. h (eqb-true _ 0 e)))
 
   stood : (t : Term ℕ) → stands t ≡ true → coefficient (residues n) sum t.at ≢ 0
-  stood t h z = let yes : eqb (coefficient (residues n) sum t.at) 0 ≡ true = eq-eqb _ 0 z in let no : not true ≡ true = subst (λ (b : Bool). not b ≡ true) yes h in absurd cc
+  stood t h z = true≢false (sym (eq-eqb _ 0 z) ∙ not-true _ h)
 
   -- what holds of each degree holds of the degree of each monomial with a coefficient
   every : (Q : ℕ → Type 0) → AllByRecursion Q (degrees n O sum) → (m : List ℕ) → coefficient (residues n) sum m ≢ 0 → Q (O.degree m)
@@ -91,12 +80,12 @@ module _ (n : ℕ) (listed : is_listed n ≡ true) (O : MonomialOrder) (L : IsMo
           by true is rest = (each t.at (stood t is), rest)
           by false is rest = rest
 
-  module _ (p : Polynomial ℕ) (s : IsSumOf (residues n) O p sum) where
+  module _ (p : Polynomial ℕ) (s : Same (residues n) p sum) where
     in_poly : (m : List ℕ) → coefficient (residues n) sum m ≢ 0 → coefficient (residues n) p m ≢ 0
-    in_poly m c z = c (sym (s.same m) ∙ z)
+    in_poly m c z = c (sym (s m) ∙ z)
 
     in_sum : (m : List ℕ) → coefficient (residues n) p m ≢ 0 → coefficient (residues n) sum m ≢ 0
-    in_sum m c z = c (s.same m ∙ z)
+    in_sum m c z = c (s m ∙ z)
 
     one_degree : IsZeroOrHomogeneous (residues n) O p → is_one_degree (degrees n O sum) ≡ true
     unfolding coefficient
@@ -104,7 +93,7 @@ module _ (n : ℕ) (listed : is_listed n ≡ true) (O : MonomialOrder) (L : IsMo
     one_degree (inr (d, same)) = all_one d (degrees n O sum) (of_each (λ e. e ≡ d) (λ m c. same.each m (in_poly m c)))
 
     is_homogeneous : IsCanonical (residues n) O p → is_one_degree (degrees n O sum) ≡ true → IsZeroOrHomogeneous (residues n) O p
-    is_homogeneous kept e = let one = one_of (degrees n O sum) e in by p kept refl one.0 (λ m c. every (λ k. k ≡ one.0) one.1 m (in_sum m c))
+    is_homogeneous canonical e = let one = one_of (degrees n O sum) e in by p canonical refl one.0 (λ m c. every (λ k. k ≡ one.0) one.1 m (in_sum m c))
       where
         by : (q : Polynomial ℕ) → IsCanonical (residues n) O q → q ≡ p → (d : ℕ) → ((m : List ℕ) → coefficient (residues n) p m ≢ 0 → O.degree m ≡ d) → IsZeroOrHomogeneous (residues n) O p
         by [] k same d each = inl (λ m. ap (λ (r : Polynomial ℕ). coefficient (residues n) r m) (sym same))
@@ -114,9 +103,9 @@ module _ (n : ℕ) (listed : is_listed n ≡ true) (O : MonomialOrder) (L : IsMo
 
     pub judged_mixed : (constant : TextKind) → IsCanonical (residues n) O p → (IsZeroOrHomogeneous (residues n) O p → ⊥) → judged n O constant sum ≡ Err NotHomogeneous
     unfolding judged
-    judged_mixed constant kept mixed =
+    judged_mixed constant canonical mixed =
         let other : is_one_degree (degrees n O sum) ≡ false =
-        elim (is_one_degree (degrees n O sum)) as (λ b. is_one_degree (degrees n O sum) ≡ b → b ≡ false) [ true ↦ λ e. absurd (mixed (is_homogeneous kept e)) | false ↦ λ e. refl ] refl in
+        elim (is_one_degree (degrees n O sum)) as (λ b. is_one_degree (degrees n O sum) ≡ b → b ≡ false) [ true ↦ λ e. absurd (mixed (is_homogeneous canonical e)) | false ↦ λ e. refl ] refl in
         rw other refl
 
     judged_ok : (constant : TextKind) → is_one_degree (degrees n O sum) ≡ true → AllByRecursion (λ e. e ≢ 0) (degrees n O sum) → judged n O constant sum ≡ Ok sum
@@ -149,13 +138,24 @@ module _ (n : ℕ) (listed : is_listed n ≡ true) (O : MonomialOrder) (L : IsMo
         ] refl in
         rw (one_degree same, there) refl
 
-    pub kept_zero : IsCanonical (residues n) O p → p ≡ [] → IsCanonicalGenerator (residues n) O p
-    kept_zero kept zero = record { kept = kept; homogeneous = inl zero }
+-- ---- generators
 
-    pub kept_positive : (d : ℕ) → IsCanonical (residues n) O p → IsZeroOrHomogeneous (residues n) O p → IsDegree (residues n) O d p → d ≢ 0 → IsCanonicalGenerator (residues n) O p
-    kept_positive d kept same greatest positive =
-        let low : O.degree greatest.some.0 ≤ 30000 = all_found (residues n) (residues_field n listed) O L (λ m. O.degree m ≤ 30000) sum s.small greatest.some.0 (in_sum greatest.some.0 greatest.some.1) in
-        record {
-          kept = kept;
-          homogeneous = inr (d, omega (arith, positive), omega (arith, low, greatest.some.2), record { some = (greatest.some.0, greatest.some.1); each = has_degree d same greatest });
-        }
+module _ (n : ℕ) (listed : is_listed n ≡ true) (O : MonomialOrder) (L : IsMonomialOrder O) (p : Polynomial ℕ) (canonical : IsCanonical (residues n) O p) where
+  pub zero_generator : p ≡ [] → IsCanonicalGenerator (residues n) O p
+  zero_generator zero = record { canonical = canonical; homogeneous = inl zero }
+
+  pub positive_generator : (d : ℕ) → IsLow O p → IsZeroOrHomogeneous (residues n) O p → IsDegree (residues n) O d p → d ≢ 0 → IsCanonicalGenerator (residues n) O p
+  positive_generator d low same greatest positive =
+      let top : O.degree greatest.some.0 ≤ degree_max = all_found (residues n) (residues_field n listed) O L (λ m. O.degree m ≤ degree_max) p low greatest.some.0 greatest.some.1 in
+      record {
+        canonical = canonical;
+        homogeneous = inr (
+          d,
+          omega (arith, positive),
+          omega (arith, top, greatest.some.2),
+          record {
+            some = (greatest.some.0, greatest.some.1);
+            each = has_degree n listed O L p p (λ m. refl) d same greatest;
+          },
+        );
+      }

@@ -1,24 +1,24 @@
-mod Counting
-mod DueLines
-mod HeadFacts
-mod Judged
-mod KeptOrder
-mod LineWords
-mod NameWords
-mod NextLines
-mod NextPolys
-mod PolyLines
-mod QueryTexts
+pub mod ContentLines
+pub mod Counting
+pub mod GeneratorDegrees
+pub mod HeadFacts
+pub mod Judged
+pub mod LineTokens
+pub mod NameTokens
+pub mod NextLines
+pub mod NextPolys
+pub mod PolyLines
+pub mod QueryTexts
 pub mod ReadingLaws
-mod SmallTerms
-mod TableNames
-mod TakenWords
+pub mod TableNames
+pub mod TakenTokens
 pub mod TextHeading
 pub mod TextLines
 pub mod TextNumbers
 pub mod TextPolys
 pub mod TextRead
-pub mod TextWords
-mod WholeTexts
+pub mod TextTokens
+pub mod Weighing
+pub mod WholeTexts
 pub mod WrittenPieces
 pub mod WrittenText

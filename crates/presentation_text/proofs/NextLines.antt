@@ -1,24 +1,35 @@
--- What is made of the next due line.
-use Rattle.std.proofs.Common.{◌≡◌, ℕ, List, [], ◌∷◌, Result, Ok, Err, refl, ap}
+-- What is made of the next line.
+use Rattle.std.proofs.Common.{◌≡◌, ℕ, List, [], ◌∷◌, ◌++◌, Result, Ok, Err, refl, ap}
+use Rattle.word_field.specs.Field.{FieldOps}
+use Rattle.monomial_order.specs.MonomialOrder.{MonomialOrder}
+use Rattle.polynomials.specs.Polynomial.{Polynomial}
 use Rattle.polynomial_text.specs.declared.line_fault.LineFault.{LineFault}
 use Rattle.polynomial_text.specs.declared.line_fault.LineFault.TheVariants as line_faults
 use Rattle.presentation_text.specs.declared.text_fault.TextFault.{TextFault}
 use Rattle.presentation_text.specs.declared.text_fault.TextFault.TheVariants as faults
-use Rattle.polynomial_text.specs.declared.text_kind.TextKind.{TextKind}
-use Rattle.polynomial_text.specs.declared.text_kind.TextKind.TheVariants.{Truncated}
-use Rattle.polynomial_text.specs.Results.{◌>>=◌, Fault}
+use Rattle.presentation_text.specs.declared.text_kind.TextKind.{TextKind}
+use Rattle.presentation_text.specs.declared.text_kind.TextKind.TheVariants.{Truncated}
+use Rattle.polynomial_text.specs.Results.{◌>>=◌}
+use Rattle.presentation_text.specs.Kinds.{Fault}
 use Rattle.presentation_text.specs.Reading.{Line, at_line, next}
 use Rattle.polynomial_text.specs.Canonical.{IsLineFaultOf}
-use Rattle.presentation_text.specs.Meaning.{IsFaultOf}
+use Rattle.presentation_text.specs.Meaning.{AreSums, IsFaultOf}
 use Rattle.polynomial_text.specs.LineReading.{Gives as LineGives}
 use Rattle.presentation_text.specs.Giving.{Gives, fault_at, located}
+
+module _ {E : Type 0} (K : FieldOps E) (O : MonomialOrder) where
+  pub sums_push : (sums ps : List (Polynomial E)) (sum p : Polynomial E) → AreSums K O sums ps → AreSums K O (sum ∷ []) (p ∷ []) → AreSums K O (sums ++ sum ∷ []) (ps ++ p ∷ [])
+  sums_push [] [] sum p h k = k
+  sums_push [] (q ∷ ps) sum p h k = absurd h
+  sums_push (s ∷ sums) [] sum p h k = absurd h
+  sums_push (s ∷ sums) (q ∷ ps) sum p h k = (h.0, h.1, sums_push sums ps sum p h.2 k)
 
 module _ {Y : Type 0} (f : List ℕ → Result Y TextKind) where
   pub at_ok : (number : ℕ) (bytes : List ℕ) (y : Y) → f bytes ≡ Ok y → at_line f (number, bytes) ≡ Ok y
   unfolding at_line
   at_ok number bytes y e = rw e refl
 
-  pub at_err : (number : ℕ) (bytes : List ℕ) (e : LineFault) → IsLineFaultOf (f bytes) e → IsFaultOf (at_line f (number, bytes)) (fault_at number e)
+  pub at_err : (number : ℕ) (bytes : List ℕ) (e : LineFault TextKind) → IsLineFaultOf (f bytes) e → IsFaultOf (at_line f (number, bytes)) (fault_at number e)
   unfolding at_line
   at_err number bytes line_faults.Memory h = tt
   at_err number bytes (line_faults.Kind kind) h = rw h refl
@@ -27,7 +38,7 @@ module _ {Y : Type 0} (f : List ℕ → Result Y TextKind) where
   unfolding next
   next_ok last number bytes ls rest y split e = rw (split, at_ok number bytes y e) refl
 
-  pub next_err : (last number : ℕ) (bytes : List ℕ) (ls rest : List Line) (e : LineFault) → ls ≡ (number, bytes) ∷ rest → IsLineFaultOf (f bytes) e → IsFaultOf (next last f ls) (fault_at number e)
+  pub next_err : (last number : ℕ) (bytes : List ℕ) (ls rest : List Line) (e : LineFault TextKind) → ls ≡ (number, bytes) ∷ rest → IsLineFaultOf (f bytes) e → IsFaultOf (next last f ls) (fault_at number e)
   unfolding next
   next_err last number bytes ls rest line_faults.Memory split h = tt
   next_err last number bytes ls rest (line_faults.Kind kind) split h = stopped (at_err number bytes (line_faults.Kind kind) h)
@@ -39,7 +50,7 @@ module _ {Y : Type 0} (f : List ℕ → Result Y TextKind) where
   unfolding next
   next_none last ls e none is = rw (none, is) refl
 
-  pub next_gives : {X : Type 0} (view : X → Y) (last number : ℕ) (bytes : List ℕ) (ls rest : List Line) (r : Result X LineFault) (s : Result X TextFault)
+  pub next_gives : {X : Type 0} (view : X → Y) (last number : ℕ) (bytes : List ℕ) (ls rest : List Line) (r : Result X (LineFault TextKind)) (s : Result X TextFault)
       → ls ≡ (number, bytes) ∷ rest → LineGives view r (f bytes) → s ≡ located number r → Gives (λ x. (view x, rest)) s (next last f ls)
   next_gives view last number bytes ls rest (Ok x) s split h is = rw is (next_ok last number bytes ls rest (view x) split h)
   next_gives view last number bytes ls rest (Err e) s split h is = rw is (next_err last number bytes ls rest e split h)

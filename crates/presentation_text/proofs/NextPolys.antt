@@ -1,31 +1,32 @@
--- The polynomials of the next due lines.
-use Rattle.std.proofs.Common.{◌≡◌, ℕ, zero, suc, ◌+◌, ◌-◌, ◌<◌, ◌≤◌, List, [], ◌∷◌, ◌++◌, length, Result, Ok, Err, refl, sym, ap, subst, ◌∙◌, arith, append_assoc}
+-- The polynomials of the next lines.
+use Rattle.std.proofs.Common.{◌≡◌, ℕ, suc, ◌+◌, ◌-◌, ◌<◌, ◌≤◌, List, [], ◌∷◌, ◌++◌, length, Result, Ok, Err, refl, sym, ap, ◌∙◌, arith, append_assoc, length-append}
 use Rattle.std.specs.Prelude.{IfOk, IfErr}
 use Rattle.std.proofs.lemmas.List.{append-nil}
 use Rattle.word_field.specs.Field.{FieldOps}
-use Rattle.monomial_order.specs.declared.terms.Term.{Term}
 use Rattle.monomial_order.specs.MonomialOrder.{MonomialOrder}
 use Rattle.poly_core.specs.Presentation.{AreCanonicalGenerators, IsCanonicalGenerator}
 use Rattle.polynomial_text.specs.declared.line_fault.LineFault.{LineFault}
 use Rattle.presentation_text.specs.declared.text_fault.TextFault.{TextFault}
 use Rattle.presentation_text.specs.declared.text_fault.TextFault.TheVariants as faults
-use Rattle.polynomial_text.specs.declared.text_kind.TextKind.{TextKind}
-use Rattle.polynomial_text.specs.Results.{◌>>=◌, Fault}
+use Rattle.presentation_text.specs.declared.text_kind.TextKind.{TextKind}
+use Rattle.polynomial_text.specs.Results.{◌>>=◌}
+use Rattle.presentation_text.specs.Kinds.{Fault}
+use Rattle.presentation_text.specs.Heading.{count_max}
 use Rattle.presentation_text.specs.Reading.{Line, next, several}
 use Rattle.polynomial_text.specs.Canonical.{IsLineFaultOf}
 use Rattle.presentation_text.specs.Meaning.{AreSums, IsFaultOf}
 use Rattle.presentation_text.specs.Giving.{located}
-use Rattle.presentation_text.specs.KeptSums.{IsSumIn, AreSumsIn}
-use Rattle.presentation_text.proofs.NextLines.{next_ok, next_err}
+use Rattle.presentation_text.specs.PolySums.{IsSumIn, AreSumsIn}
+use Rattle.presentation_text.proofs.NextLines.{next_ok, next_err, sums_push}
 use Rattle.polynomials.specs.Polynomial.{Polynomial}
 
-pub poly_fails : {X : Type 0} (f : List ℕ → Result (Polynomial ℕ) TextKind) (last number : ℕ) (bytes : List ℕ) (ls rest : List Line) (r : Result X LineFault) (s : Result X TextFault)
+pub poly_fails : {X : Type 0} (f : List ℕ → Result (Polynomial ℕ) TextKind) (last number : ℕ) (bytes : List ℕ) (ls rest : List Line) (r : Result X (LineFault TextKind)) (s : Result X TextFault)
     → ls ≡ (number, bytes) ∷ rest → IfErr r (IsLineFaultOf (f bytes)) → s ≡ located number r → IfErr s (IsFaultOf (next last f ls))
 poly_fails f last number bytes ls rest (Ok x) s split h is = rw is tt
 poly_fails f last number bytes ls rest (Err e) s split h is = rw is (next_err f last number bytes ls rest e split h)
 
 module _ (K : FieldOps ℕ) (O : MonomialOrder) where
-  pub poly_gives : (f : List ℕ → Result (Polynomial ℕ) TextKind) (last number : ℕ) (bytes : List ℕ) (ls rest : List Line) (r : Result (Polynomial ℕ) LineFault) (s : Result (Polynomial ℕ) TextFault)
+  pub poly_gives : (f : List ℕ → Result (Polynomial ℕ) TextKind) (last number : ℕ) (bytes : List ℕ) (ls rest : List Line) (r : Result (Polynomial ℕ) (LineFault TextKind)) (s : Result (Polynomial ℕ) TextFault)
       → ls ≡ (number, bytes) ∷ rest → IfOk r (IsSumIn K O (λ sum. f bytes ≡ Ok sum)) → s ≡ located number r → IfOk s (IsSumIn K O (λ sum. next last f ls ≡ Ok (sum, rest)))
   poly_gives f last number bytes ls rest (Ok p) s split h is =
       rw is (record { sum = h.sum; is = next_ok f last number bytes ls rest h.sum split h.is; same = h.same; generator = h.generator })
@@ -33,15 +34,9 @@ module _ (K : FieldOps ℕ) (O : MonomialOrder) where
 
   -- ---- several polynomials
 
-  sums_push : (sums ps : List (Polynomial ℕ)) (sum p : Polynomial ℕ) → AreSums K O sums ps → AreSums K O (sum ∷ []) (p ∷ []) → AreSums K O (sums ++ sum ∷ []) (ps ++ p ∷ [])
-  sums_push [] [] sum p h k = k
-  sums_push [] (q ∷ ps) sum p h k = absurd h
-  sums_push (s ∷ sums) [] sum p h k = absurd h
-  sums_push (s ∷ sums) (q ∷ ps) sum p h k = (h.0, h.1, sums_push sums ps sum p h.2 k)
-
-  kept_push : (ps : List (Polynomial ℕ)) (p : Polynomial ℕ) → AreCanonicalGenerators K O ps → IsCanonicalGenerator K O p → AreCanonicalGenerators K O (ps ++ p ∷ [])
-  kept_push [] p h k = (k, tt)
-  kept_push (q ∷ ps) p h k = (h.0, kept_push ps p h.1 k)
+  generators_push : (ps : List (Polynomial ℕ)) (p : Polynomial ℕ) → AreCanonicalGenerators K O ps → IsCanonicalGenerator K O p → AreCanonicalGenerators K O (ps ++ p ∷ [])
+  generators_push [] p h k = (k, tt)
+  generators_push (q ∷ ps) p h k = (h.0, generators_push ps p h.1 k)
 
 -- what was read before, and what is still read
 abbrev pub with_sums : List (Polynomial ℕ) → Result (List (Polynomial ℕ) × List Line) Fault → Result (List (Polynomial ℕ) × List Line) Fault
@@ -56,7 +51,7 @@ pub record HaveCome (K : FieldOps ℕ) (O : MonomialOrder) (last : ℕ) (f : Lis
   pub sums : List (Polynomial ℕ)
   pub is : with_sums sums (several last f (count - i) ls) ≡ whole
   pub same : AreSums K O sums ps
-  pub kept : AreCanonicalGenerators K O ps
+  pub generators : AreCanonicalGenerators K O ps
   pub many : length ps ≡ i
 
 module _ (K : FieldOps ℕ) (O : MonomialOrder) (last : ℕ) (f : List ℕ → Result (Polynomial ℕ) TextKind) (count : ℕ) where
@@ -65,7 +60,7 @@ module _ (K : FieldOps ℕ) (O : MonomialOrder) (last : ℕ) (f : List ℕ → R
   none_before (Err e) = refl
 
   pub come_first : (ls : List Line) → HaveCome K O last f count 0 ls (several last f count ls) []
-  come_first ls = record { sums = []; is = (let all : count - 0 ≡ count = omega arith in rw all (none_before (several last f count ls))); same = tt; kept = tt; many = refl }
+  come_first ls = record { sums = []; is = (let all : count - 0 ≡ count = omega arith in rw all (none_before (several last f count ls))); same = tt; generators = tt; many = refl }
 
   pub come_next : (i : ℕ) (ls rest : List Line) (whole : Result (List (Polynomial ℕ) × List Line) Fault) (ps : List (Polynomial ℕ)) (p : Polynomial ℕ)
       → i < count → HaveCome K O last f count i ls whole ps → IsSumIn K O (λ sum. next last f ls ≡ Ok (sum, rest)) p → HaveCome K O last f count (i + 1) rest whole (ps ++ p ∷ [])
@@ -76,9 +71,9 @@ module _ (K : FieldOps ℕ) (O : MonomialOrder) (last : ℕ) (f : List ℕ → R
       record {
         sums = h.sums ++ s.sum ∷ [];
         is = sym step ∙ h.is;
-        same = sums_push K O h.sums ps s.sum p h.same (s.same, s.generator.kept, tt);
-        kept = kept_push K O ps p h.kept s.generator;
-        many = omega (arith, Rattle.std.proofs.Common.length-append ps (p ∷ []), h.many);
+        same = sums_push K O h.sums ps s.sum p h.same (s.same, s.generator.canonical, tt);
+        generators = generators_push K O ps p h.generators s.generator;
+        many = omega (arith, length-append ps (p ∷ []), h.many);
       }
 
   pub come_stop : (i : ℕ) (ls : List Line) (whole : Result (List (Polynomial ℕ) × List Line) Fault) (ps : List (Polynomial ℕ)) (e : TextFault)
@@ -91,9 +86,9 @@ module _ (K : FieldOps ℕ) (O : MonomialOrder) (last : ℕ) (f : List ℕ → R
       sym h.is ∙ step
 
   pub come_all : (i : ℕ) (ls : List Line) (whole : Result (List (Polynomial ℕ) × List Line) Fault) (ps : List (Polynomial ℕ))
-      → count ≤ i → i ≤ 256 → HaveCome K O last f count i ls whole ps → AreSumsIn K O (λ sums. whole ≡ Ok (sums, ls)) ps
+      → count ≤ i → i ≤ count_max → HaveCome K O last f count i ls whole ps → AreSumsIn K O (λ sums. whole ≡ Ok (sums, ls)) ps
   unfolding several
   come_all i ls whole ps le few h =
       let k : count - i ≡ 0 = omega arith in
       let step : with_sums h.sums (several last f (count - i) ls) ≡ Ok (h.sums, ls) = rw k (ap (λ (l : List (Polynomial ℕ)). Ok (l, ls)) (append-nil h.sums)) in
-      record { sums = h.sums; is = sym h.is ∙ step; same = h.same; kept = record { each = h.kept; few = omega (arith, h.many, few) } }
+      record { sums = h.sums; is = sym h.is ∙ step; same = h.same; canonical = record { each = h.generators; few = omega (arith, h.many, few) } }

@@ -1,10 +1,9 @@
--- A text presents one presentation at most, and has a fault only where it presents none.
+-- A text presents one presentation at most, and has a fault only if it presents none.
 use Rattle.std.proofs.Common.{◌≡◌, ℕ, true, List, [], ◌∷◌, map, Result, Ok, Err, refl, sym, ap, subst, ◌∙◌}
 use Rattle.std.proofs.Math.Bool.{Bool-set}
 use Rattle.word_field.specs.Field.{FieldOps, IsField}
 use Rattle.word_field.specs.Residues.{residues, is_listed}
 use Rattle.word_field.specs.declared.WordField.{WordField}
-use Rattle.monomial_order.specs.declared.terms.Term.{Term}
 use Rattle.monomial_order.specs.declared.weight_order.WeightOrder.{WeightOrder}
 use Rattle.monomial_order.specs.MonomialOrder.{MonomialOrder, IsMonomialOrder}
 use Rattle.monomial_order.specs.Orders.{weight_order}
@@ -13,7 +12,7 @@ use Rattle.poly_core.specs.declared.place_names.Names.TheVariants.{Listed}
 use Rattle.poly_core.specs.declared.presentations.Presentation.{Presentation}
 use Rattle.polynomials.specs.laws.Decreasing.{IsDecreasing_unique}
 use Rattle.poly_core.specs.Presentation.{IsSame, weight_order_of, generator_degree}
-use Rattle.polynomial_text.specs.Results.{Fault}
+use Rattle.presentation_text.specs.Kinds.{Fault}
 use Rattle.presentation_text.specs.Reading.{Reading, reading}
 use Rattle.presentation_text.specs.Meaning.{AreSums, IsRead}
 use Rattle.polynomials.specs.Polynomial.{Polynomial}

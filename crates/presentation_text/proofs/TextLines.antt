@@ -1,9 +1,9 @@
--- Lines that stand one after another in a text.
+-- Lines one after another in a text.
 use Rattle.std.proofs.Common.{◌≡◌, ℕ, suc, false, eqb, List, [], ◌∷◌, ◌++◌, Result, Ok, refl}
 use Rattle.std.specs.List.{AllByRecursion}
-use Rattle.polynomial_text.specs.declared.text_kind.TextKind.{TextKind}
-use Rattle.polynomial_text.specs.Blanks.{is_skipped}
-use Rattle.presentation_text.specs.Lines.{lines, due_lines}
+use Rattle.presentation_text.specs.declared.text_kind.TextKind.{TextKind}
+use Rattle.polynomial_text.specs.Bytes.{is_skipped}
+use Rattle.presentation_text.specs.Lines.{lines, content_lines}
 use Rattle.presentation_text.specs.Reading.{at_line, next}
 
 -- the bytes have no line feed among them
@@ -15,16 +15,16 @@ unfolding lines
 lines_step [] rest h = refl
 lines_step (b ∷ w) rest h = rw (h.0, lines_step w rest h.1) refl
 
-pub due_step : (n : ℕ) (w rest : List ℕ) → IsOneLine w → is_skipped w ≡ false → due_lines n (lines (w ++ 10 ∷ rest)) ≡ (n, w) ∷ due_lines (suc n) (lines rest)
-unfolding due_lines
-due_step n w rest h d = rw (lines_step w rest h, d) refl
+pub content_step : (n : ℕ) (w rest : List ℕ) → IsOneLine w → is_skipped w ≡ false → content_lines n (lines (w ++ 10 ∷ rest)) ≡ (n, w) ∷ content_lines (suc n) (lines rest)
+unfolding content_lines
+content_step n w rest h d = rw (lines_step w rest h, d) refl
 
 -- the next due line is read, and the text behind it is left
 pub next_line : {A : Type 0} (last n : ℕ) (f : List ℕ → Result A TextKind) (a : A) (w rest : List ℕ) → IsOneLine w → is_skipped w ≡ false → f w ≡ Ok a →
-    next last f (due_lines n (lines (w ++ 10 ∷ rest))) ≡ Ok (a, due_lines (suc n) (lines rest))
+    next last f (content_lines n (lines (w ++ 10 ∷ rest))) ≡ Ok (a, content_lines (suc n) (lines rest))
 unfolding next at_line
-next_line last n f a w rest h d e = rw (due_step n w rest h d, e) refl
+next_line last n f a w rest h d e = rw (content_step n w rest h d, e) refl
 
-pub no_more : (n : ℕ) → due_lines n (lines []) ≡ []
-unfolding due_lines lines
+pub no_more : (n : ℕ) → content_lines n (lines []) ≡ []
+unfolding content_lines lines
 no_more n = refl

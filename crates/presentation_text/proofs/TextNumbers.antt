@@ -1,5 +1,5 @@
--- Decimal numbers as words.
-use Rattle.std.proofs.Common.{◌≡◌, ℕ, ◌<◌, ◌≤◌, true, leb, ◌&&◌, List, [], ◌∷◌, length, map, Some, refl, arith}
+-- Decimal numbers as tokens.
+use Rattle.std.proofs.Common.{◌≡◌, ℕ, ◌<◌, ◌≤◌, true, leb, ◌&&◌, List, [], ◌∷◌, ◌++◌, length, map, Some, refl, arith}
 use Rattle.std.specs.List.{AllByRecursion, list_all}
 use Rattle.std.specs.Fmt.{decimal}
 use Rattle.std.specs.Str.Parse.{digits_value, AllDigits}
@@ -7,10 +7,10 @@ use Rattle.std.proofs.lemmas.Bool.{and_parts, le-leb, leb-true}
 use Rattle.std.proofs.lemmas.Str.Parse.{IsNumeralModel, numerals_by_value, tells_digits, digit_from_value}
 use Rattle.std.proofs.lemmas.Fmt.{digits_decimal, digits_value-decimal, decimal_nonempty, length-decimal-le}
 use Rattle.monomial_order.specs.Ranges.{all_between}
-use Rattle.polynomial_text.specs.Digits.{is_digit}
+use Rattle.polynomial_text.specs.Bytes.{digits_max, is_digit}
 use Rattle.presentation_text.specs.Numbers.{number_of, number_within}
-use Rattle.presentation_text.specs.Heading.{numbers_within}
-use Rattle.presentation_text.proofs.TextWords.{IsWord, not_equal}
+use Rattle.presentation_text.specs.Heading.{number_first, numbers_first}
+use Rattle.presentation_text.proofs.TextTokens.{IsToken, not_equal}
 
 own : IsNumeralModel (AllDigits 10) (digits_value 10)
 own = numerals_by_value (AllDigits 10) tells_digits
@@ -32,7 +32,7 @@ unfolding number_of
 decimal_number n l =
     let some : leb 1 (length (decimal n)) ≡ true = le-leb 1 (length (decimal n)) (decimal_nonempty n (omega arith)) in
     let most : length (decimal n) ≤ 5 = length-decimal-le 5 n (omega arith) l (omega arith) in
-    let short : leb (length (decimal n)) 18 ≡ true = le-leb (length (decimal n)) 18 (omega (arith, most)) in
+    let short : leb (length (decimal n)) digits_max ≡ true = le-leb (length (decimal n)) digits_max (omega (arith, most)) in
     let all : list_all is_digit (decimal n) ≡ true = all_digits (decimal n) (digits_decimal own n (omega arith)) in
     let value : digits_value 10 (decimal n) ≡ n = digits_value-decimal own n (omega arith) in
     rw (some, short, all, value) refl
@@ -45,21 +45,21 @@ raised : (w : List ℕ) → AllByRecursion (λ b. 48 ≤ b) w → AllByRecursion
 raised [] h = tt
 raised (b ∷ w) h = (omega (arith, h.0), raised w h.1)
 
-pub decimal_word : (n : ℕ) → n < 100000 → IsWord (decimal n)
-decimal_word n l = record { some = not_equal (length (decimal n)) 0 (decimal_nonempty n (omega arith)); visible = raised (decimal n) (decimal_bytes n l) }
+pub decimal_token : (n : ℕ) → n < 100000 → IsToken (decimal n)
+decimal_token n l = record { some = not_equal (length (decimal n)) 0 (decimal_nonempty n (omega arith)); visible = raised (decimal n) (decimal_bytes n l) }
 
--- numbers in a range are read of their decimals
-pub between_within : (low high : ℕ) (ns : List ℕ) → high < 100000 → all_between low high ns ≡ true → numbers_within low high (map decimal ns) ≡ Some ns
-unfolding numbers_within
-between_within low high [] l h = refl
-between_within low high (n ∷ ns) l h =
+-- numbers in a range are taken of their decimals
+pub between_first : (low high : ℕ) (ns : List ℕ) (rest : List (List ℕ)) → high < 100000 → all_between low high ns ≡ true → numbers_first low high (length ns) (map decimal ns ++ rest) ≡ Some (ns, rest)
+unfolding numbers_first number_first
+between_first low high [] rest l h = refl
+between_first low high (n ∷ ns) rest l h =
     let p = and_parts (leb low n && leb n high) (all_between low high ns) h in
     let most : n ≤ high = leb-true n high (and_parts (leb low n) (leb n high) p.0).1 in
-    rw (decimal_within low high n (omega arith) p.0, between_within low high ns l p.1) refl
+    rw (decimal_within low high n (omega arith) p.0, between_first low high ns rest l p.1) refl
 
-pub between_words : (low high : ℕ) (ns : List ℕ) → high < 100000 → all_between low high ns ≡ true → AllByRecursion IsWord (map decimal ns)
-between_words low high [] l h = tt
-between_words low high (n ∷ ns) l h =
+pub between_tokens : (low high : ℕ) (ns : List ℕ) → high < 100000 → all_between low high ns ≡ true → AllByRecursion IsToken (map decimal ns)
+between_tokens low high [] l h = tt
+between_tokens low high (n ∷ ns) l h =
     let p = and_parts (leb low n && leb n high) (all_between low high ns) h in
     let most : n ≤ high = leb-true n high (and_parts (leb low n) (leb n high) p.0).1 in
-    (decimal_word n (omega arith), between_words low high ns l p.1)
+    (decimal_token n (omega arith), between_tokens low high ns l p.1)

@@ -1,33 +1,35 @@
 -- The lines of the polynomials of a canonical text are read.
-use Rattle.std.proofs.Common.{◌≡◌, ◌≢◌, ℕ, zero, suc, ◌≤◌, ◌^◌, Bool, true, false, cond, not, eqb, nat_eq, List, [], ◌∷◌, ◌++◌, length, map, Some, IsSome, IfSome, Ok, refl, sym, ap, ◌∙◌, arith, append_assoc, ◌⊎◌, inl, inr}
-use Rattle.std.specs.Prelude.{filter, slice_get}
-use Rattle.std.specs.List.{AllByRecursion, list_all, list_any, IsDistinct}
-use Rattle.std.specs.Str.{bytes_eq}
+use Rattle.std.proofs.Common.{◌≡◌, ◌≢◌, ℕ, suc, ◌≤◌, ◌^◌, Bool, true, false, cond, not, eqb, nat_eq, List, [], ◌∷◌, ◌++◌, length, map, Ok, refl, sym, ap, ◌∙◌, arith, append_assoc, ◌⊎◌, inl, inr}
+use Rattle.std.specs.Prelude.{filter}
+use Rattle.std.specs.List.{AllByRecursion, list_all, list_any}
 use Rattle.std.proofs.lemmas.Bool.{and_parts, eq-eqb, not-true}
-use Rattle.std.proofs.lemmas.Slice.Eq.{bytes_eq-Decides}
-use Rattle.std.proofs.lemmas.List.Elements.{recursion_from_All}
 use Rattle.word_field.specs.Field.{FieldOps, IsField}
 use Rattle.word_field.specs.Residues.{residues, is_listed}
 use Rattle.word_field.specs.laws.Residues.{residues_field}
 use Rattle.monomial_order.specs.declared.terms.Term.{Term}
 use Rattle.monomial_order.specs.MonomialOrder.{MonomialOrder, IsMonomialOrder}
 use Rattle.monomial_order.specs.Ranges.{all_between, are_rows}
-use Rattle.polynomials.specs.Polynomial.{Polynomial, coefficient, Same, IsHomogeneous, AllAt}
+use Rattle.polynomials.specs.Polynomial.{Polynomial, coefficient, Same, IsHomogeneous}
 use Rattle.polynomials.specs.laws.Degrees.{decreasing_all}
-use Rattle.poly_core.specs.Names.{IsName, IsNameList, has_name_form}
+use Rattle.poly_core.specs.Names.{IsNameList}
 use Rattle.poly_core.specs.declared.place_names.Names.TheVariants.{Listed}
 use Rattle.poly_core.specs.Presentation.{IsCanonicalGenerator, AreCanonicalGenerators}
 use Rattle.poly_core.specs.Text.{poly_text}
 use Rattle.poly_core.specs.laws.Text.{decreasing_named}
-use Rattle.polynomial_text.specs.declared.text_kind.TextKind.{TextKind}
-use Rattle.polynomial_text.specs.Blanks.{is_skipped}
-use Rattle.presentation_text.specs.Lines.{lines, due_lines}
+use Rattle.presentation_text.specs.declared.text_kind.TextKind.{TextKind}
+use Rattle.polynomial_text.specs.Bytes.{is_skipped}
+use Rattle.monomial_order.specs.Limits.{degree_max}
+use Rattle.polynomial_text.specs.Degrees.{IsLow}
+use Rattle.polynomial_text.specs.PolyLine.{terms_of}
+use Rattle.polynomial_text.specs.laws.Names.{names_differ}
+use Rattle.presentation_text.specs.Heading.{rows_max, weight_max}
+use Rattle.presentation_text.specs.Lines.{lines, content_lines}
 use Rattle.presentation_text.specs.Judging.{degrees, is_one_degree, judged}
 use Rattle.presentation_text.specs.Reading.{Head, order_of_head, several, poly_line}
 use Rattle.presentation_text.specs.PresentationText.{line, poly_lines}
-use Rattle.polynomial_text.specs.Canonical.{AreDifferent}
 use Rattle.presentation_text.specs.Meaning.{AreSums}
-use Rattle.polynomial_text.specs.CanonicalPoly.{canonical_terms, canonical_line, canonical_due}
+use Rattle.polynomial_text.specs.laws.CanonicalPoly.{canonical_terms, canonical_line, canonical_not_skipped}
+use Rattle.presentation_text.proofs.PolyLines.{in_text_ok}
 use Rattle.presentation_text.proofs.TextLines.{IsOneLine, next_line}
 use Rattle.presentation_text.proofs.TextHeading.{listed_small}
 
@@ -77,44 +79,13 @@ unfolding coefficient
 zero_there p [] m e = refl
 zero_there p (t ∷ g) m e = absurd cc
 
--- the degree of a kept generator, and some degree for zero
-pub generator_has_degree : (p : ℕ) (O : MonomialOrder) (f : Polynomial ℕ) → IsCanonicalGenerator (residues p) O f → (d : ℕ) × (1 ≤ d) × (d ≤ 30000) × HasDegree p O f d
+-- the degree of a generator, and some degree for zero
+pub generator_has_degree : (p : ℕ) (O : MonomialOrder) (f : Polynomial ℕ) → IsCanonicalGenerator (residues p) O f → (d : ℕ) × (1 ≤ d) × (d ≤ degree_max) × HasDegree p O f d
 generator_has_degree p O f h = by_form h.homogeneous
   where
-    by_form : ((f ≡ []) ⊎ ((d : ℕ) × (1 ≤ d) × (d ≤ 30000) × IsHomogeneous (residues p) O d f)) → (d : ℕ) × (1 ≤ d) × (d ≤ 30000) × HasDegree p O f d
+    by_form : ((f ≡ []) ⊎ ((d : ℕ) × (1 ≤ d) × (d ≤ degree_max) × IsHomogeneous (residues p) O d f)) → (d : ℕ) × (1 ≤ d) × (d ≤ degree_max) × HasDegree p O f d
     by_form (inl e) = (1, omega arith, omega arith, λ m n. absurd (n (zero_there p f m e)))
     by_form (inr h) = (h.0, h.1, h.2, h.3.each)
-
--- ---- names
-
-apart : (name : List ℕ) (names : List (List ℕ)) (j : ℕ) → AllByRecursion (λ y. bytes_eq name y ≡ false) names → slice_get names j ≡ Some name → ⊥
-apart name [] j h e = absurd cc
-apart name (n ∷ names) zero h e =
-    let same : n ≡ name = cc in
-    let equal : bytes_eq name n ≡ true = (bytes_eq-Decides name n).1 (sym same) in
-    let differs = h.0 in
-    absurd cc
-apart name (n ∷ names) (suc j) h e = apart name names j h.1 e
-
-same_place : (names : List (List ℕ)) (i j : ℕ) → IsDistinct bytes_eq names → IsSome (slice_get names i) → slice_get names i ≡ slice_get names j → i ≡ j
-unfolding IsDistinct
-same_place [] i j d s e = absurd cc
-same_place (n ∷ names) zero zero d s e = refl
-same_place (n ∷ names) zero (suc j) d s e = absurd (apart n names j d.0 (sym e))
-same_place (n ∷ names) (suc i) zero d s e = absurd (apart n names i d.0 e)
-same_place (n ∷ names) (suc i) (suc j) d s e = ap suc (same_place names i j d.1 s e)
-
-form_at : (names : List (List ℕ)) (i : ℕ) → AllByRecursion IsName names → IfSome (slice_get names i) (λ name. has_name_form name ≡ true)
-form_at [] i h = tt
-form_at (n ∷ names) zero h = h.0.form
-form_at (n ∷ names) (suc i) h = form_at names i h.1
-
--- the names of a list are different, and have the form of names
-pub listed_differ : (n : ℕ) (names : List (List ℕ)) → IsNameList n names → AreDifferent n (Listed names)
-listed_differ n names h = record {
-  form = λ i l. form_at names i (recursion_from_All IsName names h.each);
-  differ = λ i j l k s e. same_place names i j h.distinct s e;
-}
 
 -- ---- lines
 
@@ -130,8 +101,8 @@ listed_few p h = let l = listed_small p h in omega arith
 -- what makes a heading sound
 pub record IsSound (h : Head) : Type 0 where
   pub listed : is_listed h.size ≡ true
-  pub weights : all_between 1 64 h.weights ≡ true
-  pub few : length h.rows ≤ 4
+  pub weights : all_between 1 weight_max h.weights ≡ true
+  pub few : length h.rows ≤ rows_max
   pub rows : are_rows (length h.weights) h.rows ≡ true
   pub order : IsMonomialOrder (order_of_head h)
   pub names : IsNameList (order_of_head h).places h.names
@@ -148,33 +119,33 @@ module _ (h : Head) (S : IsSound h) where
     read : poly_line h constant (poly_text field (Listed h.names) f) ≡ Ok ts
     sum : Same field f ts
     one : IsOneLine (poly_text field (Listed h.names) f)
-    due : is_skipped (poly_text field (Listed h.names) f) ≡ false
+    content : is_skipped (poly_text field (Listed h.names) f) ≡ false
 
   poly_back : (constant : TextKind) (f : Polynomial ℕ) → IsCanonicalGenerator field order f → (ts : Polynomial ℕ) × IsPolyLine constant f ts
   unfolding poly_line
   poly_back constant f g =
       let laws : IsField field = residues_field h.size S.listed in
       let d = generator_has_degree h.size order f g in
-      let different = listed_differ order.places h.names S.names in
-      let named = decreasing_named field order (Listed h.names) S.names f g.kept.decreasing in
-      let small : AllAt (λ m. order.degree m ≤ 30000) f =
-      decreasing_all field laws order S.order (λ m. order.degree m ≤ 30000) f g.kept.decreasing (λ m n. let e = d.3 m n in let l = d.2 in omega arith) in
+      let different = names_differ order.places (Listed h.names) S.names in
+      let named = decreasing_named field order (Listed h.names) S.names f g.canonical.decreasing in
+      let small : IsLow order f =
+      decreasing_all field laws order S.order (λ m. order.degree m ≤ degree_max) f g.canonical.decreasing (λ m n. let e = d.3 m n in let l = d.2 in omega arith) in
       let few = listed_few h.size S.listed in
-      let ts = canonical_terms field laws few order S.order (Listed h.names) different f g.kept named small in
+      let ts = canonical_terms field laws few order S.order (Listed h.names) different f g.canonical named small in
       let judge : judged h.size order constant ts.0 ≡ Ok ts.0 = judges h.size order constant ts.0 d.0 d.1 (λ m n. d.3 m (λ z. n (sym (ts.2 m) ∙ z))) in (
         ts.0,
         record {
-          read = rw ts.1 judge;
+          read = rw (in_text_ok (terms_of field order (Listed h.names) (poly_text field (Listed h.names) f)) ts.0 ts.1) judge;
           sum = ts.2;
-          one = no_feed (poly_text field (Listed h.names) f) (canonical_line field laws few order S.order (Listed h.names) different f g.kept named small);
-          due = canonical_due field laws few order S.order (Listed h.names) different f g.kept named small;
+          one = no_feed (poly_text field (Listed h.names) f) (canonical_line field laws few order S.order (Listed h.names) different f g.canonical named small);
+          content = canonical_not_skipped field laws few order S.order (Listed h.names) different f g.canonical named small;
         },
       )
 
   -- the lines of generators
   pub polys_back : (constant : TextKind) (last n : ℕ) (fs : List (Polynomial ℕ)) (rest : List ℕ) → AreCanonicalGenerators field order fs →
       (sums : List (Polynomial ℕ)) × (k : ℕ)
-      × (several last (poly_line h constant) (length fs) (due_lines n (lines (poly_lines field h.names fs ++ rest))) ≡ Ok (sums, due_lines k (lines rest)))
+      × (several last (poly_line h constant) (length fs) (content_lines n (lines (poly_lines field h.names fs ++ rest))) ≡ Ok (sums, content_lines k (lines rest)))
       × AreSums field order sums fs
   unfolding several
   polys_back constant last n [] rest g = ([], n, refl, tt)
@@ -185,5 +156,5 @@ module _ (h : Head) (S : IsSound h) where
       let others = polys_back constant last (suc n) fs rest g.1 in
       let regroup : poly_lines field h.names (f ∷ fs) ++ rest ≡ text ++ 10 ∷ more =
       append_assoc (line text []) (poly_lines field h.names fs) rest ∙ append_assoc text (10 ∷ []) more in
-      let one = next_line last n (poly_line h constant) first.0 text more first.1.one first.1.due first.1.read in
-      (first.0 ∷ others.0, others.1, rw (regroup, one, others.2) refl, (first.1.sum, g.0.kept, others.3))
+      let one = next_line last n (poly_line h constant) first.0 text more first.1.one first.1.content first.1.read in
+      (first.0 ∷ others.0, others.1, rw (regroup, one, others.2) refl, (first.1.sum, g.0.canonical, others.3))

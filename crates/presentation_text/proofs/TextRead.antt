@@ -7,7 +7,6 @@ use Rattle.std.proofs.lemmas.Bool.{and_parts, leb-true, not-true}
 use Rattle.std.proofs.lemmas.List.Elements.{recursion_from_All}
 use Rattle.word_field.specs.Residues.{residues, is_listed}
 use Rattle.word_field.specs.declared.WordField.{WordField}
-use Rattle.monomial_order.specs.declared.terms.Term.{Term}
 use Rattle.monomial_order.specs.declared.weight_order.WeightOrder.{WeightOrder}
 use Rattle.monomial_order.specs.declared.tie_break.Tie.{Tie}
 use Rattle.monomial_order.specs.Ranges.{all_between, are_rows}
@@ -16,51 +15,51 @@ use Rattle.poly_core.specs.declared.place_names.Names.TheVariants.{Listed}
 use Rattle.poly_core.specs.declared.presentations.Presentation.{Presentation}
 use Rattle.poly_core.specs.Names.{AreNames, IsName, IsNameList}
 use Rattle.poly_core.specs.Presentation.{IsCanonicalList, IsValid, weight_order_of}
-use Rattle.polynomial_text.specs.declared.text_kind.TextKind.{TextKind}
-use Rattle.polynomial_text.specs.declared.text_kind.TextKind.TheVariants.{UnitIdeal, ConstantGenerator}
-use Rattle.presentation_text.specs.Lines.{lines, due_lines, end_line}
-use Rattle.presentation_text.specs.Heading.{header_line, field_line, vars_line, weights_line, order_line, count_line, closing_line}
+use Rattle.presentation_text.specs.declared.text_kind.TextKind.{TextKind}
+use Rattle.presentation_text.specs.declared.text_kind.TextKind.TheVariants.{UnitIdeal, ConstantGenerator}
+use Rattle.presentation_text.specs.Lines.{lines, content_lines, end_line}
+use Rattle.presentation_text.specs.Heading.{count_max, rows_max, weight_max, header_line, field_line, vars_line, weights_line, order_line, count_line, closing_line}
 use Rattle.presentation_text.specs.Reading.{Line, Head, order_of_head, next, several, head, poly_line, counted, ended, reading_of, reading}
 use Rattle.presentation_text.specs.PresentationText.{line, poly_lines, presentation_text}
 use Rattle.presentation_text.specs.Meaning.{AreSums, IsTextOf, IsRead}
 use Rattle.presentation_text.proofs.TextLines.{no_more}
-use Rattle.presentation_text.proofs.TextWords.{IsWord, Begins, next_words}
-use Rattle.presentation_text.proofs.TextNumbers.{decimal_word, between_words}
-use Rattle.presentation_text.proofs.TextHeading.{row_line, listed_small, names_words, row_line_words, reads_header, reads_field, reads_vars, reads_weights, reads_order, reads_count, reads_end}
+use Rattle.presentation_text.proofs.TextTokens.{IsToken, Begins, next_tokens}
+use Rattle.presentation_text.proofs.TextNumbers.{decimal_token, between_tokens}
+use Rattle.presentation_text.proofs.TextHeading.{row_line, listed_small, names_tokens, row_line_tokens, reads_header, reads_field, reads_vars, reads_weights, reads_order, reads_count, reads_end}
 use Rattle.presentation_text.proofs.TextPolys.{IsSound, polys_back}
 use Rattle.polynomials.specs.Polynomial.{Polynomial}
 
--- ---- words that are keys
+-- ---- tokens that are keys
 
 visible : (w : List ℕ) → list_all (leb 33) w ≡ true → AllByRecursion (λ b. 33 ≤ b) w
 visible [] h = tt
 visible (b ∷ w) h = let p = and_parts (leb 33 b) (list_all (leb 33) w) h in (leb-true 33 b p.0, visible w p.1)
 
-key : (w : List ℕ) → (not (eqb (length w) 0) && list_all (leb 33) w) ≡ true → IsWord w
+key : (w : List ℕ) → (not (eqb (length w) 0) && list_all (leb 33) w) ≡ true → IsToken w
 key w h = let p = and_parts (not (eqb (length w) 0)) (list_all (leb 33) w) h in record { some = not-true (eqb (length w) 0) p.0; visible = visible w p.1 }
 
 -- ---- the lines of the heading
 
-header_back : (last n : ℕ) (rest : List ℕ) → next last header_line (due_lines n (lines (line (codes "subalgebra") (codes "1" ∷ []) ++ rest))) ≡ Ok ([], due_lines (suc n) (lines rest))
-header_back last n rest = next_words last n header_line [] (codes "subalgebra") (codes "1" ∷ []) rest (omega arith) (key (codes "subalgebra") refl) (key (codes "1") refl, tt) reads_header
+header_back : (last n : ℕ) (rest : List ℕ) → next last header_line (content_lines n (lines (line (codes "subalgebra") (codes "1" ∷ []) ++ rest))) ≡ Ok ([], content_lines (suc n) (lines rest))
+header_back last n rest = next_tokens last n header_line [] (codes "subalgebra") (codes "1" ∷ []) rest (omega arith) (key (codes "subalgebra") refl) (key (codes "1") refl, tt) reads_header
 
-field_back : (p last n : ℕ) (rest : List ℕ) → is_listed p ≡ true → next last field_line (due_lines n (lines (line (codes "field") (decimal p ∷ []) ++ rest))) ≡ Ok (p, due_lines (suc n) (lines rest))
-field_back p last n rest h = next_words last n field_line p (codes "field") (decimal p ∷ []) rest (omega arith) (key (codes "field") refl) (decimal_word p (listed_small p h), tt) (λ l. reads_field p l h)
+field_back : (p last n : ℕ) (rest : List ℕ) → is_listed p ≡ true → next last field_line (content_lines n (lines (line (codes "field") (decimal p ∷ []) ++ rest))) ≡ Ok (p, content_lines (suc n) (lines rest))
+field_back p last n rest h = next_tokens last n field_line p (codes "field") (decimal p ∷ []) rest (omega arith) (key (codes "field") refl) (decimal_token p (listed_small p h), tt) (λ l. reads_field p l h)
 
-vars_back : (names : List (List ℕ)) (places last n : ℕ) (rest : List ℕ) → IsNameList places names → next last vars_line (due_lines n (lines (line (codes "vars") names ++ rest))) ≡ Ok (names, due_lines (suc n) (lines rest))
-vars_back names places last n rest h = next_words last n vars_line names (codes "vars") names rest (omega arith) (key (codes "vars") refl) (names_words names (recursion_from_All IsName names h.each)) (λ l. reads_vars places names l h)
+vars_back : (names : List (List ℕ)) (places last n : ℕ) (rest : List ℕ) → IsNameList places names → next last vars_line (content_lines n (lines (line (codes "vars") names ++ rest))) ≡ Ok (names, content_lines (suc n) (lines rest))
+vars_back names places last n rest h = next_tokens last n vars_line names (codes "vars") names rest (omega arith) (key (codes "vars") refl) (names_tokens names (recursion_from_All IsName names h.each)) (λ l. reads_vars places names l h)
 
-weights_back : (weights : List ℕ) (places last n : ℕ) (rest : List ℕ) → length weights ≡ places → all_between 1 64 weights ≡ true → next last (weights_line places) (due_lines n (lines (line (codes "weights") (map decimal weights) ++ rest))) ≡ Ok (weights, due_lines (suc n) (lines rest))
+weights_back : (weights : List ℕ) (places last n : ℕ) (rest : List ℕ) → length weights ≡ places → all_between 1 weight_max weights ≡ true → next last (weights_line places) (content_lines n (lines (line (codes "weights") (map decimal weights) ++ rest))) ≡ Ok (weights, content_lines (suc n) (lines rest))
 weights_back weights places last n rest c h =
-    next_words last n (weights_line places) weights (codes "weights") (map decimal weights) rest (omega arith) (key (codes "weights") refl) (between_words 1 64 weights (omega arith) h) (λ l. reads_weights places weights l c h)
+    next_tokens last n (weights_line places) weights (codes "weights") (map decimal weights) rest (omega arith) (key (codes "weights") refl) (between_tokens 1 weight_max weights (omega arith) h) (λ l. reads_weights places weights l c h)
 
-order_back : (rows : List (List ℕ)) (tie : Tie) (places last n : ℕ) (rest : List ℕ) → length rows ≤ 4 → are_rows places rows ≡ true → next last (order_line places) (due_lines n (lines (line (codes "order") (row_line rows tie) ++ rest))) ≡ Ok ((rows, tie), due_lines (suc n) (lines rest))
+order_back : (rows : List (List ℕ)) (tie : Tie) (places last n : ℕ) (rest : List ℕ) → length rows ≤ rows_max → are_rows places rows ≡ true → next last (order_line places) (content_lines n (lines (line (codes "order") (row_line rows tie) ++ rest))) ≡ Ok ((rows, tie), content_lines (suc n) (lines rest))
 order_back rows tie places last n rest few h =
-    next_words last n (order_line places) (rows, tie) (codes "order") (row_line rows tie) rest (omega arith) (key (codes "order") refl) (row_line_words places rows tie h) (λ l. reads_order places rows tie l few h)
+    next_tokens last n (order_line places) (rows, tie) (codes "order") (row_line rows tie) rest (omega arith) (key (codes "order") refl) (row_line_tokens places rows tie h) (λ l. reads_order places rows tie l few h)
 
-count_back : (word : List ℕ) (k last n : ℕ) (rest : List ℕ) → Begins word → IsWord word → k ≤ 256 → next last (count_line word) (due_lines n (lines (line word (decimal k ∷ []) ++ rest))) ≡ Ok (k, due_lines (suc n) (lines rest))
-count_back word k last n rest b w few =
-    next_words last n (count_line word) k word (decimal k ∷ []) rest b w (decimal_word k (omega arith), tt) (λ l. reads_count word k l few)
+count_back : (token : List ℕ) (k last n : ℕ) (rest : List ℕ) → Begins token → IsToken token → k ≤ count_max → next last (count_line token) (content_lines n (lines (line token (decimal k ∷ []) ++ rest))) ≡ Ok (k, content_lines (suc n) (lines rest))
+count_back token k last n rest b w few =
+    next_tokens last n (count_line token) k token (decimal k ∷ []) rest b w (decimal_token k (omega arith), tt) (λ l. reads_count token k l few)
 
 head_steps : (last : ℕ) (l0 l1 l2 l3 l4 l5 : List Line) (h : Head) →
     next last header_line l0 ≡ Ok ([], l1) → next last field_line l1 ≡ Ok (h.size, l2) → next last vars_line l2 ≡ Ok (h.names, l3) →
@@ -75,7 +74,7 @@ heading h rest =
     (line (codes "vars") h.names ++ (line (codes "weights") (map decimal h.weights) ++
     (line (codes "order") (row_line h.rows h.tie) ++ rest))))
 
-head_back : (h : Head) → IsSound h → (last : ℕ) (rest : List ℕ) → head last (due_lines 1 (lines (heading h rest))) ≡ Ok (h, due_lines 6 (lines rest))
+head_back : (h : Head) → IsSound h → (last : ℕ) (rest : List ℕ) → head last (content_lines 1 (lines (heading h rest))) ≡ Ok (h, content_lines 6 (lines rest))
 unfolding heading
 head_back h s last rest =
     let order : List ℕ = line (codes "order") (row_line h.rows h.tie) ++ rest in
@@ -84,7 +83,7 @@ head_back h s last rest =
     let field : List ℕ = line (codes "field") (decimal h.size ∷ []) ++ vars in
     let places : length h.names ≡ length h.weights = s.names.each_place in
     let rows : are_rows (length h.names) h.rows ≡ true = ap (λ (n : ℕ). are_rows n h.rows) places ∙ s.rows in
-    head_steps last (due_lines 1 (lines (heading h rest))) (due_lines 2 (lines field)) (due_lines 3 (lines vars)) (due_lines 4 (lines weights)) (due_lines 5 (lines order)) (due_lines 6 (lines rest)) h
+    head_steps last (content_lines 1 (lines (heading h rest))) (content_lines 2 (lines field)) (content_lines 3 (lines vars)) (content_lines 4 (lines weights)) (content_lines 5 (lines order)) (content_lines 6 (lines rest)) h
     (header_back last 1 field)
     (field_back h.size last 2 vars s.listed)
     (vars_back h.names (length h.weights) last 3 weights s.names)
@@ -93,27 +92,27 @@ head_back h s last rest =
 
 -- ---- the lists
 
-counted_steps : (last : ℕ) (h : Head) (word : List ℕ) (constant : TextKind) (l0 l1 l2 : List Line) (k : ℕ) (sums : List (Polynomial ℕ)) →
-    next last (count_line word) l0 ≡ Ok (k, l1) → several last (poly_line h constant) k l1 ≡ Ok (sums, l2) → counted last h word constant l0 ≡ Ok (sums, l2)
+counted_steps : (last : ℕ) (h : Head) (token : List ℕ) (constant : TextKind) (l0 l1 l2 : List Line) (k : ℕ) (sums : List (Polynomial ℕ)) →
+    next last (count_line token) l0 ≡ Ok (k, l1) → several last (poly_line h constant) k l1 ≡ Ok (sums, l2) → counted last h token constant l0 ≡ Ok (sums, l2)
 unfolding counted
-counted_steps last h word constant l0 l1 l2 k sums a b = rw (a, b) refl
+counted_steps last h token constant l0 l1 l2 k sums a b = rw (a, b) refl
 
 -- the lines of a list, and those behind them
 listing : Head → List ℕ → List (Polynomial ℕ) → List ℕ → List ℕ
-listing h word fs rest = line word (decimal (length fs) ∷ []) ++ (poly_lines (residues h.size) h.names fs ++ rest)
+listing h token fs rest = line token (decimal (length fs) ∷ []) ++ (poly_lines (residues h.size) h.names fs ++ rest)
 
-counted_back : (h : Head) (s : IsSound h) (word : List ℕ) (constant : TextKind) (last n : ℕ) (fs : List (Polynomial ℕ)) (rest : List ℕ) → Begins word → IsWord word → IsCanonicalList (residues h.size) (order_of_head h) fs →
+counted_back : (h : Head) (s : IsSound h) (token : List ℕ) (constant : TextKind) (last n : ℕ) (fs : List (Polynomial ℕ)) (rest : List ℕ) → Begins token → IsToken token → IsCanonicalList (residues h.size) (order_of_head h) fs →
     (sums : List (Polynomial ℕ)) × (k : ℕ)
-    × (counted last h word constant (due_lines n (lines (listing h word fs rest))) ≡ Ok (sums, due_lines k (lines rest)))
+    × (counted last h token constant (content_lines n (lines (listing h token fs rest))) ≡ Ok (sums, content_lines k (lines rest)))
     × AreSums (residues h.size) (order_of_head h) sums fs
 unfolding listing
-counted_back h s word constant last n fs rest b w g =
+counted_back h s token constant last n fs rest b w g =
     let more : List ℕ = poly_lines (residues h.size) h.names fs ++ rest in
     let polys = polys_back h s constant last (suc n) fs rest g.each in (
       polys.0,
       polys.1,
-      counted_steps last h word constant (due_lines n (lines (listing h word fs rest))) (due_lines (suc n) (lines more)) (due_lines polys.1 (lines rest)) (length fs) polys.0
-          (count_back word (length fs) last n more b w g.few) polys.2,
+      counted_steps last h token constant (content_lines n (lines (listing h token fs rest))) (content_lines (suc n) (lines more)) (content_lines polys.1 (lines rest)) (length fs) polys.0
+          (count_back token (length fs) last n more b w g.few) polys.2,
       polys.3,
     )
 
@@ -123,10 +122,10 @@ ended_steps : (last : ℕ) (l0 : List Line) → next last closing_line l0 ≡ Ok
 unfolding ended
 ended_steps last l0 a = rw a refl
 
-ended_back : (last n : ℕ) → ended last (due_lines n (lines (line (codes "end") []))) ≡ Ok []
+ended_back : (last n : ℕ) → ended last (content_lines n (lines (line (codes "end") []))) ≡ Ok []
 ended_back last n =
-    let one = next_words last n closing_line [] (codes "end") [] [] (omega arith) (key (codes "end") refl) tt reads_end in
-    ended_steps last (due_lines n (lines (line (codes "end") []))) (one ∙ ap (λ (l : List Line). Ok ([], l)) (no_more (suc n)))
+    let one = next_tokens last n closing_line [] (codes "end") [] [] (omega arith) (key (codes "end") refl) tt reads_end in
+    ended_steps last (content_lines n (lines (line (codes "end") []))) (one ∙ ap (λ (l : List Line). Ok ([], l)) (no_more (suc n)))
 
 -- ---- the whole
 
@@ -153,7 +152,7 @@ pub record IsReadAs (h : Head) (ideal generators : List (Polynomial ℕ)) : Type
   pub generators_are : AreSums (residues h.size) (order_of_head h) generator_sums generators
 
 read_steps : (h : Head) → IsSound h → (last : ℕ) (ideal generators : List (Polynomial ℕ)) → IsCanonicalList (residues h.size) (order_of_head h) ideal → IsCanonicalList (residues h.size) (order_of_head h) generators →
-    (is : List (Polynomial ℕ)) × (gs : List (Polynomial ℕ)) × (reading_of last (due_lines 1 (lines (text_of h ideal generators))) ≡ Ok record { head = h; ideal = is; generators = gs })
+    (is : List (Polynomial ℕ)) × (gs : List (Polynomial ℕ)) × (reading_of last (content_lines 1 (lines (text_of h ideal generators))) ≡ Ok record { head = h; ideal = is; generators = gs })
     × AreSums (residues h.size) (order_of_head h) is ideal × AreSums (residues h.size) (order_of_head h) gs generators
 unfolding text_of
 read_steps h s last ideal generators hi hg =
@@ -163,7 +162,7 @@ read_steps h s last ideal generators hi hg =
     let second = counted_back h s (codes "generators") ConstantGenerator last first.1 generators end (omega arith) (key (codes "generators") refl) hg in (
       first.0,
       second.0,
-      reading_steps last (due_lines 1 (lines (text_of h ideal generators))) (due_lines 6 (lines (listing h (codes "ideal") ideal behind))) (due_lines first.1 (lines behind)) (due_lines second.1 (lines end)) h first.0 second.0
+      reading_steps last (content_lines 1 (lines (text_of h ideal generators))) (content_lines 6 (lines (listing h (codes "ideal") ideal behind))) (content_lines first.1 (lines behind)) (content_lines second.1 (lines end)) h first.0 second.0
           (head_back h s last (listing h (codes "ideal") ideal behind)) first.2 second.2 (ended_back last second.1),
       first.3,
       second.3,

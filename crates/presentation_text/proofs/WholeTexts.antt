@@ -4,7 +4,6 @@ use Rattle.std.specs.Prelude.{codes}
 use Rattle.word_field.specs.Residues.{residues}
 use Rattle.word_field.specs.laws.Residues.{residues_field}
 use Rattle.word_field.specs.declared.WordField.{WordField}
-use Rattle.monomial_order.specs.declared.terms.Term.{Term}
 use Rattle.monomial_order.specs.declared.weight_order.WeightOrder.{WeightOrder}
 use Rattle.monomial_order.specs.MonomialOrder.{IsMonomialOrder}
 use Rattle.monomial_order.specs.laws.Ties.{weight_laws}
@@ -12,17 +11,18 @@ use Rattle.poly_core.specs.Names.{AreNames}
 use Rattle.poly_core.specs.declared.presentations.Presentation.{Presentation}
 use Rattle.poly_core.specs.Presentation.{IsValid, weight_order_of}
 use Rattle.poly_core.specs.laws.Presentation.{canonical_presentation}
-use Rattle.presentation_text.specs.declared.head.Head.{Head as Kept}
+use Rattle.presentation_text.specs.declared.head.Head.{Head as Opening}
 use Rattle.presentation_text.specs.declared.text_fault.TextFault.{TextFault}
 use Rattle.presentation_text.specs.declared.text_fault.TextFault.TheVariants as faults
-use Rattle.polynomial_text.specs.declared.text_kind.TextKind.TheVariants.{UnitIdeal, ConstantGenerator}
+use Rattle.presentation_text.specs.declared.text_kind.TextKind.TheVariants.{UnitIdeal, ConstantGenerator}
 use Rattle.presentation_text.specs.Lines.{lines, end_line}
-use Rattle.polynomial_text.specs.Results.{◌>>=◌, Fault}
+use Rattle.polynomial_text.specs.Results.{◌>>=◌}
+use Rattle.presentation_text.specs.Kinds.{Fault}
 use Rattle.presentation_text.specs.Reading.{Line, Head, Reading, head, counted, ended, reading_of, reading}
 use Rattle.presentation_text.specs.Meaning.{IsRead, IsFaultOf}
-use Rattle.presentation_text.specs.Giving.{head_of}
+use Rattle.presentation_text.specs.Giving.{field_in, order_in, head_of}
 use Rattle.presentation_text.specs.Pending.{Pending, pending}
-use Rattle.presentation_text.specs.KeptSums.{AreListsIn, IsMadeOf, lists}
+use Rattle.presentation_text.specs.PolySums.{AreListsIn, IsMadeOf, lists}
 use Rattle.presentation_text.proofs.TableNames.{is_listed}
 use Rattle.polynomials.specs.Polynomial.{Polynomial}
 
@@ -87,32 +87,32 @@ lists_err : (last : ℕ) (h : Head) (rest : List Line) (e : TextFault) → IsFau
 lists_err last h rest faults.Memory k = tt
 lists_err last h rest (faults.At kind line) k = rw k refl
 
-reading_from : (text : List ℕ) (l : Pending) → l ≡ pending 1 text → reading text ≡ reading_of l.missing l.due
+reading_from : (text : List ℕ) (l : Pending) → l ≡ pending 1 text → reading text ≡ reading_of l.missing l.left
 reading_from text l e =
     let same : 1 + length (lines text) ≡ end_line text = omega arith in
     rw (e, same) refl
 
-pub head_refused : (text : List ℕ) (l : Pending) (e : TextFault) → l ≡ pending 1 text → IsFaultOf (head l.missing l.due) e → IsFaultOf (reading text) e
-head_refused text l e start k = rw (reading_from text l start) (head_err l.missing l.due e k)
+pub head_refused : (text : List ℕ) (l : Pending) (e : TextFault) → l ≡ pending 1 text → IsFaultOf (head l.missing l.left) e → IsFaultOf (reading text) e
+head_refused text l e start k = rw (reading_from text l start) (head_err l.missing l.left e k)
 
-module _ (text : List ℕ) (l : Pending) (start : l ≡ pending 1 text) (h : Kept) (rest : List Line) (first : head l.missing l.due ≡ Ok (head_of h, rest)) where
+module _ (text : List ℕ) (l : Pending) (start : l ≡ pending 1 text) (h : Opening) (rest : List Line) (first : head l.missing l.left ≡ Ok (head_of h, rest)) where
   whole : reading text ≡ finished (head_of h, rest) l.missing
-  whole = reading_from text l start ∙ reading_step l.missing l.due (head_of h) rest first
+  whole = reading_from text l start ∙ reading_step l.missing l.left (head_of h) rest first
 
   pub lists_refused : (e : TextFault) → IsFaultOf (lists l.missing (head_of h) rest) e → IsFaultOf (reading text) e
   lists_refused e k = rw whole (lists_err l.missing (head_of h) rest e k)
 
   module _ (named : AreNames (length h.order.weights.items) h.names) (ideal generators : List (Polynomial ℕ))
-      (are : AreListsIn (residues h.field.modulus) (weight_order_of h.order) (λ sums. lists l.missing (head_of h) rest ≡ Ok sums) ideal generators) (p : Presentation WordField WeightOrder ℕ) (of : IsMadeOf h ideal generators p) where
+      (are : AreListsIn (field_in h) (order_in h) (λ sums. lists l.missing (head_of h) rest ≡ Ok sums) ideal generators) (p : Presentation WordField WeightOrder ℕ) (of : IsMadeOf h ideal generators p) where
     laws : IsMonomialOrder (weight_order_of h.order)
     laws = weight_laws h.order.weights.items h.order.rows.items h.order.tie h.order.weights_in_range
 
     valid : IsValid (λ f. residues f.modulus) weight_order_of p
     valid = record {
-      presentation = rw (of.field, of.order, of.ideal_is, of.generators_are) (canonical_presentation (residues h.field.modulus) (weight_order_of h.order) (residues_field h.field.modulus h.field.listed) laws ideal generators are.ideal_kept are.generators_kept);
+      presentation = rw (of.field, of.order, of.ideal_is, of.generators_are) (canonical_presentation (residues h.field.modulus) (weight_order_of h.order) (residues_field h.field.modulus h.field.listed) laws ideal generators are.ideal_canonical are.generators_canonical);
       names = rw (of.order, of.names) named;
-      ideal = rw (of.field, of.order, of.ideal_is) are.ideal_kept;
-      generators = rw (of.field, of.order, of.generators_are) are.generators_kept;
+      ideal = rw (of.field, of.order, of.ideal_is) are.ideal_canonical;
+      generators = rw (of.field, of.order, of.generators_are) are.generators_canonical;
       no_x = of.no_x;
       degrees = rw (of.order, of.generators_are) of.degrees;
     }

@@ -3,7 +3,7 @@ use Rattle.std.proofs.Common.{◌≡◌, ℕ, zero, suc, ◌+◌, ◌<◌, ◌�
 use Rattle.std.specs.Fmt.{decimal}
 use Rattle.std.proofs.lemmas.List.{drop_all}
 use Rattle.std.proofs.lemmas.List.Concat.{flat_map-append}
-use Rattle.presentation_text.specs.PresentationText.{row_words}
+use Rattle.presentation_text.specs.PresentationText.{row_tokens}
 
 -- G writes a list member by member
 module _ {X A : Type 0} (G : List X → List A) (f : X → List A) (nil : G [] ≡ []) (cons : (x : X) (xs : List X) → G (x ∷ xs) ≡ f x ++ G xs) where
@@ -15,21 +15,21 @@ module _ {X A : Type 0} (G : List X → List A) (f : X → List A) (nil : G [] �
   pub piece_last : (xs : List X) (i : ℕ) (out whole : List A) → length xs ≤ i → out ++ G (drop i xs) ≡ whole → out ≡ whole
   piece_last xs i out whole le h = sym (append-nil out) ∙ (ap (λ o. out ++ o) (sym nil ∙ ap G (sym (drop_all i xs le))) ∙ h)
 
--- words with a space before each
-abbrev pub spaced_words : List (List ℕ) → List ℕ
-spaced_words words = flat_map (λ w. 32 ∷ w) words
+-- tokens with a space before each
+abbrev pub spaced_tokens : List (List ℕ) → List ℕ
+spaced_tokens tokens = flat_map (λ w. 32 ∷ w) tokens
 
 abbrev pub spaced_numbers : List ℕ → List ℕ
-spaced_numbers ns = spaced_words (map decimal ns)
+spaced_numbers ns = spaced_tokens (map decimal ns)
 
 abbrev pub spaced_rows : List (List ℕ) → List ℕ
-spaced_rows rows = spaced_words (flat_map row_words rows)
+spaced_rows rows = spaced_tokens (flat_map row_tokens rows)
 
-pub rows_next : (row : List ℕ) (rows : List (List ℕ)) → spaced_rows (row ∷ rows) ≡ spaced_words (row_words row) ++ spaced_rows rows
-rows_next row rows = flat_map-append (λ w. 32 ∷ w) (row_words row) (flat_map row_words rows)
+pub rows_next : (row : List ℕ) (rows : List (List ℕ)) → spaced_rows (row ∷ rows) ≡ spaced_tokens (row_tokens row) ++ spaced_rows rows
+rows_next row rows = flat_map-append (λ w. 32 ∷ w) (row_tokens row) (flat_map row_tokens rows)
 
 -- a row behind its numbers
-pub row_end : (row : List ℕ) → spaced_words (row_words row) ≡ spaced_numbers row ++ 32 ∷ (59 ∷ [])
+pub row_end : (row : List ℕ) → spaced_tokens (row_tokens row) ≡ spaced_numbers row ++ 32 ∷ (59 ∷ [])
 row_end row = flat_map-append (λ w. 32 ∷ w) (map decimal row) ((59 ∷ []) ∷ [])
 
 pub name_at_place : (names : List (List ℕ)) (i : ℕ) (name : List ℕ) → slice_get names i ≡ Some name → name ≡ get_or names i name

@@ -2,11 +2,10 @@
 use Rattle.std.specs.Prelude.{ℕ, List, [], ◌∷◌, map, filter, Bool, true, not, ◌==◌, Result, Ok, Err, nat_eq, if◌then◌else◌}
 use Rattle.std.specs.List.{list_all, list_any}
 use Rattle.word_field.specs.Residues.{residues}
-use Rattle.monomial_order.specs.declared.terms.Term.{Term}
 use Rattle.monomial_order.specs.MonomialOrder.{MonomialOrder}
 use Rattle.polynomials.specs.Polynomial.{Polynomial, coefficient}
-use Rattle.polynomial_text.specs.declared.text_kind.TextKind.{TextKind}
-use Rattle.polynomial_text.specs.declared.text_kind.TextKind.TheVariants.{NotHomogeneous}
+use Rattle.presentation_text.specs.declared.text_kind.TextKind.{TextKind}
+use Rattle.presentation_text.specs.declared.text_kind.TextKind.TheVariants.{NotHomogeneous}
 
 -- the degrees of the terms at whose monomials the coefficient of the sum is not zero
 abbrev pub degrees : ℕ → MonomialOrder → Polynomial ℕ → List ℕ

@@ -1,11 +1,12 @@
 pub mod Giving
 pub mod Heading
 pub mod Judging
-pub mod KeptSums
+pub mod Kinds
 pub mod Lines
 pub mod Meaning
 pub mod Numbers
 pub mod Pending
+pub mod PolySums
 pub mod PresentationText
 pub mod Reading
 pub mod Taking

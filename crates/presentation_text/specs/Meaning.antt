@@ -3,7 +3,6 @@ use Rattle.std.specs.Prelude.{◌≡◌, ℕ, List, [], ◌∷◌, Result, Ok, E
 use Rattle.word_field.specs.Field.{FieldOps}
 use Rattle.word_field.specs.Residues.{residues}
 use Rattle.word_field.specs.declared.WordField.{WordField}
-use Rattle.monomial_order.specs.declared.terms.Term.{Term}
 use Rattle.monomial_order.specs.declared.weight_order.WeightOrder.{WeightOrder}
 use Rattle.monomial_order.specs.MonomialOrder.{MonomialOrder}
 use Rattle.polynomials.specs.Polynomial.{Polynomial, Same, IsCanonical}
@@ -13,7 +12,7 @@ use Rattle.poly_core.specs.declared.place_names.Names.TheVariants.{Listed}
 use Rattle.poly_core.specs.declared.presentations.Presentation.{Presentation}
 use Rattle.presentation_text.specs.declared.text_fault.TextFault.{TextFault}
 use Rattle.presentation_text.specs.declared.text_fault.TextFault.TheVariants as faults
-use Rattle.polynomial_text.specs.Results.{Fault}
+use Rattle.presentation_text.specs.Kinds.{Fault}
 use Rattle.presentation_text.specs.Reading.{Reading, reading, queries}
 use Rattle.presentation_text.specs.PresentationText.{presentation_text}
 
@@ -21,7 +20,7 @@ use Rattle.presentation_text.specs.PresentationText.{presentation_text}
 abbrev pub text_max : ℕ
 text_max = 16777216
 
--- each polynomial is kept in the order, and is the sum of its terms
+-- each polynomial is canonical in the order, and is the sum of its terms
 abbrev pub AreSums : {E : Type 0} → FieldOps E → MonomialOrder → List (Polynomial E) → List (Polynomial E) → Type 0
 AreSums K O [] [] = Unit {0}
 AreSums K O [] (p ∷ ps) = ⊥
@@ -46,13 +45,13 @@ abbrev pub IsFaultOf : {A : Type 0} → Result A Fault → TextFault → Type 0
 IsFaultOf read faults.Memory = Unit {0}
 IsFaultOf read (faults.At kind line) = read ≡ Err (kind, line)
 
--- the polynomials are those of the due lines of a query file
+-- the polynomials are those of the lines of a query file
 pub record AreQueries {E : Type 0} (K : FieldOps E) (O : MonomialOrder) (names : Names) (text : List ℕ) (ps : List (Polynomial E)) : Type 0 where
   pub sums : List (Polynomial E)
   pub read : queries K O names text ≡ Ok sums
   pub polys : AreSums K O sums ps
 
--- the text is the canonical text of the presentation, whose places have the names of a table
+-- the text is the canonical text of the presentation, if its places have the names of a table
 abbrev pub IsTextOf : {F E : Type 0} → (F → FieldOps E) → Presentation F WeightOrder E → List ℕ → Type 0
 IsTextOf ops p text =
     (names : List (List ℕ)) × (p.names ≡ Listed names)

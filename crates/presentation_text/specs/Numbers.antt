@@ -1,20 +1,20 @@
 -- Numbers in texts.
 use Rattle.std.specs.Prelude.{ℕ, List, length, Bool, ◌&&◌, Option, Some, None, nat_le, if◌then◌else◌}
-use Rattle.polynomial_text.specs.Digits.{is_digit}
+use Rattle.polynomial_text.specs.Bytes.{digits_max, is_digit}
 use Rattle.std.specs.List.{list_all}
 use Rattle.std.specs.Str.Parse.{digits_value}
 
--- from 1 to 18 digits
+-- from 1 to digits_max digits
 abbrev pub is_number : List ℕ → Bool
-is_number word = nat_le 1 (length word) && (nat_le (length word) 18 && list_all is_digit word)
+is_number token = nat_le 1 (length token) && (nat_le (length token) digits_max && list_all is_digit token)
 
--- the number that a word is
+-- the number that a token is
 unfoldable pub number_of : List ℕ → Option ℕ
-number_of word = if is_number word then Some (digits_value 10 word) else None
+number_of token = if is_number token then Some (digits_value 10 token) else None
 
 -- the same for a number from low to high
 unfoldable pub number_within : ℕ → ℕ → List ℕ → Option ℕ
-number_within low high word = within (number_of word)
+number_within low high token = within (number_of token)
   where
     within : Option ℕ → Option ℕ
     within None = None

@@ -2,17 +2,17 @@
 use Rattle.std.specs.Prelude.{ℕ, zero, suc, List, [], ◌∷◌, length, Result, Ok, Err, codes}
 use Rattle.word_field.specs.Field.{FieldOps}
 use Rattle.word_field.specs.Residues.{residues}
-use Rattle.monomial_order.specs.declared.terms.Term.{Term}
 use Rattle.monomial_order.specs.declared.tie_break.Tie.{Tie}
 use Rattle.monomial_order.specs.MonomialOrder.{MonomialOrder}
 use Rattle.monomial_order.specs.Orders.{weight_order}
 use Rattle.monomial_order.specs.Ties.{tie_order}
 use Rattle.poly_core.specs.declared.place_names.Names.{Names}
 use Rattle.poly_core.specs.declared.place_names.Names.TheVariants.{Listed}
-use Rattle.polynomial_text.specs.declared.text_kind.TextKind.{TextKind}
-use Rattle.polynomial_text.specs.declared.text_kind.TextKind.TheVariants.{UnitIdeal, ConstantGenerator, Truncated, TextAfterEnd}
-use Rattle.polynomial_text.specs.Results.{Fault, ◌>>=◌, each}
-use Rattle.presentation_text.specs.Lines.{due, end_line}
+use Rattle.presentation_text.specs.declared.text_kind.TextKind.{TextKind}
+use Rattle.presentation_text.specs.declared.text_kind.TextKind.TheVariants.{UnitIdeal, ConstantGenerator, Truncated, TextAfterEnd}
+use Rattle.polynomial_text.specs.Results.{◌>>=◌, each}
+use Rattle.presentation_text.specs.Kinds.{Fault, in_text}
+use Rattle.presentation_text.specs.Lines.{content, end_line}
 use Rattle.polynomial_text.specs.PolyLine.{terms_of}
 use Rattle.presentation_text.specs.Judging.{judged}
 use Rattle.presentation_text.specs.Heading.{header_line, field_line, vars_line, weights_line, order_line, count_line, closing_line}
@@ -30,12 +30,12 @@ at_line f line = numbered (f line.1)
     numbered (Ok a) = Ok a
     numbered (Err kind) = Err (kind, line.0)
 
--- what is made of the next due line, and the lines behind it; a line that is missing has the number `last`
+-- what is made of the next line, and the lines behind it; a line that is missing has the number `last`
 unfoldable pub next : {A : Type 0} → ℕ → (List ℕ → Result A TextKind) → List Line → Result (A × List Line) Fault
 next last f [] = Err (Truncated, last)
 next last f (line ∷ rest) = at_line f line >>= λ a. Ok (a, rest)
 
--- what is made of each of the next n due lines
+-- what is made of each of the next n lines
 unfoldable pub several : {A : Type 0} → ℕ → (List ℕ → Result A TextKind) → ℕ → List Line → Result (List A × List Line) Fault
 several last f zero ls = Ok ([], ls)
 several last f (suc n) ls = do
@@ -65,15 +65,15 @@ head last ls = do
 
 -- a polynomial that is zero or homogeneous of a positive degree, as the sum of the terms of its line
 unfoldable pub poly_line : Head → TextKind → List ℕ → Result (Polynomial ℕ) TextKind
-poly_line h constant line = terms_of (residues h.size) (order_of_head h) (Listed h.names) line >>= judged h.size (order_of_head h) constant
+poly_line h constant line = in_text (terms_of (residues h.size) (order_of_head h) (Listed h.names) line) >>= judged h.size (order_of_head h) constant
 
--- as many polynomials as the number behind the word says
+-- as many polynomials as the number behind the token says
 unfoldable pub counted : ℕ → Head → List ℕ → TextKind → List Line → Result (List (Polynomial ℕ) × List Line) Fault
 counted last h key constant ls = do
   count ← next last (count_line key) ls
   several last (poly_line h constant) count.0 count.1
 
--- behind `end` there is no due line
+-- behind `end` there is no line
 unfoldable pub ended : ℕ → List Line → Result (List Line) Fault
 ended last ls = next last closing_line ls >>= λ x. nothing x.1
   where
@@ -96,8 +96,8 @@ reading_of last ls = do
   Ok (record { head = head.0; ideal = ideal.0; generators = generators.0 })
 
 abbrev pub reading : List ℕ → Result Reading Fault
-reading text = reading_of (end_line text) (due text)
+reading text = reading_of (end_line text) (content text)
 
--- the polynomials of a query file, one on each due line, each as the sum of the terms of its line
+-- the polynomials of a query file, one on each line, each as the sum of the terms of its line
 abbrev pub queries : {E : Type 0} → FieldOps E → MonomialOrder → Names → List ℕ → Result (List (Polynomial E)) Fault
-queries K O names text = each (at_line (terms_of K O names)) (due text)
+queries K O names text = each (at_line (λ line. in_text (terms_of K O names line))) (content text)

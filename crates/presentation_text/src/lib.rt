@@ -1,23 +1,26 @@
 //! Presentations and query files as texts: reading them, the first fault of every other text, and writing them.
 #![tactic(auto)]
 
+mod fixed_lines;
 mod head;
-mod heading;
 pub mod laws;
 mod lines;
-mod located;
 mod numbers;
-mod opening;
+mod poly_line;
 mod polys;
 mod queries;
 mod reading;
 mod text_fault;
-mod words;
+mod text_kind;
+mod tokens;
 mod writing;
 
-pub use polynomial_text::canonical::read_canonical;
-pub use polynomial_text::text_kind::TextKind;
+pub use polynomial_text::read_canonical;
 pub use queries::read_polys;
 pub use reading::read;
 pub use text_fault::TextFault;
+pub use text_kind::TextKind;
 pub use writing::write;
+
+/// The most bytes of a text that is read.
+pub const TEXT_MAX: u64 = 16_777_216;

@@ -1,11 +1,14 @@
-//! The lines of a text, one after the other.
-ghost use Rattle.std.specs.Prelude.{◌≡◌, ◌≢◌, ◌<◌, ◌≤◌, ◌^◌, [], ◌∷◌, ◌==◌, length, position, IfOk, IfErr};
-ghost use Rattle.polynomial_text.specs.Blanks.{is_skipped};
+//! The lines of a text, one after the other. Blank lines and comments are passed over.
+ghost use Rattle.std.specs.Prelude.{◌≡◌, ◌≢◌, ◌<◌, ◌≤◌, [], ◌∷◌, length, IfOk, IfErr};
+ghost use Rattle.polynomial_text.specs.Bytes.{is_skipped};
+ghost use Rattle.presentation_text.specs.Giving.{fault_at, located};
 ghost use Rattle.presentation_text.specs.Lines.{lines};
 ghost use Rattle.presentation_text.specs.Meaning.{text_max};
 ghost use Rattle.presentation_text.specs.Pending.{pending};
 
-use polynomial_text::line_bytes::is_blank;
+use crate::text_fault::TextFault;
+use crate::text_kind::TextKind;
+use polynomial_text::{ByteClass, LineFault, behind_blanks};
 use std::marker::Model;
 
 /// A line without its line feed.
@@ -45,11 +48,11 @@ impl<'a> Lines<'a> {
         }
     }
 
-    /// The next line that is due, or the number that it would have.
-    pub fn next_due(&mut self) -> Result<Line<'a>, u32>
+    /// The next line, or the number that it would have.
+    pub fn next_line(&mut self) -> Result<Line<'a>, u32>
         ensures missing { self.new.missing ≡ self.old.missing }
-        ensures due { IfOk result (λ line. self.old.due ≡ (line.number, line.bytes.now) ∷ self.new.due) }
-        ensures none { IfErr result (λ number. (self.old.due ≡ []) × (number ≡ self.old.missing)) }
+        ensures line { IfOk result (λ line. self.old.left ≡ (line.number, line.bytes.now) ∷ self.new.left) }
+        ensures none { IfErr result (λ number. (self.old.left ≡ []) × (number ≡ self.old.missing)) }
     {
         while !self.rest.is_empty() {
             let number = self.number;
@@ -65,13 +68,22 @@ impl<'a> Lines<'a> {
         }
         Err(self.number)
     }
-}
 
-/// The place of the first line feed.
-fn find_feed(bytes: &[u8]) -> Option<usize>
-    ensures { result ≡ position (λ b. b == 10) bytes.now }
-{
-    bytes.iter().position(|b| *b == b'\n')
+    /// The next line, which may not be missing.
+    pub fn needed_line(&mut self) -> Result<Line<'a>, TextFault>
+        ensures missing { self.new.missing ≡ self.old.missing }
+        ensures line { IfOk result (λ line. self.old.left ≡ (line.number, line.bytes.now) ∷ self.new.left) }
+        ensures none { IfErr result
+            (λ e. (self.old.left ≡ []) × (e ≡ TextFault.At TextKind.Truncated self.old.missing)) }
+    {
+        match self.next_line() {
+            Ok(line) => Ok(line),
+            Err(line) => Err(TextFault::At {
+                kind: TextKind::Truncated,
+                line,
+            }),
+        }
+    }
 }
 
 /// The first line, and the bytes behind its line feed.
@@ -80,19 +92,38 @@ fn first_line(bytes: &[u8]) -> (&[u8], &[u8])
     ensures lines { lines bytes.now ≡ result.0.now ∷ lines result.1.now }
     ensures shorter { length result.1.now < length bytes.now }
 {
-    match find_feed(bytes) {
-        Some(i) => (&bytes[..i], &bytes[i + 1..]),
-        None => (bytes, &bytes[bytes.len()..]),
+    let (line, behind) = ByteClass::Line.split(bytes);
+    match behind {
+        [_, rest @ ..] => (line, rest),
+        [] => (line, behind),
     }
 }
 
 fn is_skipped(line: &[u8]) -> bool
     ensures { result ≡ is_skipped line.now }
 {
-    for b in line {
-        if !is_blank(*b) {
-            return *b == b'#';
-        }
+    match behind_blanks(line) {
+        [first, ..] => *first == b'#',
+        [] => true,
     }
-    true
+}
+
+/// The fault of the line with that number.
+pub(crate) fn fault_at(line: u32, fault: LineFault<TextKind>) -> TextFault
+    ensures { result ≡ fault_at line fault }
+{
+    match fault {
+        LineFault::Memory => TextFault::Memory,
+        LineFault::Kind(kind) => TextFault::At { kind, line },
+    }
+}
+
+/// What was made of the line with that number.
+pub(crate) fn located<T>(line: u32, made: Result<T, LineFault<TextKind>>) -> Result<T, TextFault>
+    ensures { result ≡ located line made }
+{
+    match made {
+        Ok(value) => Ok(value),
+        Err(fault) => Err(fault_at(line, fault)),
+    }
 }

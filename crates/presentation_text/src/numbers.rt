@@ -1,42 +1,33 @@
 //! Numbers in lines.
 ghost use Rattle.std.specs.Prelude.{◌≡◌};
-ghost use Rattle.std.specs.List.{list_all};
-ghost use Rattle.polynomial_text.specs.Digits.{is_digit};
 ghost use Rattle.presentation_text.specs.Numbers.{is_number, number_of, number_within};
 
-use polynomial_text::line_bytes::is_digit;
-use polynomial_text::line_number::value;
+use polynomial_text::{ByteClass, DIGITS_MAX, digits_value};
 
-fn are_digits(word: &[u8]) -> bool
-    ensures { result ≡ list_all is_digit word.now }
+fn is_number(token: &[u8]) -> bool
+    ensures { result ≡ is_number token.now }
 {
-    word.iter().all(|b| is_digit(*b))
-}
-
-fn is_number(word: &[u8]) -> bool
-    ensures { result ≡ is_number word.now }
-{
-    match word.len() {
-        1..=18 => are_digits(word),
+    match token.len() {
+        1..=DIGITS_MAX => ByteClass::Digit.has_all(token),
         _ => false,
     }
 }
 
 #[tactic(auto, unfolding(crate::specs::Numbers::number_of))]
-pub(crate) fn number(word: &[u8]) -> Option<u64>
-    ensures { result ≡ number_of word.now }
+pub(crate) fn number(token: &[u8]) -> Option<u64>
+    ensures { result ≡ number_of token.now }
 {
-    if !is_number(word) {
+    if !is_number(token) {
         return None;
     }
-    Some(value(word))
+    Some(digits_value(token))
 }
 
 #[tactic(auto, unfolding(crate::specs::Numbers::number_within))]
-pub(crate) fn number_within(low: u32, high: u32, word: &[u8]) -> Option<u32>
-    ensures { result ≡ number_within low high word.now }
+pub(crate) fn number_within(low: u32, high: u32, token: &[u8]) -> Option<u32>
+    ensures { result ≡ number_within low high token.now }
 {
-    match number(word) {
+    match number(token) {
         Some(n) if u64::from(low) <= n && n <= u64::from(high) => Some(n as u32),
         _ => None,
     }

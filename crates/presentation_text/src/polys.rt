@@ -1,36 +1,37 @@
 //! The polynomials of a presentation.
-ghost use Rattle.std.specs.Prelude.{◌≡◌, ℕ, ◌≤◌, List, length, Ok, IfOk, IfErr};
-ghost use Rattle.word_field.specs.Residues.{residues};
-ghost use Rattle.monomial_order.specs.declared.terms.Term.{Term};
+ghost use Rattle.std.specs.Prelude.{◌≡◌, ℕ, ◌≤◌, length, Ok, IfOk, IfErr};
+ghost use Rattle.polynomials.specs.Polynomial.{Polynomial, IsCanonical, Same};
 ghost use Rattle.poly_core.specs.Names.{AreNames};
-ghost use Rattle.polynomials.specs.Polynomial.{Polynomial, IsCanonical};
-ghost use Rattle.poly_core.specs.Presentation.{IsCanonicalGenerator, weight_order_of};
-ghost use Rattle.presentation_text.specs.Giving.{Gives, head_of};
-ghost use Rattle.presentation_text.specs.Heading.{count_line};
-ghost use Rattle.presentation_text.specs.Judging.{judged};
-ghost use Rattle.presentation_text.specs.KeptSums.{IsSumOf, IsSumIn, AreSumsIn};
+ghost use Rattle.poly_core.specs.Presentation.{IsCanonicalGenerator};
 ghost use Rattle.polynomial_text.specs.Canonical.{IsLineFaultOf};
+ghost use Rattle.polynomial_text.specs.Degrees.{IsLow};
+ghost use Rattle.presentation_text.specs.Giving.{Gives, field_in, order_in, head_of};
+ghost use Rattle.presentation_text.specs.Heading.{count_line, count_max};
+ghost use Rattle.presentation_text.specs.Judging.{judged};
 ghost use Rattle.presentation_text.specs.Meaning.{IsFaultOf};
+ghost use Rattle.presentation_text.specs.PolySums.{IsSumIn, AreSumsIn};
 ghost use Rattle.presentation_text.specs.Reading.{next, several, poly_line, counted};
 
+use crate::fixed_lines::count_line;
 use crate::head::Head;
-use crate::heading::count_line;
-use crate::lines::Lines;
-use crate::located::{due_line, located};
+use crate::lines::{Lines, located};
+use crate::poly_line::poly_of_line;
 use crate::text_fault::TextFault;
+use crate::text_kind::TextKind;
 use poly_core::Poly;
-use polynomial_text::line_fault::LineFault;
-use polynomial_text::poly_line::read_poly;
-use polynomial_text::text_kind::TextKind;
+use polynomial_text::LineFault;
 use std::alloc::Global;
 use word_field::WordField;
 
-/// Whether a polynomial is zero or homogeneous of a positive degree; else the fault, of which one is for a constant.
-fn judge(h: &Head, constant: TextKind, p: &Poly<WordField>) -> Result<(), LineFault>
-    requires kept { IsCanonical (residues h.now.field.modulus) (weight_order_of h.now.order) p.now }
-    ensures accepted { IfOk result (λ _. (sum : Polynomial ℕ) → IsSumOf (residues h.now.field.modulus) (weight_order_of h.now.order) p.now sum → judged h.now.field.modulus (weight_order_of h.now.order) constant sum ≡ Ok sum) }
-    ensures generator { IfOk result (λ _. (sum : Polynomial ℕ) → IsSumOf (residues h.now.field.modulus) (weight_order_of h.now.order) p.now sum → IsCanonicalGenerator (residues h.now.field.modulus) (weight_order_of h.now.order) p.now) }
-    ensures fault { IfErr result (λ e. (sum : Polynomial ℕ) → IsSumOf (residues h.now.field.modulus) (weight_order_of h.now.order) p.now sum → IsLineFaultOf (judged h.now.field.modulus (weight_order_of h.now.order) constant sum) e) }
+/// Whether a polynomial is zero or homogeneous of a positive degree. `constant` is the fault of another constant.
+fn judge(h: &Head, constant: TextKind, p: &Poly<WordField>) -> Result<(), LineFault<TextKind>>
+    requires canonical { IsCanonical (field_in h.now) (order_in h.now) p.now }
+    requires low { IsLow (order_in h.now) p.now }
+    ensures accepted { IfOk result (λ _. (sum : Polynomial ℕ) → Same (field_in h.now) p.now sum →
+        judged h.now.field.modulus (order_in h.now) constant sum ≡ Ok sum) }
+    ensures generator { IfOk result (λ _. IsCanonicalGenerator (field_in h.now) (order_in h.now) p.now) }
+    ensures fault { IfErr result (λ e. (sum : Polynomial ℕ) → Same (field_in h.now) p.now sum →
+        IsLineFaultOf (judged h.now.field.modulus (order_in h.now) constant sum) e) }
 {
     if !Poly::is_homogeneous(&h.order, p) {
         return Err(LineFault::Kind(TextKind::NotHomogeneous));
@@ -50,17 +51,18 @@ fn poly_line(
     h: &Head,
     constant: TextKind,
     line: &[u8],
-) -> Result<Poly<WordField>, LineFault>
+) -> Result<Poly<WordField>, LineFault<TextKind>>
     requires { AreNames (length h.now.order.weights.items) h.now.names }
-    ensures read { IfOk result (IsSumIn (residues h.now.field.modulus) (weight_order_of h.now.order) (λ sum. poly_line (head_of h.now) constant line.now ≡ Ok sum)) }
+    ensures read { IfOk result (IsSumIn (field_in h.now) (order_in h.now)
+        (λ sum. poly_line (head_of h.now) constant line.now ≡ Ok sum)) }
     ensures fault { IfErr result (IsLineFaultOf (poly_line (head_of h.now) constant line.now)) }
 {
-    let p = read_poly(alloc, &h.field, &h.order, &h.names, line)?;
+    let p = poly_of_line(alloc, &h.field, &h.order, &h.names, line)?;
     judge(h, constant, &p)?;
     Ok(p)
 }
 
-/// The polynomial of the next due line.
+/// The polynomial of the next line.
 fn next_poly(
     alloc: Global,
     h: &Head,
@@ -69,10 +71,13 @@ fn next_poly(
 ) -> Result<Poly<WordField>, TextFault>
     requires { AreNames (length h.now.order.weights.items) h.now.names }
     ensures missing { lines.new.missing ≡ lines.old.missing }
-    ensures read { IfOk result (IsSumIn (residues h.now.field.modulus) (weight_order_of h.now.order) (λ sum. next lines.old.missing (poly_line (head_of h.now) constant) lines.old.due ≡ Ok (sum, lines.new.due))) }
-    ensures fault { IfErr result (IsFaultOf (next lines.old.missing (poly_line (head_of h.now) constant) lines.old.due)) }
+    ensures read { IfOk result (IsSumIn (field_in h.now) (order_in h.now)
+        (λ sum. next lines.old.missing (poly_line (head_of h.now) constant) lines.old.left
+        ≡ Ok (sum, lines.new.left))) }
+    ensures fault { IfErr result
+        (IsFaultOf (next lines.old.missing (poly_line (head_of h.now) constant) lines.old.left)) }
 {
-    let line = due_line(lines)?;
+    let line = lines.needed_line()?;
     located(line.number, poly_line(alloc, h, constant, line.bytes))
 }
 
@@ -85,10 +90,13 @@ fn several(
     lines: &mut Lines,
 ) -> Result<Vec<Poly<WordField>>, TextFault>
     requires named { AreNames (length h.now.order.weights.items) h.now.names }
-    requires few { count ≤ 256 }
+    requires few { count ≤ count_max }
     ensures missing { lines.new.missing ≡ lines.old.missing }
-    ensures read { IfOk result (λ v. AreSumsIn (residues h.now.field.modulus) (weight_order_of h.now.order) (λ sums. several lines.old.missing (poly_line (head_of h.now) constant) count lines.old.due ≡ Ok (sums, lines.new.due)) v.items) }
-    ensures fault { IfErr result (IsFaultOf (several lines.old.missing (poly_line (head_of h.now) constant) count lines.old.due)) }
+    ensures read { IfOk result (λ v. AreSumsIn (field_in h.now) (order_in h.now)
+        (λ sums. several lines.old.missing (poly_line (head_of h.now) constant) count lines.old.left
+        ≡ Ok (sums, lines.new.left)) v.items) }
+    ensures fault { IfErr result
+        (IsFaultOf (several lines.old.missing (poly_line (head_of h.now) constant) count lines.old.left)) }
 {
     let mut polys = Vec::new(alloc);
     for _ in 0..count {
@@ -98,15 +106,17 @@ fn several(
     Ok(polys)
 }
 
+#[tactic(auto, unfolding(crate::specs::Reading::next, crate::specs::Reading::at_line))]
 fn count(key: &[u8], lines: &mut Lines) -> Result<u32, TextFault>
     ensures missing { lines.new.missing ≡ lines.old.missing }
-    ensures read { Gives (λ n. (n, lines.new.due)) result (next lines.old.missing (count_line key.now) lines.old.due) }
+    ensures read { Gives (λ n. (n, lines.new.left)) result
+        (next lines.old.missing (count_line key.now) lines.old.left) }
 {
-    let line = due_line(lines)?;
+    let line = lines.needed_line()?;
     located(line.number, count_line(key, line.bytes))
 }
 
-/// As many polynomials as the number behind the word says.
+/// As many polynomials as the number behind the key says.
 pub(crate) fn counted(
     alloc: Global,
     h: &Head,
@@ -116,8 +126,11 @@ pub(crate) fn counted(
 ) -> Result<Vec<Poly<WordField>>, TextFault>
     requires { AreNames (length h.now.order.weights.items) h.now.names }
     ensures missing { lines.new.missing ≡ lines.old.missing }
-    ensures read { IfOk result (λ v. AreSumsIn (residues h.now.field.modulus) (weight_order_of h.now.order) (λ sums. counted lines.old.missing (head_of h.now) key.now constant lines.old.due ≡ Ok (sums, lines.new.due)) v.items) }
-    ensures fault { IfErr result (IsFaultOf (counted lines.old.missing (head_of h.now) key.now constant lines.old.due)) }
+    ensures read { IfOk result (λ v. AreSumsIn (field_in h.now) (order_in h.now)
+        (λ sums. counted lines.old.missing (head_of h.now) key.now constant lines.old.left
+        ≡ Ok (sums, lines.new.left)) v.items) }
+    ensures fault { IfErr result
+        (IsFaultOf (counted lines.old.missing (head_of h.now) key.now constant lines.old.left)) }
 {
     let n = count(key, lines)?;
     several(alloc, h, constant, n, lines)

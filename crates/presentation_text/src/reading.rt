@@ -1,43 +1,41 @@
 //! Reading presentations.
 ghost use Rattle.std.specs.Prelude.{◌≡◌, ◌≤◌, [], length, map, Ok, IfOk, IfErr};
-ghost use Rattle.word_field.specs.Residues.{residues};
 ghost use Rattle.poly_core.specs.Names.{AreNames};
-ghost use Rattle.poly_core.specs.Presentation.{IsCanonicalGenerator, AreCanonicalGenerators, generator_degree, weight_order_of};
-ghost use Rattle.presentation_text.specs.Giving.{Gives, head_of};
+ghost use Rattle.poly_core.specs.Presentation.{IsCanonicalGenerator, AreCanonicalGenerators, generator_degree};
+ghost use Rattle.monomial_order.specs.Limits.{degree_max};
+ghost use Rattle.presentation_text.specs.Giving.{Gives, field_in, order_in, head_of};
 ghost use Rattle.presentation_text.specs.Heading.{closing_line};
-ghost use Rattle.presentation_text.specs.KeptSums.{AreListsIn, IsMadeOf, lists};
 ghost use Rattle.presentation_text.specs.Meaning.{text_max, IsRead, IsFaultOf};
+ghost use Rattle.presentation_text.specs.PolySums.{AreListsIn, IsMadeOf, lists};
 ghost use Rattle.presentation_text.specs.Reading.{next, ended, reading};
 
-use crate::head::Head;
-use crate::heading::closing_line;
-use crate::lines::Lines;
-use crate::located::{due_line, located};
-use crate::opening::read_head;
+use crate::fixed_lines::closing_line;
+use crate::head::{Head, read_head};
+use crate::lines::{Lines, located};
 use crate::polys::counted;
 use crate::text_fault::TextFault;
+use crate::text_kind::TextKind;
 use monomial_order::{Memory, Order, WeightOrder, WordOrder};
-use poly_core::Poly;
-use poly_core::Presentation;
-use polynomial_text::text_kind::TextKind;
+use poly_core::{Poly, Presentation};
 use std::alloc::Global;
 use word_field::WordField;
 
+#[tactic(auto, unfolding(crate::specs::Reading::next, crate::specs::Reading::at_line))]
 fn closing(lines: &mut Lines) -> Result<(), TextFault>
     ensures missing { lines.new.missing ≡ lines.old.missing }
-    ensures read { Gives (λ _. ([], lines.new.due)) result (next lines.old.missing closing_line lines.old.due) }
+    ensures read { Gives (λ _. ([], lines.new.left)) result (next lines.old.missing closing_line lines.old.left) }
 {
-    let line = due_line(lines)?;
+    let line = lines.needed_line()?;
     located(line.number, closing_line(line.bytes))
 }
 
-/// The last due line.
+/// The last line.
 #[tactic(auto, unfolding(crate::specs::Reading::ended))]
 fn ended(lines: &mut Lines) -> Result<(), TextFault>
-    ensures { Gives (λ _. []) result (ended lines.old.missing lines.old.due) }
+    ensures { Gives (λ _. []) result (ended lines.old.missing lines.old.left) }
 {
     closing(lines)?;
-    match lines.next_due() {
+    match lines.next_line() {
         Ok(line) => Err(TextFault::At {
             kind: TextKind::TextAfterEnd,
             line: line.number,
@@ -48,10 +46,10 @@ fn ended(lines: &mut Lines) -> Result<(), TextFault>
 
 /// The degree of the letter of a generator.
 fn generator_degree(h: &Head, p: &Poly<WordField>) -> u32
-    requires { IsCanonicalGenerator (residues h.now.field.modulus) (weight_order_of h.now.order) p.now }
-    ensures degree { result ≡ generator_degree (weight_order_of h.now.order) p.now }
+    requires { IsCanonicalGenerator (field_in h.now) (order_in h.now) p.now }
+    ensures degree { result ≡ generator_degree (order_in h.now) p.now }
     ensures positive { 1 ≤ result }
-    ensures small { result ≤ 30000 }
+    ensures small { result ≤ degree_max }
 {
     match p.lead() {
         Some(first) => h.order.degree(&first.at),
@@ -59,11 +57,11 @@ fn generator_degree(h: &Head, p: &Poly<WordField>) -> u32
     }
 }
 
-/// The order of the words in the generators.
+/// The order of the tokens in the generators.
 fn gen_order(alloc: Global, h: &Head, generators: &[Poly<WordField>]) -> Result<WordOrder, Memory>
-    requires { AreCanonicalGenerators (residues h.now.field.modulus) (weight_order_of h.now.order) generators.now }
+    requires { AreCanonicalGenerators (field_in h.now) (order_in h.now) generators.now }
     ensures x { IfOk result (λ o. o.x_degrees.items ≡ []) }
-    ensures s { IfOk result (λ o. o.s_degrees.items ≡ map (generator_degree (weight_order_of h.now.order)) generators.now) }
+    ensures s { IfOk result (λ o. o.s_degrees.items ≡ map (generator_degree (order_in h.now)) generators.now) }
 {
     let mut order = WordOrder::new(alloc, &[])?;
     for p in generators {
@@ -79,8 +77,9 @@ fn lists(
     lines: &mut Lines,
 ) -> Result<(Vec<Poly<WordField>>, Vec<Poly<WordField>>), TextFault>
     requires { AreNames (length h.now.order.weights.items) h.now.names }
-    ensures read { IfOk result (λ x. AreListsIn (residues h.now.field.modulus) (weight_order_of h.now.order) (λ sums. lists lines.old.missing (head_of h.now) lines.old.due ≡ Ok sums) x.0.items x.1.items) }
-    ensures fault { IfErr result (IsFaultOf (lists lines.old.missing (head_of h.now) lines.old.due)) }
+    ensures read { IfOk result (λ x. AreListsIn (field_in h.now) (order_in h.now)
+        (λ sums. lists lines.old.missing (head_of h.now) lines.old.left ≡ Ok sums) x.0.items x.1.items) }
+    ensures fault { IfErr result (IsFaultOf (lists lines.old.missing (head_of h.now) lines.old.left)) }
 {
     let ideal = counted(alloc, h, b"ideal", TextKind::UnitIdeal, lines)?;
     let generators = counted(alloc, h, b"generators", TextKind::ConstantGenerator, lines)?;
@@ -95,7 +94,7 @@ fn presentation(
     ideal: Vec<Poly<WordField>>,
     generators: Vec<Poly<WordField>>,
 ) -> Result<Presentation<WordField, WeightOrder>, Memory>
-    requires { AreCanonicalGenerators (residues head.field.modulus) (weight_order_of head.order) generators.items }
+    requires { AreCanonicalGenerators (field_in head) (order_in head) generators.items }
     ensures { IfOk result (IsMadeOf head ideal.items generators.items) }
 {
     let gen_order = gen_order(alloc, &head, generators.as_slice())?;
@@ -120,6 +119,3 @@ pub fn read(alloc: Global, bytes: &[u8]) -> Result<Presentation<WordField, Weigh
     let (ideal, generators) = lists(alloc, &head, &mut lines)?;
     Ok(presentation(alloc, head, ideal, generators)?)
 }
-
-#[cfg(test)]
-mod tests;

@@ -2,16 +2,16 @@
 ghost use Rattle.std.specs.Prelude.{◌≡◌};
 ghost use Rattle.presentation_text.specs.declared.text_fault.TextFault.TheVariants.{Memory};
 
+use crate::text_kind::TextKind;
 use monomial_order::Memory;
-use polynomial_text::text_kind::TextKind;
 use std::alloc::{AllocError, AllocFailed};
 use thiserror::Error;
 
 /// Why a text was not read. Lines are counted from 1.
 #[derive(Debug, Drop, Error)]
 pub enum TextFault {
-    /// Want of memory.
-    #[error("want of memory")]
+    /// Out of memory.
+    #[error("out of memory")]
     Memory,
     /// The first fault of the text.
     #[error("line {line}: {kind:?}")]

@@ -10,7 +10,6 @@ pub mod Complete
 pub mod Inserting
 pub mod Tails
 pub mod Steps
-pub mod Examples
 pub mod Closing
 pub mod Offering
 pub mod SPolynomials

@@ -4,8 +4,8 @@ use Rattle.polynomials.specs.laws.Coefficients.{scaled_small}
 use Rattle.std.specs.Prelude.{Contains}
 use Rattle.word_field.specs.Field.{IsValue}
 use Rattle.monomial_order.specs.declared.terms.Term.{Term}
-use Rattle.monomial_order.specs.Monomial.{product, IsMonomial, IsTrimmed, Exponents}
-use Rattle.monomial_order.specs.laws.Monomial.{product_comm}
+use Rattle.monomial_order.specs.Monomial.{product, IsMonomial, IsTrimmed, Exponents, least_common_multiple}
+use Rattle.monomial_order.specs.laws.Monomial.{product_comm, IsMonomial-least_common_multiple}
 use Rattle.polynomials.specs.Polynomial.{Polynomial, coefficient, Same, term_of, scaled, IsSmall, IsBelow, lead_monomial}
 use Rattle.polynomials.specs.laws.Same.{append_same}
 use Rattle.polynomials.specs.Subalgebra.{Presented, IsPresentation}
@@ -27,6 +27,9 @@ module _ {E : Type 0} (P : Presented E) (H : IsPresentation P) where
 
   pub reducer_monomial : (g : Polynomial E) → IsReducerIn P g → IsMonomial P.order.places (lead_monomial g)
   reducer_monomial g h = monic_monomial P.field H.field P.order H.order g h.canonical.decreasing h.monic
+
+  pub lcm_monomial : (g h : Polynomial E) → IsReducerIn P g → IsReducerIn P h → (top : Exponents) → top ≡ least_common_multiple (lead_monomial g) (lead_monomial h) → IsMonomial P.order.places top
+  lcm_monomial g h kg kh top e = subst (IsMonomial P.order.places) (sym e) (IsMonomial-least_common_multiple P.order.places (lead_monomial g) (lead_monomial h) (reducer_monomial g kg) (reducer_monomial h kh))
 
   pub raising_factor : (g : Polynomial E) → IsReducerIn P g → (u : Exponents) → IsTrimmed u → IsMonomial P.order.places (product u (lead_monomial g)) → P.order.degree (product u (lead_monomial g)) ≤ 65535 →
       (c : E) → c ≡ P.field.one → IsFactor P g u c
@@ -63,10 +66,10 @@ module _ {E : Type 0} (P : Presented E) (H : IsPresentation P) (a : Polynomial E
         sum m = hr m ∙ append_same P.field H.field a a part (scaled P.field (term_of u c) g) (λ n. refl) hp m
 
   -- the first term, and its negative
-  pub first_canonical : IsCanonicalIn P (t ∷ [])
+  first_canonical : IsCanonicalIn P (t ∷ [])
   first_canonical = one_kept P.field H.field P.order H.order a t w is ka t.by parts.decreasing.0.term.value parts.decreasing.0.nonzero
 
-  pub negated_canonical : IsCanonicalIn P (term_of t.at (P.field.negate t.by) ∷ [])
+  negated_canonical : IsCanonicalIn P (term_of t.at (P.field.negate t.by) ∷ [])
   negated_canonical = one_kept P.field H.field P.order H.order a t w is ka (P.field.negate t.by) (H.field.negate_value t.by) (negate_not_zero P.field H.field t.by parts.decreasing.0.term.value parts.decreasing.0.nonzero)
 
   pub first_form : (plus : Polynomial E) (m : Exponents) → m ≡ t.at → (t.by ≢ P.field.zero → plus ≡ term_of m t.by ∷ []) → plus ≡ t ∷ []
@@ -75,6 +78,12 @@ module _ {E : Type 0} (P : Presented E) (H : IsPresentation P) (a : Polynomial E
   pub negated_form : (minus : Polynomial E) (m : Exponents) (c : E) → m ≡ t.at → c ≡ P.field.negate t.by → (c ≢ P.field.zero → minus ≡ term_of m c ∷ []) → minus ≡ term_of t.at (P.field.negate t.by) ∷ []
   negated_form minus m c e f h =
       h (λ z. negate_not_zero P.field H.field t.by parts.decreasing.0.term.value parts.decreasing.0.nonzero (sym f ∙ z)) ∙ (ap (λ x. term_of x c ∷ []) e ∙ ap (λ x. term_of t.at x ∷ []) f)
+
+  pub first_is_canonical : (plus : Polynomial E) (m : Exponents) → m ≡ t.at → (t.by ≢ P.field.zero → plus ≡ term_of m t.by ∷ []) → IsCanonicalIn P plus
+  first_is_canonical plus m e h = subst (IsCanonicalIn P) (sym (first_form plus m e h)) first_canonical
+
+  pub negated_is_canonical : (minus : Polynomial E) (m : Exponents) (c : E) → m ≡ t.at → c ≡ P.field.negate t.by → (c ≢ P.field.zero → minus ≡ term_of m c ∷ []) → IsCanonicalIn P minus
+  negated_is_canonical minus m c e f h = subst (IsCanonicalIn P) (sym (negated_form minus m c e f h)) negated_canonical
 
   pub lead_split : (done minus plus rest more : Polynomial E) → minus ≡ term_of t.at (P.field.negate t.by) ∷ [] → plus ≡ t ∷ [] → IsCanonicalIn P rest → IsCanonicalIn P more →
       Same P.field rest (a ++ minus) → Same P.field more (done ++ plus) → IsLeadSplit P a done rest more

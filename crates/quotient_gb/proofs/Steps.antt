@@ -1,16 +1,17 @@
 -- The members of a basis with those of the step after it.
-use Rattle.std.proofs.Common.{◌≡◌, ℕ, ◌+◌, ◌<◌, ◌≤◌, refl, sym, ◌∙◌, ap, subst, List, [], ◌++◌, length, arith, ◌⊎◌, ⊎_elim, get_or, slice_set}
+use Rattle.std.proofs.Common.{◌≢◌, ◌≡◌, ℕ, ◌+◌, ◌<◌, ◌≤◌, refl, sym, ◌∙◌, ap, subst, List, [], ◌++◌, length, arith, ◌⊎◌, ⊎_elim, get_or, slice_set, ◌∷◌}
 use Rattle.std.proofs.lemmas.List.{length-map}
 use Rattle.polynomials.specs.laws.Coefficients.{small_lead, found_monomial}
 use Rattle.std.specs.Prelude.{Contains, map}
 use Rattle.std.specs.List.{insert}
 use Rattle.std.specs.declared.cmp.Ordering.TheVariants.{Less}
 use borrow.Author.Count.{below_more}
+use Rattle.monomial_order.specs.declared.terms.Term.{Term}
 use Rattle.monomial_order.specs.Monomial.{IsMonomial, Divides, IsMultiple, Exponents}
 use Rattle.monomial_order.specs.laws.Cofactors.{Divides-refl}
 use Rattle.monomial_order.specs.laws.Comparing.{equal_or_not, le_or_not, three_ways, proper_divisor, divisor_degree}
 use Rattle.monomial_order.specs.laws.Lists.{contains_at, contains_map, contains_none, contains_left, contains_right, contains_either}
-use Rattle.polynomials.specs.Polynomial.{Polynomial, lead_monomial}
+use Rattle.polynomials.specs.Polynomial.{Polynomial, lead_monomial, term_of}
 use Rattle.polynomials.specs.Subalgebra.{Presented, IsPresentation, LeadsIdeal}
 use Rattle.monomial_order.specs.MonomialOrder.{IsIncreasing}
 use Rattle.polynomials.specs.laws.ReducedBasis.{map_contains}
@@ -18,10 +19,11 @@ use Rattle.quotient_gb.specs.declared.basis.Basis.{Basis}
 use Rattle.quotient_gb.specs.declared.degree_step.DegreeStep.{DegreeStep}
 use Rattle.quotient_gb.specs.IdealBasis.{IsMonicMember, AreIdealLeads, HasStandardTail}
 use Rattle.quotient_gb.specs.DegreeStep.{IsPart, all_members, IsBasisTo, IsStepAfter, IsLaterStep, DividesLeads, HasReducedTail, HasTails}
-use Rattle.quotient_gb.specs.Remainder.{IsReducerIn, AreReducersIn}
+use Rattle.quotient_gb.specs.Remainder.{IsCanonicalIn, IsReducerIn, AreReducersIn}
 use Rattle.quotient_gb.proofs.Bases.{lead_is}
 use Rattle.quotient_gb.proofs.Inserting.{insert_there, insert_cases, map_insert, rise_insert, rise_append, set_cases, set_length, set_here, set_before, map_set}
 use Rattle.quotient_gb.proofs.Places.{not_below, map_append, multiple_more}
+use Rattle.quotient_gb.proofs.Remainders.{first_is_canonical}
 use Rattle.quotient_gb.proofs.Tails.{member_leads, standard_tail}
 
 module _ {E : Type 0} (P : Presented E) (H : IsPresentation P) where
@@ -52,6 +54,11 @@ module _ {F E : Type 0} (P : Presented E) (H : IsPresentation P) (b : Basis F E)
 
   pub found_reducer : (g : Polynomial E) → Contains found g → IsReducerIn P g
   found_reducer g k = reducers g (contains_right b.members.items found g k)
+
+  -- the first term of a member alone
+  pub found_front : (x : Polynomial E) → Contains found x → (t : Term E) (w : Polynomial E) → x ≡ t ∷ w → (front : Polynomial E) (m : Exponents) → m ≡ t.at →
+      (t.by ≢ P.field.zero → front ≡ term_of m t.by ∷ []) → IsCanonicalIn P front
+  found_front x k t w e front m f h = first_is_canonical P H x (found_reducer x k).canonical t w e front m f h
 
   -- a lead of the ideal of a lower degree is a multiple
   pub lower_multiple : (m : Exponents) → LeadsIdeal P m → P.order.degree m < s.degree → IsMultiple (map lead_monomial b.members.items) m

@@ -32,7 +32,8 @@ module _ {E : Type 0} (K : FieldOps E) where
     -- each of these is a term times a member of G whose lead, times the term's monomial, has B
     abbrev pub AreSteps : (Exponents → Type 0) → List (Step E) → Type 0
     AreSteps B [] = Unit {0}
-    AreSteps B (s ∷ ss) = IsTerm K O.places s.term × Contains G s.of × B (product s.term.at (lead_monomial s.of)) × AreSteps B ss
+    AreSteps B (s ∷ ss) =
+        IsTerm K O.places s.term × Contains G s.of × B (product s.term.at (lead_monomial s.of)) × AreSteps B ss
 
     -- a is a sum of terms times members of G, and each lead of such a product has B
     pub record Combines (B : Exponents → Type 0) (a : Polynomial E) : Type 0 where

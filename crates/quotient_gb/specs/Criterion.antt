@@ -24,10 +24,11 @@ module _ {E : Type 0} (K : FieldOps E) where
     -- the S-polynomial of g and h has a standard representation
     abbrev pub HasStandardSPolynomial : Polynomial E → Polynomial E → Type 0
     HasStandardSPolynomial g h =
-        (u v : Exponents) → AreCofactors u (lead_monomial g) v (lead_monomial h) → HasStandardRepresentation K O G (s_polynomial u g v h)
+        (u v : Exponents) → AreCofactors u (lead_monomial g) v (lead_monomial h) →
+        HasStandardRepresentation K O G (s_polynomial u g v h)
 
-    -- the S-polynomial of g and h is a sum of terms times members of G, each of a lead below the least common multiple of the
-    -- leads of g and h
+    -- the S-polynomial of g and h is a sum of terms times members of G, each of a lead below the least common multiple of
+    -- the leads of g and h
     abbrev pub HasRepresentationBelow : Polynomial E → Polynomial E → Type 0
     HasRepresentationBelow g h = (u v : Exponents) → AreCofactors u (lead_monomial g) v (lead_monomial h) →
         Combines K O G (Under O (least_common_multiple (lead_monomial g) (lead_monomial h))) (s_polynomial u g v h)
@@ -43,9 +44,11 @@ module _ {E : Type 0} (P : Presented E) where
   -- representations below it
   abbrev pub RepresentsPairs : ℕ → List (Polynomial E) → Type 0
   RepresentsPairs c G = (g h : Polynomial E) → Contains G g → Contains G h →
-      P.order.degree (least_common_multiple (lead_monomial g) (lead_monomial h)) ≤ c → HasRepresentationBelow P.field P.order G g h
+      P.order.degree (least_common_multiple (lead_monomial g) (lead_monomial h)) ≤ c →
+      HasRepresentationBelow P.field P.order G g h
 
   -- and these have standard representations
   abbrev pub ReducesPairs : ℕ → List (Polynomial E) → Type 0
   ReducesPairs c G = (g h : Polynomial E) → Contains G g → Contains G h →
-      P.order.degree (least_common_multiple (lead_monomial g) (lead_monomial h)) ≤ c → HasStandardSPolynomial P.field P.order G g h
+      P.order.degree (least_common_multiple (lead_monomial g) (lead_monomial h)) ≤ c →
+      HasStandardSPolynomial P.field P.order G g h

@@ -23,8 +23,8 @@ module _ (O : MonomialOrder) (ms : List Exponents) where
   abbrev pub IsCoprimeOrListed : List CriticalPair → ℕ → ℕ → Type 0
   IsCoprimeOrListed pairs i j = AreCoprime (slice_index_or ms i []) (slice_index_or ms j []) ⊎ Contains pairs (pair_at i j)
 
-  -- critical pairs of the leads: those of each lead at an index from start on, before stop, with each lead before it, but for
-  -- those of coprime leads
+  -- critical pairs of the leads: those of each lead at an index from start on, before stop, with each lead before it, but
+  -- for those of coprime leads
   pub record HasPairs (start stop : ℕ) (pairs : List CriticalPair) : Type 0 where
     pub each : (w : CriticalPair) → Contains pairs w → IsCriticalPair w
     pub listed : (i j : ℕ) → i < j → start ≤ j → j < stop → IsCoprimeOrListed pairs i j

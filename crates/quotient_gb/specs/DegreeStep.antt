@@ -40,8 +40,8 @@ module _ {F E : Type 0} (P : Presented E) where
     pub leads : HasLeads b
     pub basis : IsIdealBasis P c b.members.items
 
-  -- b has the reduced basis to the degree before that of s, and s has monic members of the ideal of its degree; their leads are
-  -- increasing, and no multiples of leads of b
+  -- b has the reduced basis to the degree before that of s, and s has monic members of the ideal of its degree. Their
+  -- leads are increasing, and no multiples of leads of b
   pub record IsStepAfter (b : Basis F E) (s : DegreeStep F E) : Type 0 where
     pub before : (c : ℕ) × (s.degree ≡ c + 1) × IsBasisTo c b
     pub small : s.degree ≤ degree_max
@@ -49,7 +49,8 @@ module _ {F E : Type 0} (P : Presented E) where
     pub members : (g : Polynomial E) → Contains s.found.members.items g → IsMonicMember P g
     pub degrees : (g : Polynomial E) → Contains s.found.members.items g → P.order.degree (lead_monomial g) ≡ s.degree
     pub increasing : IsIncreasing P.order (map lead_monomial s.found.members.items)
-    pub fresh : (g : Polynomial E) → Contains s.found.members.items g → ¬ IsMultiple (map lead_monomial b.members.items) (lead_monomial g)
+    pub fresh : (g : Polynomial E) → Contains s.found.members.items g →
+        ¬ IsMultiple (map lead_monomial b.members.items) (lead_monomial g)
 
   -- s' is a step of the same degree that found the members of s, and maybe more
   pub record IsLaterStep (b : Basis F E) (s s' : DegreeStep F E) : Type 0 where
@@ -69,7 +70,8 @@ module _ {F E : Type 0} (P : Presented E) where
 
   -- each lead of the ideal up to the step's degree is a multiple of the lead of a member
   abbrev pub DividesLeads : Basis F E → DegreeStep F E → Type 0
-  DividesLeads b s = (m : Exponents) → LeadsIdeal P m → P.order.degree m ≤ s.degree → IsMultiple (map lead_monomial (all_members b s)) m
+  DividesLeads b s = (m : Exponents) → LeadsIdeal P m → P.order.degree m ≤ s.degree →
+      IsMultiple (map lead_monomial (all_members b s)) m
 
   -- with the members that s found, b is the reduced basis to the degree of s
   pub record IsFinishedStep (b : Basis F E) (s : DegreeStep F E) : Type 0 where

@@ -8,8 +8,8 @@ use Rattle.quotient_gb.specs.declared.critical_pair.CriticalPair.{CriticalPair}
 use Rattle.quotient_gb.specs.IdealBasis.{IsIdealBasis}
 use Rattle.quotient_gb.specs.CriticalPairs.{HasPairsAbove}
 
--- A quotient as its contracts see it: its degree, the members of a basis with their leads, the critical pairs above the degree,
--- and whether the leads are known to divide each lead of the ideal.
+-- A quotient as its contracts see it: its degree, the members of a basis with their leads, the critical pairs above the
+-- degree, and whether the leads are known to divide each lead of the ideal.
 pub record QuotientState (E : Type 0) : Type 0 where
   pub degree : ℕ
   pub leads : List Exponents

@@ -9,8 +9,8 @@ use Rattle.polynomials.specs.Subalgebra.{Presented}
 use Rattle.quotient_gb.specs.Combinations.{HasLeadDivisor, AtMost, Combines}
 
 module _ {E : Type 0} (K : FieldOps E) (O : MonomialOrder) (G : List (Polynomial E)) where
-  -- r differs from a by a sum of terms times members of G, and no monomial of r is a multiple of a lead; the leads of the terms
-  -- times members, and the monomials of r, have B
+  -- r differs from a by a sum of terms times members of G, and no monomial of r is a multiple of a lead. The leads of the
+  -- terms times members, and the monomials of r, have B
   pub record IsRemainderBy (B : Exponents → Type 0) (a r : Polynomial E) : Type 0 where
     pub poly : IsPoly K O.places r
     pub combines : Combines K O G B (minus K a r)

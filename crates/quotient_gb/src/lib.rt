@@ -8,7 +8,5 @@ pub mod laws;
 mod quotient;
 mod remainder;
 mod s_polynomial;
-#[cfg(test)]
-mod tests;
 
 pub use quotient::Quotient;

@@ -1,5 +1,5 @@
 pub mod Decimal
-pub mod Due
+pub mod Endings
 pub mod Printable
-pub mod Printing
+pub mod PrintedLines
 pub mod Putting

@@ -8,12 +8,15 @@ use Rattle.poly_core.specs.declared.presentations.Presentation.{Presentation}
 use Rattle.monomial_basis.specs.MonomialGenerators.{IsMonomialOrZero, AreMonomials}
 use Rattle.polynomials.specs.Polynomial.{Polynomial}
 
--- no ideal, and each generator is zero or a monomial with the coefficient 1
+-- there is no ideal, and each generator is zero or a monomial with the coefficient 1
 pub record IsBuilt (p : Presentation WordField WeightOrder ℕ) : Type 0 where
   pub no_ideal : p.ideal.items ≡ []
   pub monomials : AreMonomials (residues p.field.modulus) p.generators.items
 
--- a generator of the ideal, or a generator of the subalgebra that is neither zero nor such a monomial
+-- one of the polynomials is neither zero nor a monomial with the coefficient 1
+abbrev pub IsSomeOther : ℕ → List (Polynomial ℕ) → Type 0
+IsSomeOther modulus fs = (f : Polynomial ℕ) × Contains fs f × (IsMonomialOrZero (residues modulus) f → ⊥)
+
+-- there is a generator of the ideal, or such a generator of the subalgebra
 abbrev pub IsNotBuilt : Presentation WordField WeightOrder ℕ → Type 0
-IsNotBuilt p =
-    (p.ideal.items ≢ []) ⊎ ((f : Polynomial ℕ) × Contains p.generators.items f × (IsMonomialOrZero (residues p.field.modulus) f → ⊥))
+IsNotBuilt p = (p.ideal.items ≢ []) ⊎ IsSomeOther p.field.modulus p.generators.items

@@ -1,6 +1,9 @@
 pub mod Built
 pub mod Command
+pub mod Ending
+pub mod Message
 pub mod Outcome
 pub mod Report
 pub mod ReportText
-pub mod Taking
+pub mod SinkChange
+pub mod Printing

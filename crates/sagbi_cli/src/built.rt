@@ -1,14 +1,11 @@
 //! Which presentations are completed so far.
-ghost use Rattle.std.specs.Prelude.{◌↔◌, ℕ, List, Contains, IsTrue, IsFalse};
-ghost use Rattle.monomial_order.specs.declared.terms.Term.{Term};
+ghost use Rattle.std.specs.Prelude.{◌↔◌, IsTrue, IsFalse};
 ghost use Rattle.word_field.specs.Residues.{residues};
 ghost use Rattle.monomial_basis.specs.MonomialGenerators.{IsMonomialOrZero, AreMonomials};
-ghost use Rattle.sagbi_cli.specs.Built.{IsBuilt, IsNotBuilt};
-ghost use Rattle.polynomials.specs.Polynomial.{Polynomial};
+ghost use Rattle.sagbi_cli.specs.Built.{IsBuilt, IsNotBuilt, IsSomeOther};
 
 use monomial_order::WeightOrder;
-use poly_core::Poly;
-use poly_core::Presentation;
+use poly_core::{Poly, Presentation};
 use word_field::{Field, WordField};
 
 fn is_monomial_or_zero(f: &WordField, p: &Poly<WordField>) -> bool
@@ -17,7 +14,7 @@ fn is_monomial_or_zero(f: &WordField, p: &Poly<WordField>) -> bool
     match p.terms() {
         [] => true,
         [term] => term.by == f.one(),
-        _ => false,
+        [_, _, ..] => false,
     }
 }
 
@@ -34,7 +31,7 @@ pub fn is_built(p: &Presentation<WordField, WeightOrder>) -> bool
 
 fn are_monomials(f: &WordField, list: &[Poly<WordField>]) -> bool
     ensures yes { IsTrue result → AreMonomials (residues f.now.modulus) list.now }
-    ensures no { IsFalse result → (p : Polynomial ℕ) × Contains list.now p × (IsMonomialOrZero (residues f.now.modulus) p → ⊥) }
+    ensures no { IsFalse result → IsSomeOther f.now.modulus list.now }
 {
     for p in list {
         if !is_monomial_or_zero(f, p) {

@@ -1,9 +1,12 @@
 //! The words of a command.
 ghost use Rattle.std.specs.Prelude.{◌≡◌, ◌≢◌, ℕ, ◌↔◌, IsTrue, IfSome, IfNone, codes};
 ghost use Rattle.std.specs.Fmt.{decimal};
-ghost use Rattle.sagbi_cli.specs.Command.{IsBound, IsComplete, IsNoCommand, BeginsWithDigit};
+ghost use Rattle.sagbi_cli.specs.Command.{IsBound, IsCompleteCommand, IsNoCommand, BeginsWithDigit};
 
 use crate::WordList;
+
+/// The largest bound of a computation.
+const BOUND_MAX: u32 = 15000;
 
 /// The bound whose decimal the word is.
 fn bound_of(word: &str) -> Option<u32>
@@ -14,7 +17,7 @@ fn bound_of(word: &str) -> Option<u32>
         return None;
     }
     match word.parse::<u32>() {
-        Ok(n) if 1 <= n && n <= 15000 => Some(n),
+        Ok(n) if 1 <= n && n <= BOUND_MAX => Some(n),
         _ => None,
     }
 }
@@ -37,7 +40,7 @@ fn is_complete(word: &str) -> bool
 
 /// The name of the presentation and the bound.
 pub fn command(words: &WordList) -> Option<(&str, u32)>
-    ensures some { IfSome result (λ c. IsComplete words.now c.0.now c.1) }
+    ensures some { IfSome result (λ c. IsCompleteCommand words.now c.0.now c.1) }
     ensures none { IfNone result (IsNoCommand words.now) }
 {
     if words.len() != 3 || !is_complete(words.get(0)) || words.get(1).is_empty() {

@@ -4,24 +4,28 @@
 mod answer;
 mod built;
 mod command;
+mod message;
 mod outcome;
+mod print_fault;
 mod put;
 mod report;
 mod run;
 #[cfg(test)]
 mod tests;
-mod words;
+mod word_list;
 
 use monomial_order::Memory;
+pub use outcome::Outcome;
+pub use print_fault::PrintFault;
 pub use run::run;
 use shelf_io::{FileShelf, StreamSink};
 use std::alloc::Global;
 use std::env;
 use std::io::ErrorKind;
 use std::process::ExitCode;
-pub use words::WordList;
+pub use word_list::WordList;
 
-/// The words after the program's name, or none where they are no text.
+/// The words after the program's name; none if one of them is no text.
 fn words_of(rt: &HostRuntime) -> Result<WordList, Memory> {
     let alloc: Global = rt.alloc();
     let mut words = WordList::new(alloc);

@@ -1,12 +1,12 @@
 //! Puts whole texts into a sink.
 ghost use Rattle.std.specs.Prelude.{◌≤◌};
-ghost use Rattle.sagbi_cli.specs.Taking.{Takes};
+ghost use Rattle.sagbi_cli.specs.SinkChange.{change, Takes};
 
 use shelf_io::{Sink, SinkFailed};
 
-/// Puts the text until it is taken whole, or the sink fails.
+/// Puts the text until the sink has taken it whole, or fails.
 pub fn put_all<K: Sink>(sink: &mut K, text: &[u8]) -> Result<(), SinkFailed>
-    ensures takes { Takes result text.now (K.faults sink.old) (K.faults sink.new) (K.taken sink.old) (K.taken sink.new) }
+    ensures takes { Takes result text.now (change K.taken K.faults sink.old sink.new) }
     ensures counted { K.faults sink.old ≤ K.faults sink.new }
 {
     let mut rest = text;

@@ -1,21 +1,20 @@
 //! The run of the program.
-ghost use Rattle.std.specs.Prelude.{◌≡◌, ◌≢◌, ℕ, ◌≤◌, [], ◌∷◌, List, Some, length};
+ghost use Rattle.std.specs.Prelude.{◌≡◌, ◌≢◌, ℕ, List, Some};
 ghost use Rattle.std.specs.FinMap as map;
 ghost use Rattle.shelf_io.specs.Counts.{HasRisen};
 ghost use Rattle.shelf_io.specs.Shelf.{Files};
-ghost use Rattle.sagbi_cli.specs.Command.{IsBound, IsComplete, IsNoCommand, pres_of};
-ghost use Rattle.sagbi_cli.specs.Outcome.{status_of, Ends, EndsWith, EndsSo, IsDue, SparesOut, Notes};
+ghost use Rattle.sagbi_cli.specs.Command.{IsBound, IsCompleteCommand, IsNoCommand};
+ghost use Rattle.sagbi_cli.specs.Ending.{Ends, PutsAt, TakesOnlyReports};
+ghost use Rattle.sagbi_cli.specs.SinkChange.{change, HasFailed};
 
-use crate::WordList;
 use crate::answer::answer;
 use crate::command::command;
-use crate::outcome::{Outcome, status, tell};
+use crate::message::put_line;
+use crate::{Outcome, WordList};
+use presentation_text::TEXT_MAX;
 use presentation_text::laws::one_reading;
 use shelf_io::{LoadFault, Loaded, Shelf, Sink};
 use std::alloc::Global;
-
-/// The longest text that is read.
-const TEXT_MAX: u64 = 16777216;
 
 /// Loads the presentation of that name and answers it.
 fn complete<H: Shelf, K: Sink>(
@@ -26,11 +25,12 @@ fn complete<H: Shelf, K: Sink>(
     out: &mut K,
 ) -> Outcome
     requires { IsBound bound }
-    ensures ends { (files : Files) → H.holds shelf.old ≡ Some files → EndsWith (map.get files name.now) bound result (K.taken out.old) (K.taken out.new) }
-    ensures spares { SparesOut result (K.taken out.old) (K.taken out.new) }
+    ensures puts { (files : Files) → H.holds shelf.old ≡ Some files
+        → PutsAt (map.get files name.now) bound result (change K.taken K.faults out.old out.new) }
+    ensures only_reports { TakesOnlyReports result (change K.taken K.faults out.old out.new) }
     ensures map { H.holds shelf.new ≡ H.holds shelf.old }
     ensures shelf { result ≡ Outcome.Shelf → HasRisen (H.faults shelf.old) (H.faults shelf.new) }
-    ensures sink { result ≡ Outcome.Sink → HasRisen (K.faults out.old) (K.faults out.new) }
+    ensures sink { result ≡ Outcome.Sink → HasFailed (change K.taken K.faults out.old out.new) }
     ensures never_usage { result ≢ Outcome.Usage }
 {
     match shelf.load(alloc, name, Some(TEXT_MAX)) {
@@ -50,12 +50,12 @@ pub fn run<H: Shelf, K: Sink, N: Sink>(
     out: &mut K,
     note: &mut N,
 ) -> u8
-    ensures ends { (files : Files) → H.holds shelf.old ≡ Some files → (o : Outcome) × (result ≡ status_of o) × Ends words.now files o (K.taken out.old) (K.taken out.new) }
-    ensures due { (files : Files) → H.holds shelf.old ≡ Some files → (due : Outcome) → IsDue words.now files due → (o : Outcome) × (result ≡ status_of o) × EndsSo due o }
+    ensures ends { Ends words.now (H.holds shelf.old) result
+        (change K.taken K.faults out.old out.new) (change N.taken N.faults note.old note.new) }
+
+    // whatever the shelf and the sinks are
     ensures no_command { result ≡ 1 → IsNoCommand words.now }
-    ensures command { result ≢ 1 → (pres : List ℕ) × (bound : ℕ) × IsComplete words.now pres bound }
-    ensures noted { (o : Outcome) × (result ≡ status_of o) × SparesOut o (K.taken out.old) (K.taken out.new)
-        × Notes (pres_of words.now) o (N.faults note.old) (N.faults note.new) (N.taken note.old) (N.taken note.new) }
+    ensures command { result ≢ 1 → (pres : List ℕ) × (bound : ℕ) × IsCompleteCommand words.now pres bound }
     ensures map { H.holds shelf.new ≡ H.holds shelf.old }
     ensures shelf { result ≡ 5 → HasRisen (H.faults shelf.old) (H.faults shelf.new) }
     ensures sink { result ≡ 6 → HasRisen (K.faults out.old) (K.faults out.new) }
@@ -64,12 +64,12 @@ pub fn run<H: Shelf, K: Sink, N: Sink>(
     match command(words) {
         Some((name, bound)) => {
             let outcome = complete(alloc, name, bound, shelf, out);
-            let _ = tell(note, outcome, name.as_bytes());
-            status(outcome)
+            let _ = put_line(note, outcome, name.as_bytes());
+            outcome.status()
         }
         None => {
-            let _ = tell(note, Outcome::Usage, b"");
-            status(Outcome::Usage)
+            let _ = put_line(note, Outcome::Usage, b"");
+            Outcome::Usage.status()
         }
     }
 }

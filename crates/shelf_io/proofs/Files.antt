@@ -1,5 +1,5 @@
 -- A map of texts to bytes and the files that it is seen as.
-use Rattle.std.proofs.Common.{◌≡◌, ℕ, List, [], ◌∷◌, Bool, true, false, cond, refl, sym, ap, ◌∙◌, string_bytes, Option, Some, option_map, unwrap_or, Vec, String}
+use Rattle.std.proofs.Common.{◌≡◌, ℕ, List, [], ◌∷◌, Bool, true, false, cond, refl, sym, ap, ◌∙◌, string_bytes, Option, Some, option_map, Vec, String}
 use Rattle.std.specs.BTreeMap as tree
 use Rattle.std.specs.BTreeMap.{BTreeMap, is_at, get_by_text}
 use Rattle.std.specs.Map.{lookup}
@@ -45,6 +45,3 @@ files_of-insert old new key value updates = same_map nat_list_cmp_total exact_by
     ∙ ap (λ b. cond b (Some value.items) (found_bytes (get_by_text old q))) (same_test (string_bytes key) q)
     ∙ ap (cond (eq_by_cmp (slice_cmp nat_cmp) q (string_bytes key)) (Some value.items)) (sym (get-files_of old q))
     ∙ sym (get-insert nat_list_cmp_total (files_of old) (string_bytes key) value.items q))
-
-pub same_some : {A : Type 0} (x y : A) → Some x ≡ Some y → x ≡ y
-same_some x y same = ap (λ o. unwrap_or o x) same

@@ -24,6 +24,10 @@ with_failing t call = record { made = t.made; failing = t.failing ++ call ∷ []
 abbrev pub next_fails : Tally → Bool
 next_fails t = list_any (λ call. call == raised t.made) t.failing
 
--- A call was made. The faults rise where it fails, and only there.
+-- A call was made. The faults rise if it fails, and only then.
 abbrev pub after_call : Tally → Tally
-after_call t = record { made = raised t.made; failing = t.failing; faults = if next_fails t then raised t.faults else t.faults }
+after_call t = record {
+  made = raised t.made;
+  failing = t.failing;
+  faults = (if next_fails t then raised t.faults else t.faults);
+}

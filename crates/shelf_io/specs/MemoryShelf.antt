@@ -22,7 +22,7 @@ with_file s name bytes = record { files = map.insert s.files name bytes; calls =
 abbrev pub with_calls : ShelfState → Tally → ShelfState
 with_calls s calls = record { files = s.files; calls = calls }
 
--- after a write with this answer: the call counts, and the name has the bytes where the answer is Ok
+-- after a write with this answer: the call counts, and the name has the bytes if the answer is Ok
 abbrev pub written : Result (Unit {0}) WriteFault → ShelfState → List ℕ → List ℕ → ShelfState
 written (Ok _) s name bytes = record { files = map.insert s.files name bytes; calls = after_call s.calls }
 written (Err _) s name bytes = record { files = s.files; calls = after_call s.calls }

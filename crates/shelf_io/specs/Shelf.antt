@@ -13,7 +13,7 @@ use Rattle.shelf_io.specs.declared.shelf.WriteFault.TheVariants.{Failed, Memory}
 abbrev pub Files : Type 0
 Files = FinMap (slice_cmp nat_cmp) (List ℕ)
 
--- at most as many bytes as the limit allows, where there is one
+-- at most as many bytes as the limit allows, if there is one
 abbrev pub IsWithin : Option ℕ → List ℕ → Type 0
 IsWithin None bytes = Unit {0}
 IsWithin (Some max) bytes = length bytes ≤ max
@@ -23,7 +23,7 @@ abbrev pub IsOver : Option ℕ → List ℕ → Type 0
 IsOver None bytes = ⊥
 IsOver (Some max) bytes = max < length bytes
 
--- What a load finds in the files: each answer exactly where it is due, since no two of these facts hold at once.
+-- What a load finds in the files. No two of these facts hold at once, so each answer comes exactly if its fact holds.
 abbrev pub IsFound : Files → List ℕ → Option ℕ → Loaded → Type 0
 IsFound files name max Missing = map.get files name ≡ None
 IsFound files name max TooLong = (bytes : List ℕ) × (map.get files name ≡ Some bytes) × IsOver max bytes
@@ -45,7 +45,7 @@ IsWritten (Ok _) name bytes old new = new ≡ map.insert old name bytes
 IsWritten (Err Failed) name bytes old new = SameElsewhere name old new
 IsWritten (Err Memory) name bytes old new = new ≡ old
 
--- What is told after a write was told before it, and the write led from there to here.
-abbrev pub KeepsTelling : Result (Unit {0}) WriteFault → List ℕ → List ℕ → Option Files → Option Files → Type 0
-KeepsTelling result name bytes before after =
+-- If the files are known after a write, they were known before it, and the write made the new ones of the old.
+abbrev pub WritesIfKnown : Result (Unit {0}) WriteFault → List ℕ → List ℕ → Option Files → Option Files → Type 0
+WritesIfKnown result name bytes before after =
     (new : Files) → after ≡ Some new → (old : Files) × (before ≡ Some old) × IsWritten result name bytes old new

@@ -11,7 +11,7 @@ use std::io::{ErrorKind, Read, Write};
 use std::rt::Files;
 use std::{fs, io};
 
-/// The files of the system. A name is a path. It tells nothing of what they hold.
+/// The files of the system. A name is a path. No clause says what they hold.
 #[derive(Drop)]
 pub struct FileShelf<'a, R> {
     rt: &'a R,

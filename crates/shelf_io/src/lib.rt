@@ -3,20 +3,18 @@
 
 mod calls;
 mod counts;
-mod fault;
 mod file_shelf;
 mod memory_shelf;
 mod memory_sink;
 mod shelf;
+mod shelf_memory;
 mod sink;
 mod stream_sink;
-#[cfg(test)]
-mod tests;
 
-pub use fault::ShelfMemory;
 pub use file_shelf::FileShelf;
 pub use memory_shelf::MemoryShelf;
 pub use memory_sink::MemorySink;
 pub use shelf::{LoadFault, Loaded, Shelf, WriteFault};
+pub use shelf_memory::ShelfMemory;
 pub use sink::{Sink, SinkFailed};
 pub use stream_sink::StreamSink;

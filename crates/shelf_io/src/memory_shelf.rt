@@ -1,9 +1,9 @@
 //! A shelf in memory.
-ghost use Rattle.std.specs.Prelude.{◌≡◌, ℕ, ◌≤◌, ◌↔◌, Some, IfOk, OnOk, OnErr, IsErrOf, IsTrue, option_copied};
+ghost use Rattle.std.specs.Prelude.{◌≡◌, ◌≤◌, ◌↔◌, Some, None, IfOk, OnOk, OnErr, IsErrOf, IsTrue, option_copied};
 ghost use Rattle.std.specs.FinMap as map;
 ghost use Rattle.shelf_io.specs.Calls.{no_calls, next_fails, after_call, with_failing};
 ghost use Rattle.shelf_io.specs.Counts.{HasRisen};
-ghost use Rattle.shelf_io.specs.Shelf.{Files, IsFound, KeepsLimit, KeepsTelling};
+ghost use Rattle.shelf_io.specs.Shelf.{Files, IsFound, KeepsLimit, WritesIfKnown};
 ghost use Rattle.shelf_io.specs.Stored.{files_of};
 
 use crate::calls::Calls;
@@ -73,7 +73,8 @@ impl MemoryShelf {
 
     /// The load or write of this number fails.
     pub fn fail_at(&mut self, call: u64) -> Result<(), ShelfMemory>
-        ensures ok { OnOk result (shelf_state self.new ≡ with_calls (shelf_state self.old) (with_failing (shelf_state self.old).calls call)) }
+        ensures ok { OnOk result (shelf_state self.new
+            ≡ with_calls (shelf_state self.old) (with_failing (shelf_state self.old).calls call)) }
         ensures err { OnErr result (shelf_state self.new ≡ shelf_state self.old) }
     {
         self.calls.fail_at(call)
@@ -96,12 +97,16 @@ impl Shelf for MemoryShelf {
 
     fn load(&mut self, alloc: Global, name: &str, max: Option<u64>) -> Result<Loaded, LoadFault>
         ensures same { Some (shelf_state self.new).files ≡ Some (shelf_state self.old).files }
-        ensures found { (files : Files) → Some (shelf_state self.old).files ≡ Some files → IfOk result (IsFound files name.now max) }
+        ensures found { (files : Files) → Some (shelf_state self.old).files ≡ Some files
+            → IfOk result (IsFound files name.now max) }
         ensures limit { IfOk result (KeepsLimit max) }
         ensures counted { (shelf_state self.old).calls.faults ≤ (shelf_state self.new).calls.faults }
-        ensures failed { IsErrOf result LoadFault.Failed → HasRisen (shelf_state self.old).calls.faults (shelf_state self.new).calls.faults }
+        ensures failed { IsErrOf result LoadFault.Failed
+            → HasRisen (shelf_state self.old).calls.faults (shelf_state self.new).calls.faults }
+        ensures absent { map.get (shelf_state self.old).files name.now ≡ None → ¬ IsErrOf result LoadFault.Memory }
         ensures fails { IsErrOf result LoadFault.Failed ↔ IsTrue (next_fails (shelf_state self.old).calls) }
-        ensures after { shelf_state self.new ≡ with_calls (shelf_state self.old) (after_call (shelf_state self.old).calls) }
+        ensures after { shelf_state self.new
+            ≡ with_calls (shelf_state self.old) (after_call (shelf_state self.old).calls) }
     {
         if self.calls.begin() {
             return Err(LoadFault::Failed);
@@ -114,10 +119,13 @@ impl Shelf for MemoryShelf {
     }
 
     fn write(&mut self, alloc: Global, name: &str, bytes: &[u8]) -> Result<(), WriteFault>
-        ensures unchanged { IsErrOf result WriteFault.Memory → Some (shelf_state self.new).files ≡ Some (shelf_state self.old).files }
-        ensures held { KeepsTelling result name.now bytes.now (Some (shelf_state self.old).files) (Some (shelf_state self.new).files) }
+        ensures unchanged { IsErrOf result WriteFault.Memory
+            → Some (shelf_state self.new).files ≡ Some (shelf_state self.old).files }
+        ensures held { WritesIfKnown result name.now bytes.now
+            (Some (shelf_state self.old).files) (Some (shelf_state self.new).files) }
         ensures counted { (shelf_state self.old).calls.faults ≤ (shelf_state self.new).calls.faults }
-        ensures failed { IsErrOf result WriteFault.Failed → HasRisen (shelf_state self.old).calls.faults (shelf_state self.new).calls.faults }
+        ensures failed { IsErrOf result WriteFault.Failed
+            → HasRisen (shelf_state self.old).calls.faults (shelf_state self.new).calls.faults }
         ensures fails { IsErrOf result WriteFault.Failed ↔ IsTrue (next_fails (shelf_state self.old).calls) }
         ensures after { shelf_state self.new ≡ written result (shelf_state self.old) name.now bytes.now }
     {

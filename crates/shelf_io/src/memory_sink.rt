@@ -1,5 +1,5 @@
 //! A sink in memory.
-ghost use Rattle.std.specs.Prelude.{◌≡◌, ℕ, ◌≤◌, ◌<◌, ◌↔◌, [], Some, min, length, IfOk, OnOk, OnErr, IsErr, IsTrue, vec_len, vec_capacity};
+ghost use Rattle.std.specs.Prelude.{◌≡◌, ◌≤◌, ◌<◌, ◌↔◌, [], Some, min, length, IfOk, OnOk, OnErr, IsErr, IsTrue, vec_len, vec_capacity};
 ghost use Rattle.shelf_io.specs.Calls.{no_calls, next_fails, after_call, with_failing};
 ghost use Rattle.shelf_io.specs.Counts.{HasRisen};
 ghost use Rattle.shelf_io.specs.Sink.{Continues, accepted};
@@ -8,7 +8,7 @@ use crate::calls::Calls;
 use crate::{ShelfMemory, Sink, SinkFailed};
 use std::alloc::Global;
 
-/// Keeps the bytes that it takes, in a room that is made at the start. Bytes past the room are dropped.
+/// A sink with a room for bytes, which is made at the start. Bytes that do not fit are dropped.
 #[derive(Drop)]
 pub struct MemorySink {
     most: usize,
@@ -27,7 +27,8 @@ impl MemorySink {
     /// Takes at most `most` bytes a call.
     pub fn new(alloc: Global, most: usize, room: usize) -> Result<MemorySink, ShelfMemory>
         requires { 0 < most }
-        ensures { IfOk result (λ s. sink_state s ≡ record { most = most; room = room; taken = Some []; kept = []; calls = no_calls }) }
+        ensures { IfOk result (λ s. sink_state s
+            ≡ record { most = most; room = room; taken = Some []; in_room = []; calls = no_calls }) }
     {
         Ok(MemorySink {
             most,
@@ -40,7 +41,8 @@ impl MemorySink {
 
     /// The put of this number, counted from 1, fails.
     pub fn fail_at(&mut self, call: u64) -> Result<(), ShelfMemory>
-        ensures ok { OnOk result (sink_state self.new ≡ with_calls (sink_state self.old) (with_failing (sink_state self.old).calls call)) }
+        ensures ok { OnOk result (sink_state self.new
+            ≡ with_calls (sink_state self.old) (with_failing (sink_state self.old).calls call)) }
         ensures err { OnErr result (sink_state self.new ≡ sink_state self.old) }
     {
         self.calls.fail_at(call)
@@ -48,7 +50,7 @@ impl MemorySink {
 
     /// The bytes taken within the room.
     pub fn bytes(&self) -> &[u8]
-        ensures { result.now ≡ (sink_state self.now).kept }
+        ensures { result.now ≡ (sink_state self.now).in_room }
     {
         &self.bytes
     }
@@ -72,12 +74,13 @@ impl Sink for MemorySink {
         requires { 0 < length piece.now }
         ensures some { IfOk result (λ n. 0 < n) }
         ensures within { IfOk result (λ n. n ≤ length piece.now) }
-        ensures told { Continues (sink_state self.old).taken (accepted result piece.now) (sink_state self.new).taken }
+        ensures taken { Continues (sink_state self.old).taken (accepted result piece.now) (sink_state self.new).taken }
         ensures counted { (sink_state self.old).calls.faults ≤ (sink_state self.new).calls.faults }
         ensures failed { OnErr result (HasRisen (sink_state self.old).calls.faults (sink_state self.new).calls.faults) }
         ensures fails { IsErr result ↔ IsTrue (next_fails (sink_state self.old).calls) }
         ensures most { IfOk result (λ n. n ≡ min (sink_state self.old).most (length piece.now)) }
-        ensures after { sink_state self.new ≡ with_bytes (sink_state self.old) (accepted result piece.now) (after_call (sink_state self.old).calls) }
+        ensures after { sink_state self.new
+            ≡ with_bytes (sink_state self.old) (accepted result piece.now) (after_call (sink_state self.old).calls) }
     {
         if self.calls.begin() {
             return Err(SinkFailed);

@@ -2,7 +2,7 @@
 ghost use Rattle.std.specs.Prelude.{◌≡◌, ℕ, ◌≤◌, Option, Some, IfOk, IsErrOf};
 ghost use Rattle.shelf_io.specs.Counts.{HasRisen};
 ghost use Rattle.std.specs.Bool.{OnTrue, OnFalse};
-ghost use Rattle.shelf_io.specs.Shelf.{Files, IsFound, IsOver, IsWithin, KeepsLimit, KeepsTelling};
+ghost use Rattle.shelf_io.specs.Shelf.{Files, IsFound, IsOver, IsWithin, KeepsLimit, WritesIfKnown};
 ghost use Rattle.shelf_io.specs.declared.shelf.LoadFault.TheVariants.{Memory as no_room};
 ghost use Rattle.shelf_io.specs.declared.shelf.WriteFault.TheVariants.{Memory as no_memory};
 
@@ -65,15 +65,15 @@ pub fn is_over(bytes: &[u8], max: Option<u64>) -> bool
 
 /// Named files.
 ///
-/// A name is any text. What it stands for is the shelf's own matter.
+/// A name is any text. The shelf decides what it means.
 pub trait Shelf {
-    /// The files, where they are told. A shelf that does not tell them now never does again.
+    /// The files, if they are known. Once they are unknown, they stay unknown.
     ghost holds: { Self → Option Files };
 
     /// How often a load or a write has failed.
     ghost faults: { Self → ℕ };
 
-    /// The bytes of a name, where there are at most `max` of them.
+    /// The bytes of a name, if there are at most `max` of them.
     fn load(&mut self, alloc: Global, name: &str, max: Option<u64>) -> Result<Loaded, LoadFault>
         ensures same { holds self.new ≡ holds self.old }
         ensures found { (files : Files) → holds self.old ≡ Some files → IfOk result (IsFound files name.now max) }
@@ -84,7 +84,7 @@ pub trait Shelf {
     /// Puts these bytes under the name, in place of what it had.
     fn write(&mut self, alloc: Global, name: &str, bytes: &[u8]) -> Result<(), WriteFault>
         ensures unchanged { IsErrOf result WriteFault.Memory → holds self.new ≡ holds self.old }
-        ensures held { KeepsTelling result name.now bytes.now (holds self.old) (holds self.new) }
+        ensures held { WritesIfKnown result name.now bytes.now (holds self.old) (holds self.new) }
         ensures counted { faults self.old ≤ faults self.new }
         ensures failed { IsErrOf result WriteFault.Failed → HasRisen (faults self.old) (faults self.new) };
 }

@@ -9,7 +9,7 @@ pub struct SinkFailed;
 
 /// Where bytes go, in order.
 pub trait Sink {
-    /// All bytes taken so far, where they are told. A sink that does not tell them now never does again.
+    /// All bytes taken so far, if they are known. Once they are unknown, they stay unknown.
     ghost taken: { Self → Option (List ℕ) };
 
     /// How often a put has failed.
@@ -20,7 +20,7 @@ pub trait Sink {
         requires { 0 < length piece.now }
         ensures some { IfOk result (λ n. 0 < n) }
         ensures within { IfOk result (λ n. n ≤ length piece.now) }
-        ensures told { Continues (taken self.old) (accepted result piece.now) (taken self.new) }
+        ensures taken { Continues (taken self.old) (accepted result piece.now) (taken self.new) }
         ensures counted { faults self.old ≤ faults self.new }
         ensures failed { OnErr result (HasRisen (faults self.old) (faults self.new)) };
 }

@@ -5,7 +5,7 @@ use crate::counts::next_count;
 use crate::{Sink, SinkFailed};
 use std::io::Write;
 
-/// Writes each piece through to a stream. It tells nothing of what the stream took.
+/// Writes each piece through to a stream. No clause says what the stream took.
 #[derive(Drop)]
 pub struct StreamSink<W> {
     writer: W,

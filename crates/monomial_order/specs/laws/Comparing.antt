@@ -3,7 +3,7 @@ use Rattle.std.proofs.Common.{◌≡◌, ◌≢◌, ℕ, suc, ◌<◌, ◌≤◌
 use Rattle.std.specs.Prelude.{nat_le, nat_eq, Contains}
 use Rattle.std.proofs.lemmas.Bool.Decides.{nat_tests}
 use Rattle.std.specs.Cmp.{tied_itself}
-use Rattle.std.specs.Ordering.{ordering_reverse}
+use Rattle.std.specs.Ordering.{nat_cmp, ordering_reverse}
 use Rattle.std.specs.declared.cmp.Ordering.{Ordering}
 use Rattle.std.specs.declared.cmp.Ordering.TheVariants.{Less, Equal, Greater}
 use Rattle.monomial_order.specs.Monomial.{exponent, IsMonomial, IsTrimmed, Divides, product}
@@ -14,6 +14,9 @@ use Rattle.monomial_order.specs.laws.Cofactors.{cofactor, trimmed_or_not, length
 
 pub less_not_equal : (o : Ordering) → o ≡ Less → o ≡ Equal → ⊥
 less_not_equal o h k = let e : Less ≡ Equal = sym h ∙ k in cc
+
+pub cmp_greater : (x y : ℕ) → y < x → nat_cmp x y ≡ Greater
+cmp_greater x y h = grind (arith, nat_tests)
 
 pub le_or_not : (a b : ℕ) → (a ≤ b) ⊎ (a ≤ b → ⊥)
 le_or_not a b = elim (nat_le a b) as (λ v. nat_le a b ≡ v → (a ≤ b) ⊎ (a ≤ b → ⊥)) [ true ↦ λ e. inl (yes_le a b e) | false ↦ λ e. inr (no_le a b e) ] refl

@@ -1,7 +1,6 @@
 -- Polynomials as the program keeps them make a presentation, and a copy presents the same.
 use Rattle.std.proofs.Common.{◌≡◌, ℕ, sym, ap, inl, inr, ⊎_elim, List, [], ◌∷◌}
 use Rattle.word_field.specs.Field.{FieldOps, IsField}
-use Rattle.monomial_order.specs.declared.terms.Term.{Term}
 use Rattle.monomial_order.specs.declared.weight_order.WeightOrder.{WeightOrder}
 use Rattle.monomial_order.specs.MonomialOrder.{MonomialOrder, IsMonomialOrder}
 use Rattle.monomial_order.specs.Orders.{weight_order}

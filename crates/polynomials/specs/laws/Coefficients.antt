@@ -1,5 +1,5 @@
 -- Coefficients and leads of single terms, sums and differences, and what a decreasing list says of them.
-use Rattle.std.proofs.Common.{◌≡◌, ◌≢◌, ℕ, ◌≤◌, refl, sym, ◌∙◌, ap, List, [], ◌∷◌, ◌++◌, ◌⊎◌, inl, inr, ⊎_elim, cond, true, false, arith}
+use Rattle.std.proofs.Common.{◌≡◌, ◌≢◌, ℕ, ◌≤◌, refl, sym, ◌∙◌, ap, [], ◌∷◌, ◌++◌, ◌⊎◌, inl, inr, ⊎_elim, cond, true, false, arith}
 use Rattle.std.specs.declared.cmp.Ordering.TheVariants.{Less}
 use Rattle.word_field.specs.Field.{FieldOps, IsField, IsValue}
 use Rattle.word_field.specs.laws.Field.{zero-plus-zero, negate-zero}
@@ -17,6 +17,7 @@ use Rattle.polynomials.specs.laws.Congruence.{coefficient-minus}
 use Rattle.polynomials.specs.laws.Degrees.{all_found}
 use Rattle.polynomials.specs.laws.Decreasing.{IsDecreasing_IsPoly, IsLead_first, IsLead_unique}
 use Rattle.polynomials.specs.laws.Terms.{scaled_below}
+pub use Rattle.polynomials.specs.laws.Ideal.{constant_poly}
 
 pub nothing_at : {E : Type 0} (K : FieldOps E) (m : Exponents) → K.zero ≡ coefficient K [] m
 unfolding coefficient
@@ -41,9 +42,6 @@ module _ {E : Type 0} (K : FieldOps E) (F : IsField K) where
   minus_nonzero p q m h =
       ⊎_elim (λ a. inl a) (λ b. inr (λ z. b (ap K.negate z ∙ negate-zero K F)))
       (sum_nonzero (coefficient K p m) (K.negate (coefficient K q m)) (λ z. h (coefficient-minus K F p q m ∙ z)))
-
-  pub constant_poly : (n : ℕ) (c : E) → IsValue K c → IsPoly K n (constant K c)
-  constant_poly n c v = (record { monomial = record { trimmed = tt; within = omega arith }; value = v }, tt)
 
   pub minus_poly : (n : ℕ) (a b : Polynomial E) → IsPoly K n a → IsPoly K n b → IsPoly K n (minus K a b)
   minus_poly n a b h k = IsPoly-append K F n a (negated K b) h (IsPoly-negated K F n b k)

@@ -2,13 +2,12 @@
 use Rattle.std.proofs.Common.{◌≡◌, ℕ, refl, sym, ◌∙◌, ap, List, [], ◌∷◌, ◌++◌}
 use Rattle.word_field.specs.Field.{FieldOps, IsField, IsValue}
 use Rattle.word_field.specs.laws.Field.{negate-negate, zero-plus-zero, negate-zero, negate-plus, plus_four, negate-plus_cancel, plus_is_zero, negate-times, one-times}
-use Rattle.monomial_order.specs.declared.terms.Term.{Term}
 use Rattle.polynomials.specs.Polynomial.{Polynomial, coefficient, Same, times, negated, minus, constant, IsPoly}
 use Rattle.polynomials.specs.Ideal.{InIdeal, Congruent}
 use Rattle.polynomials.specs.laws.Ring.{coefficient_value, coefficient-append, times_assoc, times_plus, times_comm}
 use Rattle.polynomials.specs.laws.Same.{times_same, times_same_left, append_same, coefficient-negated, minus_self}
 use Rattle.polynomials.specs.laws.Value.{coefficient-constant_times}
-use Rattle.polynomials.specs.laws.Ideal.{InIdeal_same, InIdeal_zero, InIdeal_plus, InIdeal_times}
+use Rattle.polynomials.specs.laws.Ideal.{constant_poly, InIdeal_same, InIdeal_zero, InIdeal_plus, InIdeal_times}
 use Rattle.monomial_order.specs.Monomial.{Exponents}
 
 module _ {E : Type 0} (K : FieldOps E) (F : IsField K) where
@@ -53,9 +52,6 @@ module _ {E : Type 0} (K : FieldOps E) (F : IsField K) where
       F.plus_comm (K.negate (coefficient K q m)) (coefficient K p m) ∙ (sym (coefficient-minus p q m) ∙ z m) in
       sym (coefficient_value K F p m) ∙ (plus_is_zero K F (K.negate (coefficient K q m)) (coefficient K p m) e ∙ (negate-negate K F (coefficient K q m) ∙ coefficient_value K F q m))
 
-  IsPoly_constant : (n : ℕ) (c : E) → IsValue K c → IsPoly K n (constant K c)
-  IsPoly_constant n c v = (record { monomial = record { trimmed = tt; within = Rattle.std.proofs.Common.◌≤◌.zero-le }; value = v }, tt)
-
   -- (p - q) + (q - r) = p - r
   pub minus_chain : (p q r : Polynomial E) → Same K (minus K p q ++ minus K q r) (minus K p r)
   minus_chain p q r m =
@@ -91,7 +87,7 @@ module _ {E : Type 0} (K : FieldOps E) (F : IsField K) where
     pub InIdeal_negated : (a : Polynomial E) → InIdeal K n rs a → InIdeal K n rs (negated K a)
     InIdeal_negated a h =
         InIdeal_same K F n rs (times K (constant K (K.negate K.one)) a) (negated K a) (λ m. sym (negated_is a m))
-        (InIdeal_times K F n rs (constant K (K.negate K.one)) a (IsPoly_constant n (K.negate K.one) (F.negate_value K.one)) h)
+        (InIdeal_times K F n rs (constant K (K.negate K.one)) a (constant_poly K F n (K.negate K.one) (F.negate_value K.one)) h)
 
     pub congruent_same : (a b : Polynomial E) → Same K a b → Congruent K n rs a b
     congruent_same a b h =
@@ -127,7 +123,7 @@ module _ {E : Type 0} (K : FieldOps E) (F : IsField K) where
         congruent_trans (negated K a) (times K (constant K (K.negate K.one)) a) (negated K b)
         (congruent_same (negated K a) (times K (constant K (K.negate K.one)) a) (negated_is a))
         (congruent_trans (times K (constant K (K.negate K.one)) a) (times K (constant K (K.negate K.one)) b) (negated K b)
-        (congruent_times_left (constant K (K.negate K.one)) a b (IsPoly_constant n (K.negate K.one) (F.negate_value K.one)) h)
+        (congruent_times_left (constant K (K.negate K.one)) a b (constant_poly K F n (K.negate K.one) (F.negate_value K.one)) h)
         (congruent_same (times K (constant K (K.negate K.one)) b) (negated K b) (λ m. sym (negated_is b m))))
 
     -- a member of the ideal is congruent to 0

@@ -1,10 +1,10 @@
 -- The ideal is closed under sums and multiples; congruence modulo it is an equivalence that sums and products keep.
-use Rattle.std.proofs.Common.{◌≡◌, ℕ, refl, sym, ◌∙◌, ap, List, [], ◌∷◌, ◌++◌, append_assoc}
+use Rattle.std.proofs.Common.{◌≡◌, ℕ, refl, sym, ◌∙◌, ap, List, [], ◌∷◌, ◌++◌, append_assoc, arith}
 use Rattle.std.specs.Prelude.{map}
-use Rattle.word_field.specs.Field.{FieldOps, IsField}
+use Rattle.word_field.specs.Field.{FieldOps, IsField, IsValue}
 use Rattle.monomial_order.specs.declared.terms.Term.{Term}
 use Rattle.monomial_order.specs.laws.Monomial.{IsMonomial-product}
-use Rattle.polynomials.specs.Polynomial.{Polynomial, coefficient, Same, scaled, times, negated, IsTerm, IsPoly}
+use Rattle.polynomials.specs.Polynomial.{Polynomial, coefficient, Same, constant, scaled, times, negated, IsTerm, IsPoly}
 use Rattle.polynomials.specs.Ideal.{Multiple, AreMultiples, sum_of, InIdeal}
 use Rattle.polynomials.specs.laws.Ring.{times_assoc, times_plus}
 use Rattle.polynomials.specs.laws.Same.{times_same, append_same}
@@ -28,6 +28,9 @@ module _ {E : Type 0} (K : FieldOps E) (F : IsField K) where
   pub IsPoly-negated : (n : ℕ) (p : Polynomial E) → IsPoly K n p → IsPoly K n (negated K p)
   IsPoly-negated n [] h = tt
   IsPoly-negated n (t ∷ p) h = (record { monomial = h.0.monomial; value = F.negate_value t.by }, IsPoly-negated n p h.1)
+
+  pub constant_poly : (n : ℕ) (c : E) → IsValue K c → IsPoly K n (constant K c)
+  constant_poly n c v = (record { monomial = record { trimmed = tt; within = omega arith }; value = v }, tt)
 
   pub times_nil : (p : Polynomial E) → Same K (times K p []) []
   times_nil [] m = refl

@@ -1,14 +1,11 @@
 -- The leads of the ideal, and normal forms modulo it.
-use Rattle.std.proofs.Common.{◌≡◌, ◌≢◌, ℕ, refl, sym, ◌∙◌, ap, subst, List, [], ◌∷◌, cond, ⊎_elim, append-nil, Bool, true, false}
+use Rattle.std.proofs.Common.{◌≡◌, ◌≢◌, ℕ, refl, sym, ◌∙◌, ap, subst, [], ◌∷◌, cond, ⊎_elim, append-nil, Bool, true, false}
 use Rattle.std.specs.Prelude.{nat_eq}
 use Rattle.std.proofs.lemmas.Bool.{eq-eqb, eqb-true}
 use Rattle.word_field.specs.Field.{FieldOps}
-use Rattle.word_field.specs.laws.Field.{zero-plus-zero, negate-zero}
-use Rattle.monomial_order.specs.declared.terms.Term.{Term}
 use Rattle.monomial_order.specs.Monomial.{Exponents, product, IsMonomial}
 use Rattle.monomial_order.specs.MonomialOrder.{MonomialOrder}
-use Rattle.polynomials.specs.Polynomial.{Polynomial, coefficient, Same, term_of, times, scaled, negated, minus, component, IsTerm, IsPoly, IsLead, IsHomogeneous}
-use Rattle.polynomials.specs.Ideal.{InIdeal}
+use Rattle.polynomials.specs.Polynomial.{Polynomial, coefficient, Same, term_of, times, scaled, negated, minus, component, IsTerm, IsPoly, IsLead}
 use Rattle.polynomials.specs.Subalgebra.{HasHomogeneousLead, Presented, IsPresentation, LeadsIdeal, IsNormalForm}
 use Rattle.polynomials.specs.laws.Same.{times_same}
 use Rattle.polynomials.specs.laws.Decreasing.{IsLead_first, IsLead_unique}

@@ -2,8 +2,6 @@
 use Rattle.std.proofs.Common.{◌≡◌, ◌≢◌, ℕ, ◌+◌, ◌<◌, ◌≤◌, refl, sym, ◌∙◌, ap, subst, List, [], ◌∷◌, ◌++◌, arith, ⊎_elim}
 use Rattle.std.specs.Prelude.{Contains, map}
 use Rattle.std.specs.declared.cmp.Ordering.TheVariants.{Less}
-use Rattle.word_field.specs.laws.Field.{zero-plus-zero, negate-zero}
-use Rattle.monomial_order.specs.declared.terms.Term.{Term}
 use Rattle.monomial_order.specs.laws.Lists.{contains_cases, contains_here, contains_there, contains_none}
 use Rattle.monomial_order.specs.Monomial.{Exponents, product}
 use Rattle.monomial_order.specs.MonomialOrder.{MonomialOrder, IsMonomialOrder, IsIncreasing}

@@ -1,7 +1,7 @@
 -- A value is a homomorphism in the polynomial.
-use Rattle.std.proofs.Common.{◌≡◌, ℕ, zero, suc, ◌+◌, refl, sym, ◌∙◌, ap, List, [], ◌∷◌, ◌++◌, cond, Bool, true, false, append_assoc, arith}
+use Rattle.std.proofs.Common.{◌≡◌, ℕ, zero, suc, ◌+◌, refl, sym, ◌∙◌, ap, List, [], ◌∷◌, ◌++◌, append_assoc, arith}
 use Rattle.word_field.specs.Field.{FieldOps, IsField}
-use Rattle.word_field.specs.laws.Field.{times-zero, one-times}
+use Rattle.word_field.specs.laws.Field.{one-times}
 use Rattle.monomial_order.specs.declared.terms.Term.{Term}
 use Rattle.monomial_order.specs.Monomial.{Exponents, product}
 use Rattle.polynomials.specs.Polynomial.{Polynomial, same_monomial, total, share, coefficient, Same, term_of, term_times, scaled, times, constant}

@@ -1,5 +1,5 @@
 -- Images of words: products, exponents, degrees.
-use Rattle.std.proofs.Common.{◌≡◌, ◌≢◌, ℕ, zero, suc, ◌+◌, ◌*◌, ◌<◌, ◌≤◌, refl, sym, ◌∙◌, ap, List, [], ◌∷◌, ◌++◌, length, arith}
+use Rattle.std.proofs.Common.{◌≡◌, ℕ, zero, suc, ◌+◌, ◌*◌, ◌<◌, ◌≤◌, refl, sym, ◌∙◌, ap, List, [], ◌∷◌, ◌++◌, length, arith}
 use Rattle.std.specs.Prelude.{map}
 use Rattle.monomial_order.specs.Monomial.{Exponents, exponent, IsTrimmed, IsMonomial, product, variable, weighted_degree}
 use Rattle.word_laws.specs.Words.{monomial_power, image, variables}

@@ -1,8 +1,7 @@
 -- Reducible words and least words.
 use Rattle.std.proofs.Common.{◌≡◌, ◌≢◌, ℕ, ◌↔◌, refl, sym, ◌∙◌, ap, subst, List, length, arith, ◌⊎◌, inl, inr, ⊎_elim}
-use Rattle.std.specs.Prelude.{Contains}
 use Rattle.std.specs.declared.cmp.Ordering.TheVariants.{Less}
-use Rattle.monomial_order.specs.Monomial.{Exponents, product, IsMonomial, Divides, IsMultiple}
+use Rattle.monomial_order.specs.Monomial.{Exponents, product, Divides, IsMultiple}
 use Rattle.word_laws.specs.Words.{Letters, AreLetters, word_order_of, image_of, IsWord, IsSWord, IsSmaller, IsReducible, IsMinimalReducible, IsLeast, IsZeroClosed, IsZeroDecided}
 use Rattle.monomial_order.specs.laws.Monomial.{product_comm, IsMonomial-product}
 use Rattle.monomial_order.specs.laws.Cofactors.{cofactor, divides_or_not, length-product_right, Divides-trans, Divides-product}

@@ -11,7 +11,7 @@ use Rattle.monomial_order.specs.MonomialOrder.{IsMonomialOrder}
 use Rattle.monomial_order.specs.laws.Orders.{ArePositive, word_order_laws, take-product, sum-product}
 use Rattle.word_laws.specs.Words.{Letters, AreLetters, lead_degrees, word_order_of, image_of, IsWord, IsSWord, IsSmaller, variables}
 use Rattle.monomial_order.specs.laws.Cofactors.{cofactor}
-use Rattle.monomial_order.specs.laws.Comparing.{le_or_not, degree_one, some_exponent}
+use Rattle.monomial_order.specs.laws.Comparing.{cmp_greater, le_or_not, degree_one, some_exponent}
 use Rattle.monomial_order.specs.laws.Lists.{contains_here, contains_there}
 use Rattle.word_laws.specs.laws.Images.{AreMonomials, AreMonomials-append, variables_monomials, image_monomial, image_sum, image_product, variables_degrees, weighted_front, image_front, image_variables, length-variables}
 
@@ -27,16 +27,13 @@ leads_front ws vs (m ∷ ms) h = ap (λ x. x ∷ map (weighted_degree (ws ++ vs)
 -- of words of one degree with one image, the smaller has no more of x
 pub x_falls : (a b x y : ℕ) (o : Ordering) → a ≡ b → ordering_then (nat_cmp a b) (ordering_then (nat_cmp x y) o) ≡ Less → x ≤ y
 x_falls a b x y o h k =
-    ⊎_elim (λ l. l) (λ l. absurd (clash (sym k ∙ (ap (λ p. ordering_then p (ordering_then (nat_cmp x y) o)) (same a b h) ∙ ap (λ p. ordering_then p o) (above x y (omega (arith, l))))))) (le_or_not x y)
+    ⊎_elim (λ l. l) (λ l. absurd (clash (sym k ∙ (ap (λ p. ordering_then p (ordering_then (nat_cmp x y) o)) (same a b h) ∙ ap (λ p. ordering_then p o) (cmp_greater x y (omega (arith, l))))))) (le_or_not x y)
   where
     clash : Less ≡ Greater → ⊥
     clash e = cc
 
     same : (a b : ℕ) → a ≡ b → nat_cmp a b ≡ Equal
     same a b h = grind (arith, nat_tests)
-
-    above : (x y : ℕ) → y < x → nat_cmp x y ≡ Greater
-    above x y h = grind (arith, nat_tests)
 
 monomials : (n : ℕ) (ms : List Exponents) → ((m : Exponents) → Contains ms m → IsMonomial n m) → AreMonomials n ms
 monomials n [] h = tt

@@ -1,15 +1,15 @@
 use Rattle.std.proofs.Common.{◌≡◌, ◌+◌, ◌-◌, length, arith, refl, sym, ap, ◌∙◌, subst, ⊎_elim}
 use Rattle.monomial_order.specs.Monomial.{IsMonomial}
 use Rattle.polynomials.specs.Subalgebra.{IsGenerated}
-use Rattle.monomial_basis.specs.Products.{SomeWaits}
+use Rattle.monomial_basis.specs.Products.{SomePending}
 use Rattle.monomial_basis.proofs.Dividing.{degree_zero}
 use Rattle.monomial_basis.proofs.products.is_product.Goals as goal
 
 pub loop-i-init : goal.loop-i-init
 loop-i-init g c = record {
-  long = c.add.ensures.long ∙ c.in_ok-waiting.ensures.long;
+  long = c.add.ensures.long ∙ c.in_ok-pending.ensures.long;
   all = λ e k w. ⊎_elim
-      (λ old. absurd (c.in_ok-waiting.ensures.empty e k old))
+      (λ old. absurd (c.in_ok-pending.ensures.empty e k old))
       (λ new. let O = g.O.Order.order c.args.o.now in
       let same : k ≡ c.args.m.now = new.1 ∙ c.in_ok-copy.ensures.same in
       record {
@@ -28,28 +28,28 @@ loop-i-init g c = record {
   );
 }
 
-pub divide_waiting-requires-clause-monomials : goal.divide_waiting-requires-clause-monomials
-divide_waiting-requires-clause-monomials g c = λ m w. let q = c.loop-i.invariant.all (c.degree-degree.result - c.loop-i.i) m w in (q.monomial, q.degree)
+pub divide_pending-requires-clause-monomials : goal.divide_pending-requires-clause-monomials
+divide_pending-requires-clause-monomials g c = λ m w. let q = c.loop-i.invariant.all (c.degree-degree.result - c.loop-i.i) m w in (q.monomial, q.degree)
 
 pub returns-then-branch : goal.returns-then-branch
 returns-then-branch g c =
-    let r = c.in_ok-divide_waiting.ensures.yes c.if-branch.true in
+    let r = c.in_ok-divide_pending.ensures.yes c.if-branch.true in
     (λ _. (c.loop-i.invariant.all (c.degree-degree.result - c.loop-i.i) r.0 r.1).gives r.2, λ _. refl)
 
 pub loop-i-preserved : goal.loop-i-preserved
 loop-i-preserved g c = record {
-  long = c.in_ok-divide_waiting.ensures.long ∙ c.loop-i.invariant.long;
+  long = c.in_ok-divide_pending.ensures.long ∙ c.loop-i.invariant.long;
   all = λ e k w. ⊎_elim
       (λ old. c.loop-i.invariant.all e k old)
       (λ new.
       let q = new.2 in
       let was = c.loop-i.invariant.all (c.degree-degree.result - c.loop-i.i) new.0 new.1 in
       record { monomial = q.monomial; degree = q.degree; not_one = q.not_one; gives = λ h. was.gives (q.gives h) })
-      (c.in_ok-divide_waiting.ensures.others e k w);
-  some = λ w. subst (SomeWaits (g.O.Order.order c.args.o.now) c.args.factors.now c.divide_waiting.new.waiting.items)
+      (c.in_ok-divide_pending.ensures.others e k w);
+  some = λ w. subst (SomePending (g.O.Order.order c.args.o.now) c.args.factors.now c.divide_pending.new.pending.items)
       (let e : c.degree-degree.result - c.loop-i.i ≡ c.degree-degree.result + 1 - (c.loop-i.i + 1) = omega arith in e)
-      (c.in_ok-divide_waiting.ensures.no c.if-branch.false
-      (subst (SomeWaits (g.O.Order.order c.args.o.now) c.args.factors.now c.loop-i.waiting.items)
+      (c.in_ok-divide_pending.ensures.no c.if-branch.false
+      (subst (SomePending (g.O.Order.order c.args.o.now) c.args.factors.now c.loop-i.pending.items)
       (let e : c.degree-degree.result + 1 - c.loop-i.i ≡ c.degree-degree.result - c.loop-i.i + 1 = omega arith in e) (c.loop-i.invariant.some w)));
 }
 

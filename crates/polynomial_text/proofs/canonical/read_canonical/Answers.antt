@@ -8,8 +8,8 @@ use Rattle.polynomial_text.proofs.CanonicalReading.{poly_named, canonical_found,
 use Rattle.polynomial_text.proofs.canonical.read_canonical.Goals as goal
 
 -- a text that is equal to another one
-chain : (line text kept written : List ℕ) → text ≡ line → text ≡ kept → kept ≡ written → line ≡ written
-chain line text kept written h k l = sym h ∙ (k ∙ l)
+chain : (line text canonical written : List ℕ) → text ≡ line → text ≡ canonical → canonical ≡ written → line ≡ written
+chain line text canonical written h k l = sym h ∙ (k ∙ l)
 
 pub returns-in-Err-Kind : goal.returns-in-Err-Kind
 returns-in-Err-Kind g c =
@@ -17,7 +17,7 @@ returns-in-Err-Kind g c =
 
 pub write-requires-clause-values : goal.write-requires-clause-values
 write-requires-clause-values g c =
-    decreasing_values (g.F.Field.ops c.args.f.now) (g.O.Order.order c.args.o.now) c.in-Ok.found c.in-Ok.ensures.read.kept.decreasing
+    decreasing_values (g.F.Field.ops c.args.f.now) (g.O.Order.order c.args.o.now) c.in-Ok.found c.in-Ok.ensures.read.canonical.decreasing
 
 pub write-requires-clause-named : goal.write-requires-clause-named
 write-requires-clause-named g c =

@@ -1,6 +1,6 @@
-use Rattle.polynomial_text.specs.Digits.{is_digit}
-use Rattle.polynomial_text.proofs.LineFronts.{front_passes}
+use Rattle.polynomial_text.specs.Bytes.{is_digit}
+use Rattle.polynomial_text.proofs.Fronts.{front_passes}
 use Rattle.polynomial_text.proofs.line_number.number_at.Goals as goal
 
-pub value-requires-clause-digits : goal.value-requires-clause-digits
-value-requires-clause-digits c = rw c.digits.ensures.front (front_passes is_digit c.args.bytes.now)
+pub digits_value-requires-clause-digits : goal.digits_value-requires-clause-digits
+digits_value-requires-clause-digits c = rw c.split.ensures.front (front_passes is_digit c.args.bytes.now)

@@ -8,8 +8,8 @@ use Rattle.polynomial_text.proofs.term_line.term_at.Given as goal
 
 abbrev pub invariant-loop-rest : goal.invariant-loop-rest
 invariant-loop-rest g l = record {
-  small : IsSmallTerm (g.F.Field.ops l.f) (g.O.Order.order l.o) l.t;
-  whole : along (with_factor (g.F.Field.ops l.f) (g.O.Order.order l.o) l.names) l.t (factor_parts_left (option_copied l.rest)) ≡ term_at (g.F.Field.ops l.f) (g.O.Order.order l.o) l.names (l.minus, l.fn.text);
+  small : IsSmallTerm (g.F.Field.ops l.reader.field.now) (g.O.Order.order l.reader.order.now) l.t;
+  whole : along (with_factor (g.F.Field.ops l.reader.field.now) (g.O.Order.order l.reader.order.now) l.reader.names.now) l.t (factor_parts_left (option_copied l.rest)) ≡ term_at (g.F.Field.ops l.reader.field.now) (g.O.Order.order l.reader.order.now) l.reader.names.now (l.minus, l.fn.text);
 }
 
 abbrev pub decreases-loop-rest : goal.decreases-loop-rest

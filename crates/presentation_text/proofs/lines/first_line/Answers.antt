@@ -1,10 +1,8 @@
-use Rattle.std.proofs.Common.{sym}
-use Rattle.std.proofs.lemmas.List.{take_rest}
-use Rattle.presentation_text.proofs.DueLines.{lines_cut, lines_whole, no_lines, behind_all}
+use Rattle.presentation_text.proofs.ContentLines.{lines_last, lines_next}
 use Rattle.presentation_text.proofs.lines.first_line.Goals as goal
 
-pub returns-in-Some-clause-lines : goal.returns-in-Some-clause-lines
-returns-in-Some-clause-lines c = rw take_rest (lines_cut c.args.bytes.now c.in-Some.i (sym c.in-Some.ensures))
+pub returns-in-empty-clause-lines : goal.returns-in-empty-clause-lines
+returns-in-empty-clause-lines c = rw c.split.ensures.front (lines_last c.args.bytes.now c.split.result.1.now c.requires c.split.ensures.behind c.in-empty.len_below)
 
-pub returns-in-None-clause-lines : goal.returns-in-None-clause-lines
-returns-in-None-clause-lines c = rw (behind_all c.args.bytes.now, no_lines) (lines_whole c.args.bytes.now c.requires (sym c.in-None.ensures))
+pub returns-in-len1-up-clause-lines : goal.returns-in-len1-up-clause-lines
+returns-in-len1-up-clause-lines c = rw c.split.ensures.front (lines_next c.args.bytes.now c.split.result.1.now c.requires c.split.ensures.behind c.in-len1-up.len_at_least)

@@ -1,12 +1,9 @@
-use Rattle.std.proofs.Common.{sym, ◌∙◌}
-use Rattle.presentation_text.proofs.DueLines.{skipped_blank, skipped_at, skipped_end, drop_past}
+use Rattle.std.proofs.Common.{refl}
+use Rattle.polynomial_text.specs.laws.Fronts.{nothing_left, first_and_rest}
 use Rattle.presentation_text.proofs.lines.is_skipped.Goals as goal
 
-pub returns-then-not-is_blank : goal.returns-then-not-is_blank
-returns-then-not-is_blank c = sym (skipped_at c.args.line.now c.loop-b.b-index c.loop-b-test.true (sym c.is_blank.ensures ∙ c.if-not-is_blank.true)) ∙ c.loop-b.invariant
+pub returns-in-empty : goal.returns-in-empty
+returns-in-empty c = rw (← c.behind_blanks.ensures, nothing_left c.behind_blanks.result.now c.in-empty.len_below) refl
 
-pub loop-b-preserved : goal.loop-b-preserved
-loop-b-preserved c = skipped_blank c.args.line.now c.loop-b.b-index c.loop-b-test.true (sym c.is_blank.ensures ∙ c.if-not-is_blank.false) ∙ c.loop-b.invariant
-
-pub returns : goal.returns
-returns c = rw (drop_past c.args.line.now c.loop-b.b-index c.loop-b-test.false, skipped_end) at c.loop-b.invariant
+pub returns-in-len1-up : goal.returns-in-len1-up
+returns-in-len1-up c = rw (← c.behind_blanks.ensures, first_and_rest c.behind_blanks.result.now c.in-len1-up.len_at_least) refl

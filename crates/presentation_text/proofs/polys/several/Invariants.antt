@@ -8,8 +8,8 @@ use Rattle.presentation_text.proofs.polys.several.Given as goal
 
 abbrev pub invariant-loop : goal.invariant-loop
 invariant-loop l = record {
-  come : HaveCome (residues l.h.field.modulus) (weight_order_of l.h.order) l.fn.lines.missing (poly_line (head_of l.h) l.constant) l.count l.counter l.lines.due
-      (several l.fn.lines.missing (poly_line (head_of l.h) l.constant) l.count l.fn.lines.due) l.polys.items;
+  come : HaveCome (residues l.h.field.modulus) (weight_order_of l.h.order) l.fn.lines.missing (poly_line (head_of l.h) l.constant) l.count l.counter l.lines.left
+      (several l.fn.lines.missing (poly_line (head_of l.h) l.constant) l.count l.fn.lines.left) l.polys.items;
   missing : l.lines.missing ≡ l.fn.lines.missing;
   within : l.counter ≤ l.count;
 }

@@ -1,7 +1,7 @@
 use Rattle.std.proofs.Common.{arith}
 use Rattle.monomial_order.specs.laws.Ties.{weight_laws}
 use Rattle.poly_core.specs.Presentation.{weight_order_of}
-use Rattle.presentation_text.proofs.KeptOrder.{first_degree}
+use Rattle.presentation_text.proofs.GeneratorDegrees.{first_degree}
 use Rattle.presentation_text.proofs.reading.generator_degree.Goals as goal
 
 pub returns-in-Some-clause-positive : goal.returns-in-Some-clause-positive

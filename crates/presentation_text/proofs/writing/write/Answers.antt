@@ -1,14 +1,14 @@
 use Rattle.poly_core.specs.Presentation.{weight_order_of}
-use Rattle.presentation_text.proofs.WrittenText.{kept_texts, written_whole}
+use Rattle.presentation_text.proofs.WrittenText.{canonical_texts, written_whole}
 use Rattle.presentation_text.proofs.writing.write.Goals as goal
 
 pub push_list-requires : goal.push_list-requires
 push_list-requires g c =
-    kept_texts (g.F.Field.ops c.args.p.now.field) (weight_order_of c.args.p.now.order) c.args.p.now.names c.requires.names c.args.p.now.ideal.items c.deref.result.now c.deref.ensures.value c.requires.ideal.each
+    canonical_texts (g.F.Field.ops c.args.p.now.field) (weight_order_of c.args.p.now.order) c.args.p.now.names c.requires.names c.args.p.now.ideal.items c.deref.result.now c.deref.ensures.value c.requires.ideal.each
 
 pub push_list-requires-2 : goal.push_list-requires-2
 push_list-requires-2 g c =
-    kept_texts (g.F.Field.ops c.args.p.now.field) (weight_order_of c.args.p.now.order) c.args.p.now.names c.requires.names c.args.p.now.generators.items c.deref-2.result.now c.deref-2.ensures.value c.requires.generators.each
+    canonical_texts (g.F.Field.ops c.args.p.now.field) (weight_order_of c.args.p.now.order) c.args.p.now.names c.requires.names c.args.p.now.generators.items c.deref-2.result.now c.deref-2.ensures.value c.requires.generators.each
 
 pub returns : goal.returns
 returns g c = (

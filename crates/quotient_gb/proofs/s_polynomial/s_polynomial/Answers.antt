@@ -1,12 +1,11 @@
 use Rattle.std.proofs.Common.{sym, ◌∙◌, subst}
 use Rattle.polynomials.specs.laws.Coefficients.{monic_some}
-use Rattle.monomial_order.specs.Monomial.{IsMonomial, Divides}
-use Rattle.monomial_order.specs.laws.Monomial.{IsMonomial-least_common_multiple}
+use Rattle.monomial_order.specs.Monomial.{Divides}
 use Rattle.monomial_order.specs.laws.Cofactors.{Divides-least_common_multiple, Divides-least_common_multiple_right}
 use Rattle.polynomials.specs.Polynomial.{term_of, scaled, lead_monomial}
 use Rattle.polynomials.specs.laws.Congruence.{minus_same}
 use Rattle.poly_core.specs.Presentation.{presented}
-use Rattle.quotient_gb.proofs.Remainders.{reducer_monomial}
+use Rattle.quotient_gb.proofs.Remainders.{lcm_monomial}
 use Rattle.quotient_gb.proofs.s_polynomial.s_polynomial.Goals as goal
 
 pub common_multiple-requires : goal.common_multiple-requires
@@ -16,18 +15,10 @@ common_multiple-requires g c =
     record { g = monic_some P.field H.field P.order H.order c.args.g.now c.requires.g.monic; h = monic_some P.field H.field P.order H.order c.args.h.now c.requires.h.monic }
 
 pub raised-requires-clause-top : goal.raised-requires-clause-top
-raised-requires-clause-top g c =
-    let P = presented g.F.Field.ops g.O.Order.order c.args.p.now in
-    let H = c.requires.presentation in
-    subst (IsMonomial P.order.places) (sym c.in_ok-top.ensures)
-    (IsMonomial-least_common_multiple P.order.places (lead_monomial c.args.g.now) (lead_monomial c.args.h.now) (reducer_monomial P H c.args.g.now c.requires.g) (reducer_monomial P H c.args.h.now c.requires.h))
+raised-requires-clause-top g c = lcm_monomial (presented g.F.Field.ops g.O.Order.order c.args.p.now) c.requires.presentation c.args.g.now c.args.h.now c.requires.g c.requires.h c.in_ok-top.top c.in_ok-top.ensures
 
 pub raised-requires-2-clause-top : goal.raised-requires-2-clause-top
-raised-requires-2-clause-top g c =
-    let P = presented g.F.Field.ops g.O.Order.order c.args.p.now in
-    let H = c.requires.presentation in
-    subst (IsMonomial P.order.places) (sym c.in_ok-top.ensures)
-    (IsMonomial-least_common_multiple P.order.places (lead_monomial c.args.g.now) (lead_monomial c.args.h.now) (reducer_monomial P H c.args.g.now c.requires.g) (reducer_monomial P H c.args.h.now c.requires.h))
+raised-requires-2-clause-top g c = lcm_monomial (presented g.F.Field.ops g.O.Order.order c.args.p.now) c.requires.presentation c.args.g.now c.args.h.now c.requires.g c.requires.h c.in_ok-top.top c.in_ok-top.ensures
 
 pub raised-requires-clause-divides : goal.raised-requires-clause-divides
 raised-requires-clause-divides g c =

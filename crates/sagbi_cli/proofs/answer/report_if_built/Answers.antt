@@ -1,5 +1,5 @@
 use Rattle.std.proofs.Common.{refl}
 use Rattle.sagbi_cli.proofs.answer.report_if_built.Goals as goal
 
-pub returns-else-is_built-clause-ends : goal.returns-else-is_built-clause-ends
-returns-else-is_built-clause-ends g c = λ bytes read short. ((short, c.args.p.now, read, c.is_built.ensures.no c.if-is_built.false), refl)
+pub returns-else-is_built-clause-puts : goal.returns-else-is_built-clause-puts
+returns-else-is_built-clause-puts g c = λ bytes read short. ((short, c.args.p.now, read, c.is_built.ensures.no c.if-is_built.false), refl)

@@ -11,7 +11,7 @@ returns-then-not-begins_with_digit-clause-none c = λ n bound is.
 
 pub returns-in-Ok-clause-some : goal.returns-in-Ok-clause-some
 returns-in-Ok-clause-some c = (
-  (c.if-n-ge1.true, c.if-n-le15000.true),
+  (c.if-n-ge1.true, c.if-n-le-BOUND_MAX.true),
   read_decimal ParseIntError c.args.word.now c.in-Ok.n (subst BeginsWithDigit c.as_bytes.ensures.value (c.begins_with_digit.ensures.0 c.if-not-begins_with_digit.false)) c.in-Ok.ensures.value.0,
 )
 

@@ -8,7 +8,7 @@ loop-rest-preserved g c =
       (
         inv.0.0 ++ take c.in_ok-n.n c.loop-rest.rest.now,
         split-rest c.args.text.now inv.0.0 c.loop-rest.rest.now c.in_ok-n.n inv.0.1,
-        continues-append _ _ _ inv.0.0 (take c.in_ok-n.n c.loop-rest.rest.now) inv.0.2 c.in_ok-n.ensures.told,
+        continues-append _ _ _ inv.0.0 (take c.in_ok-n.n c.loop-rest.rest.now) inv.0.2 c.in_ok-n.ensures.taken,
       ),
       omega (arith, inv.1, c.in_ok-n.ensures.counted),
     )

@@ -2,7 +2,7 @@ use Rattle.std.proofs.Common.{◌≡◌, ◌≤◌, List, ℕ, ◌++◌, length}
 use Rattle.shelf_io.specs.Sink.{Continues}
 use Rattle.sagbi_cli.proofs.put.put_all.Given as goal
 
--- what stands before the rest was taken
+-- what comes before the rest was taken
 abbrev pub invariant-loop-rest : goal.invariant-loop-rest
 invariant-loop-rest g l =
     ((front : List ℕ) × (l.text ≡ front ++ l.rest) × Continues (g.K.Sink.taken l.initial.sink) front (g.K.Sink.taken l.sink))

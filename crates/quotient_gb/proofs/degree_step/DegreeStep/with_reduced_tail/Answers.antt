@@ -1,13 +1,12 @@
-use Rattle.std.proofs.Common.{refl, sym, ◌∙◌, ap, subst, []}
+use Rattle.std.proofs.Common.{refl, sym, ◌∙◌, ap, []}
 use Rattle.polynomials.specs.laws.Coefficients.{monic_some}
 use Rattle.std.specs.Prelude.{Contains}
 use Rattle.polynomials.specs.Polynomial.{lead_monomial}
 use Rattle.poly_core.specs.Presentation.{presented}
 use Rattle.quotient_gb.specs.DegreeStep.{all_members}
-use Rattle.quotient_gb.specs.Remainder.{IsCanonicalIn}
 use Rattle.quotient_gb.proofs.Places.{at_default}
-use Rattle.quotient_gb.proofs.Remainders.{first_form, first_canonical}
-use Rattle.quotient_gb.proofs.Steps.{found_reducer, member, reducers}
+use Rattle.quotient_gb.proofs.Remainders.{first_form}
+use Rattle.quotient_gb.proofs.Steps.{found_front, found_reducer, member, reducers}
 use Rattle.quotient_gb.proofs.Tails.{tail_reduced}
 use Rattle.quotient_gb.proofs.degree_step.DegreeStep.with_reduced_tail.Goals as goal
 
@@ -24,23 +23,13 @@ sub-requires-clause-a g c =
 
 pub sub-requires-clause-b : goal.sub-requires-clause-b
 sub-requires-clause-b g c =
-    let P = presented g.F.Field.ops g.O.Order.order c.args.p.now in
-    let H = c.requires.presentation in
-    let x = c.index-x.result.now in
-    let k = (found_reducer P H c.args.before.now c.args.self.now c.requires.step x (c.args.at, c.requires.index, sym c.index-x.ensures)).canonical in
-    let t = c.in-Some.first.now in
-    let r = c.in-Some.ensures.first in
-    subst (IsCanonicalIn P) (sym (first_form P H x k t r.0 r.1 c.in_ok-front.front c.in_ok-copy.field-0 c.in_ok-copy.ensures.same c.in_ok-front.ensures.term)) (first_canonical P H x k t r.0 r.1)
+    found_front (presented g.F.Field.ops g.O.Order.order c.args.p.now) c.requires.presentation c.args.before.now c.args.self.now c.requires.step c.index-x.result.now (c.args.at, c.requires.index, sym c.index-x.ensures)
+    c.in-Some.first.now c.in-Some.ensures.first.0 c.in-Some.ensures.first.1 c.in_ok-front.front c.in_ok-copy.field-0 c.in_ok-copy.ensures.same c.in_ok-front.ensures.term
 
 pub add-requires-clause-a : goal.add-requires-clause-a
 add-requires-clause-a g c =
-    let P = presented g.F.Field.ops g.O.Order.order c.args.p.now in
-    let H = c.requires.presentation in
-    let x = c.index-x.result.now in
-    let k = (found_reducer P H c.args.before.now c.args.self.now c.requires.step x (c.args.at, c.requires.index, sym c.index-x.ensures)).canonical in
-    let t = c.in-Some.first.now in
-    let r = c.in-Some.ensures.first in
-    subst (IsCanonicalIn P) (sym (first_form P H x k t r.0 r.1 c.in_ok-front.front c.in_ok-copy.field-0 c.in_ok-copy.ensures.same c.in_ok-front.ensures.term)) (first_canonical P H x k t r.0 r.1)
+    found_front (presented g.F.Field.ops g.O.Order.order c.args.p.now) c.requires.presentation c.args.before.now c.args.self.now c.requires.step c.index-x.result.now (c.args.at, c.requires.index, sym c.index-x.ensures)
+    c.in-Some.first.now c.in-Some.ensures.first.0 c.in-Some.ensures.first.1 c.in_ok-front.front c.in_ok-copy.field-0 c.in_ok-copy.ensures.same c.in_ok-front.ensures.term
 
 pub remainder-requires : goal.remainder-requires
 remainder-requires g c = record {

@@ -1,4 +1,4 @@
-use Rattle.std.proofs.Common.{◌≤◌, length, sym, subst, arith}
+use Rattle.std.proofs.Common.{◌≤◌, length, sym, subst, arith, inl, refl}
 use Rattle.monomial_order.specs.Monomial.{IsMonomial, IsMultiple}
 use Rattle.word_laws.specs.Words.{image_of, word_order_of}
 use Rattle.word_laws.specs.laws.Words.{degree_image, image_x}
@@ -25,6 +25,9 @@ is_less-requires-clause-left c =
     let H = alphabet_letters c.args.self.now c.requires.alphabet in
     least_comparable L H 0 (image_of L c.args.w.now) c.in_ok-least.least (subst (λ m. IsLeastFrom L 0 m c.in_ok-least.least) c.requires.image c.in_ok-least.ensures)
     (let d = degree_image L H c.args.w.now in let s = c.requires.word.small in omega arith)
+
+pub returns-then-is_multiple : goal.returns-then-is_multiple
+returns-then-is_multiple c = (λ _. inl (subst (IsMultiple c.args.zeros.now) c.requires.image (c.is_multiple.ensures.0 c.if-is_multiple.true)), λ _. refl)
 
 pub returns : goal.returns
 returns c =

@@ -1,6 +1,0 @@
-use Rattle.std.proofs.Common.{◌≡◌, ◌-◌}
-use Rattle.presentation_text.specs.Taking.{numbers_first, with_front}
-use Rattle.presentation_text.proofs.heading.numbers.Given as goal
-
-abbrev pub invariant-loop : goal.invariant-loop
-invariant-loop l = with_front l.numbers.items (numbers_first l.low l.high (l.count - l.counter) l.words) ≡ numbers_first l.low l.high l.count l.fn.words

@@ -1,0 +1,53 @@
+//! Products, quotients and common multiples of monomials.
+ghost use Rattle.std.specs.Prelude.{ℕ, ◌≤◌, IfOk};
+ghost use Rattle.monomial_order.specs.Monomial.{exponent};
+
+use crate::monomials::{is_word, monomial};
+use crate::rows::part;
+use monomial_order::Monomial;
+use std::alloc::Global;
+use std::process::Abort;
+use std::test::Fail;
+
+/// A monomial whose exponents are at most 7.
+pub(crate) fn small(rt: &impl Abort, alloc: Global, text: &str) -> Result<Monomial, Fail>
+    ensures { IfOk result (λ m. (i : ℕ) → exponent m i ≤ 7) }
+{
+    let m = monomial(alloc, text)?;
+    assert!(rt; m.as_slice().iter().all(|e| *e <= 7));
+    Ok(m)
+}
+
+/// What the operation makes of two monomials, and None if the second does not divide the first.
+fn answer(rt: &impl Abort, alloc: Global, row: &str) -> Result<Option<Monomial>, Fail> {
+    let a = small(rt, alloc, part(row, 0))?;
+    let b = small(rt, alloc, part(row, 2))?;
+    match part(row, 1) {
+        "times" => Ok(Some(a.times(alloc, &b)?)),
+        "by" => Ok(a.quotient(alloc, &b)?),
+        "lcm" => Ok(Some(a.lcm(alloc, &b)?.copy(alloc)?)),
+        _ => Err(Fail::new("no operation")),
+    }
+}
+
+#[test]
+fn products_and_quotients(rt: HostRuntime) -> Result<(), Fail> {
+    let alloc = rt.alloc();
+    for row in [
+        "x^2*y | times | x*y^3 | x^3*y^4",
+        "x^2*y*z^0 | times | 1 | x^2*y",
+        "x33^0 | times | x | x",
+        "x^2*y | by | x | x*y",
+        "x*y | by | x^2 | -",
+        "x^2*y | by | x^2*y | 1",
+        "x^2*y | lcm | x*y^3 | x^2*y^3",
+        "1 | lcm | y | y",
+        "x33^3 | times | x33^3 | x33^6",
+        "x33^6 | by | x33^3 | x33^3",
+        "x33^3 | lcm | x | x*x33^3",
+    ] {
+        let found = answer(&rt, alloc, row)?;
+        assert!(rt; is_word(alloc, 0, found.as_ref(), part(row, 3))?, "{row}");
+    }
+    Ok(())
+}

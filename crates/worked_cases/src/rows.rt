@@ -1,0 +1,22 @@
+//! Rows of a table: parts with ` | ` between them.
+use std::alloc::Global;
+use std::test::Fail;
+
+/// The part of a row at an index, and an empty one if the row ends before.
+pub fn part(row: &str, index: usize) -> &str {
+    row.split(" | ").nth(index).unwrap_or("")
+}
+
+/// A number.
+pub fn number(word: &str) -> Result<u32, Fail> {
+    Ok(word.parse::<u32>()?)
+}
+
+/// The numbers of a part, with blanks between them.
+pub fn numbers(alloc: Global, part: &str) -> Result<Vec<u32>, Fail> {
+    let mut numbers = Vec::new(alloc);
+    for word in part.split_whitespace() {
+        numbers.push(number(word)?)?;
+    }
+    Ok(numbers)
+}

@@ -1,0 +1,43 @@
+-- Lists with one member more, and the order by the degrees of the x.
+use Rattle.std.proofs.Common.{◌≡◌, ℕ, refl, sym, subst, List, [], ◌∷◌, length, ⊎_elim}
+use Rattle.std.specs.Prelude.{map, All, Contains}
+use Rattle.std.specs.declared.cmp.Ordering.{Ordering}
+use Rattle.std.proofs.lemmas.List.{append-nil}
+use Rattle.std.proofs.lemmas.List.Elements.{All-cons}
+use Rattle.std.proofs.lemmas.List.Kept.{AllPairs-cons}
+use Rattle.monomial_order.specs.Monomial.{Exponents, weighted_degree, Divides}
+use Rattle.monomial_order.specs.Orders.{weight_order}
+use Rattle.monomial_order.specs.laws.Lists.{contains_cases}
+use Rattle.word_laws.specs.Words.{variables}
+use Rattle.word_laws.specs.laws.Images.{variables_degrees}
+use Rattle.toric_ideal.specs.Listing.{AreZeros, OrdersByDegrees, IsZero}
+
+-- what holds of the first member and of the others holds of each
+pub all_members : {A : Type 0} (P : A → Type 0) (all : List A) (x : A) (xs : List A) → all ≡ x ∷ xs →
+    P x → All P xs → All P all
+all_members P all x xs e p h = subst (All P) (sym e) (All-cons P x xs p h)
+
+pub each_member : {A : Type 0} (P : A → Type 0) (all : List A) (x : A) (xs : List A) → all ≡ x ∷ xs →
+    P x → ((y : A) → Contains xs y → P y) → (y : A) → Contains all y → P y
+each_member P all x xs e p h y i =
+    ⊎_elim (λ q. subst P q p) (h y) (contains_cases x xs y (subst (λ l. Contains l y) e i))
+
+-- one zero more
+pub are_zeros_cons : (degrees : List ℕ) (c : ℕ) (all : List Exponents) (z : Exponents) (zs : List Exponents) →
+    all ≡ z ∷ zs → IsZero degrees c z → All (λ y. (¬ Divides z y) × (¬ Divides y z)) zs → AreZeros degrees c zs →
+    AreZeros degrees c all
+are_zeros_cons degrees c all z zs e h a r =
+    subst (AreZeros degrees c) (sym e) (record {
+      each = each_member (IsZero degrees c) (z ∷ zs) z zs refl h r.each;
+      apart = AllPairs-cons (λ x y. (¬ Divides x y) × (¬ Divides y x)) z zs a r.apart;
+    })
+
+-- the order by the degrees of the x
+pub orders_degrees : (ws degrees : List ℕ) (rows : List (List ℕ)) (tie : Exponents → Exponents → Ordering) →
+    ws ≡ degrees → OrdersByDegrees (weight_order ws rows tie) degrees
+orders_degrees ws degrees rows tie e =
+    subst (OrdersByDegrees (weight_order ws rows tie)) e (record {
+      places = refl;
+      gives = subst (λ vs. map (weighted_degree vs) (variables 0 (length ws)) ≡ ws)
+          (append-nil ws) (variables_degrees ws []);
+    })

@@ -1,0 +1,163 @@
+//! Ideals whose leads and normal forms were worked out by hand.
+ghost use Rattle.std.specs.Prelude.{◌≡◌, ◌≤◌, IfOk};
+ghost use Rattle.word_field.specs.Residues.{residues};
+ghost use Rattle.monomial_order.specs.Limits.{degree_max};
+ghost use Rattle.poly_core.specs.Presentation.{weight_order_of, presented};
+ghost use Rattle.quotient_gb.specs.Quotient.{IsQuotientOf};
+ghost use Rattle.worked_cases.specs.Rings.{IsIn, IsRing};
+
+use crate::bases::are_monomials;
+use crate::zeros::DEGREE_MAX;
+use monomial_order::{Order, WeightOrder};
+use poly_core::Poly;
+use quotient_gb::Quotient;
+use std::alloc::Global;
+use std::process::Abort;
+use std::test::Fail;
+use word_field::WordField;
+use worked_cases::monomials::monomial;
+use worked_cases::rings::{Ring, polynomial, ring, text_of};
+use worked_cases::rows::{number, part};
+
+/// The ring modulo the ideal of a row: its size, names, weights, order, and the generators of the ideal.
+fn ring_of(alloc: Global, row: &str) -> Result<Ring, Fail>
+    ensures { IfOk result IsRing }
+{
+    let size = part(row, 0);
+    let names = part(row, 1);
+    let weights = part(row, 2);
+    let order = part(row, 3);
+    let ideal = ideal(alloc, part(row, 4))?;
+    let text = format!(in alloc;
+        "subalgebra 1\nfield {size}\nvars {names}\nweights {weights}\norder {order}\n{ideal}generators 0\nend\n"
+    )?;
+    ring(alloc, text.as_str())
+}
+
+/// The lines of the ideal with these generators.
+fn ideal(alloc: Global, generators: &str) -> Result<String, Fail> {
+    let mut count: u32 = 0;
+    let mut lines = String::new(alloc);
+    for generator in generators.split(", ") {
+        count = count.saturating_add(1);
+        lines.push_str("\n")?;
+        lines.push_str(generator)?;
+    }
+    Ok(format!(in alloc; "ideal {count}{lines}\n")?)
+}
+
+/// The quotient to half of the degree and then to the degree.
+fn quotient_to(
+    alloc: Global,
+    p: &Ring,
+    degree: u32,
+) -> Result<Quotient<WordField, WeightOrder>, Fail>
+    requires valid { IsRing p.now }
+    requires small { degree ≤ degree_max }
+    ensures quotient { IfOk result (IsQuotientOf (presented (λ f. residues f.modulus) weight_order_of p.now)) }
+    ensures degree { IfOk result (λ q. q.degree ≡ degree) }
+{
+    let mut quotient = Quotient::new(alloc, p)?;
+    quotient.extend_to(alloc, p, degree / 2)?;
+    quotient.extend_to(alloc, p, degree)?;
+    Ok(quotient)
+}
+
+/// Compares the leads of a row's ideal to a degree.
+fn judge_leads(rt: &impl Abort, alloc: Global, row: &str) -> Result<(), Fail> {
+    let p = ring_of(alloc, row)?;
+    let degree = number(part(row, 5))?;
+    assert!(rt; degree <= DEGREE_MAX);
+    let quotient = quotient_to(alloc, &p, degree)?;
+    assert!(rt;
+        are_monomials(alloc, quotient.leads(), part(row, 6))?,
+        "{row}"
+    );
+    assert!(rt; !quotient.known_closed());
+    Ok(())
+}
+
+#[test]
+fn leads_of_small_ideals(rt: HostRuntime) -> Result<(), Fail> {
+    for row in [
+        "101 | x y | 1 1 | lex | x^2 - y^2 | 3 | x^2",
+        "101 | x y | 1 1 | lex | y^2 | 2 | y^2",
+        // x^2*y is a multiple of another generator
+        "101 | x y | 1 1 | lex | x^2, x*y, x^2*y, y^3 | 4 | x*y, x^2, y^3",
+        // x*z^2 - y^2*z and y^3*z - z^4 come in
+        "101 | x y z | 1 1 1 | lex | x^2 - y*z, x*y - z^2 | 6 | x*y, x^2, x*z^2, y^3*z",
+        // a conic
+        "101 | x y z | 1 1 1 | lex | x*z - y^2 | 4 | x*z",
+        "101 | x y z | 1 1 1 | revlex | x*z - y^2 | 4 | y^2",
+        // the twisted cubic
+        "101 | x y z w | 1 1 1 1 | revlex | x*z - y^2, y*w - z^2, x*w - y*z | 5 | z^2, y*z, y^2",
+        // two generators of one degree with one lead, and over two elements, where they are equal
+        "101 | x y | 1 1 | lex | x^2 + y^2, x^2 - y^2 | 3 | y^2, x^2",
+        "2 | x y | 1 1 | lex | x^2 + y^2, x^2 + y^2 | 3 | x^2",
+        // a generator that is zero
+        "101 | x y | 1 1 | lex | 0, x*y | 2 | x*y",
+        // a row turns x^2 and y^2 round
+        "101 | x y | 1 1 | 0 1 ; lex | x^2 - y^2 | 3 | y^2",
+        // x has the degree 2 and y the degree 3
+        "7 | x y | 2 3 | lex | x^3 + y^2 | 6 | x^3",
+    ] {
+        judge_leads(&rt, rt.alloc(), row)?;
+    }
+    Ok(())
+}
+
+/// The normal form of a polynomial of degree at most that of the quotient.
+fn normal_form(
+    rt: &impl Abort,
+    alloc: Global,
+    p: &Ring,
+    quotient: &Quotient<WordField, WeightOrder>,
+    degree: u32,
+    a: &Poly<WordField>,
+) -> Result<Poly<WordField>, Fail>
+    requires valid { IsRing p.now }
+    requires quotient { IsQuotientOf (presented (λ f. residues f.modulus) weight_order_of p.now) quotient.now }
+    requires degree { quotient.now.degree ≡ degree }
+    requires canonical { IsIn p.now a.now }
+    ensures { IfOk result (IsIn p.now) }
+{
+    let first = a.lead().ok_or("zero")?;
+    assert!(rt; p.order.degree(&first.at) <= degree);
+    Ok(quotient.normal_form(alloc, p, a)?)
+}
+
+/// Compares the normal form of a polynomial, and finds its one monomial standard and that of the polynomial not.
+fn judge_normal_form(rt: &impl Abort, alloc: Global, row: &str) -> Result<(), Fail> {
+    let p = ring_of(alloc, row)?;
+    let degree = number(part(row, 5))?;
+    assert!(rt; degree <= DEGREE_MAX);
+    let quotient = quotient_to(alloc, &p, degree)?;
+    let a = polynomial(alloc, &p, part(row, 6))?;
+    let found = normal_form(rt, alloc, &p, &quotient, degree, &a)?;
+    assert_eq!(rt;
+        text_of(alloc, &p, &found)?.as_slice(),
+        part(row, 7).as_bytes(),
+        "{row}"
+    );
+    assert!(rt;
+        quotient.is_standard(&monomial(alloc, part(row, 8))?),
+        "{row}"
+    );
+    assert!(rt;
+        !quotient.is_standard(&monomial(alloc, part(row, 9))?),
+        "{row}"
+    );
+    Ok(())
+}
+
+#[test]
+fn normal_forms(rt: HostRuntime) -> Result<(), Fail> {
+    // a ring, a degree, a polynomial with its normal form, a standard monomial and one that is not standard
+    for row in [
+        "101 | x y | 1 1 | lex | x^2 - y^2 | 3 | x^3 | x*y^2 | x*y^2 | x^2*y",
+        "101 | x y | 1 1 | lex | x^2 - y^2 | 3 | x^2 - y^2 | 0 | 1 | x^2",
+    ] {
+        judge_normal_form(&rt, rt.alloc(), row)?;
+    }
+    Ok(())
+}
