@@ -17,7 +17,8 @@ use Rattle.polynomials.specs.laws.Degrees.{all_found, decreasing_all}
 use Rattle.polynomial_text.specs.declared.line_fault.LineKind.{LineKind}
 use Rattle.polynomial_text.specs.declared.line_fault.LineKind.TheVariants.{PolySyntax, DegreeTooLarge}
 use Rattle.polynomial_text.specs.Results.{◌>>=◌, along, each}
-use Rattle.polynomial_text.specs.Degrees.{degree_max, IsLow}
+use Rattle.monomial_order.specs.Limits.{degree_max}
+use Rattle.polynomial_text.specs.Degrees.{IsLow}
 use Rattle.polynomial_text.specs.Bytes.{is_blank, is_digit, front, behind}
 use Rattle.polynomial_text.specs.PolyLine.{number_at, exponent_at, power, place_of, is_named, power_at, factor_at, with_factor, term_at, behind_sign, signed_parts, terms_of, IsPolyOf}
 use Rattle.polynomial_text.specs.Canonical.{AreDifferent, IsCanonicalText}

@@ -1,11 +1,8 @@
 -- The degrees of polynomials in texts.
-use Rattle.std.specs.Prelude.{ℕ, ◌≤◌}
+use Rattle.std.specs.Prelude.{◌≤◌}
+use Rattle.monomial_order.specs.Limits.{degree_max}
 use Rattle.monomial_order.specs.MonomialOrder.{MonomialOrder}
 use Rattle.polynomials.specs.Polynomial.{Polynomial, AllAt}
-
--- the greatest degree of a monomial in a text
-abbrev pub degree_max : ℕ
-degree_max = 30000
 
 -- p is zero, or each of its monomials has a degree of at most degree_max
 abbrev pub IsLow : {E : Type 0} → MonomialOrder → Polynomial E → Type 0

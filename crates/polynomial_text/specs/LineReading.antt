@@ -10,7 +10,7 @@ use Rattle.polynomial_text.specs.declared.line_fault.LineKind.{LineKind}
 use Rattle.polynomial_text.specs.declared.line_fault.LineKind.TheVariants.{DegreeTooLarge}
 use Rattle.polynomial_text.specs.declared.line_fault.LineFault.{LineFault}
 use Rattle.polynomial_text.specs.declared.factor.Factor.{Factor}
-use Rattle.polynomial_text.specs.Degrees.{degree_max}
+use Rattle.monomial_order.specs.Limits.{degree_max}
 use Rattle.polynomial_text.specs.Results.{◌>>=◌}
 use Rattle.polynomial_text.specs.Canonical.{IsLineFaultOf}
 use Rattle.polynomial_text.specs.PolyLine.{power, number_at, signed_parts}

@@ -14,7 +14,7 @@ use Rattle.polynomial_text.specs.declared.line_fault.LineKind.{LineKind}
 use Rattle.polynomial_text.specs.declared.line_fault.LineKind.TheVariants.{PolySyntax, UnknownName, NumberTooLong, DegreeTooLarge}
 use Rattle.polynomial_text.specs.Results.{◌>>=◌, along, each}
 use Rattle.polynomial_text.specs.Bytes.{is_blank, is_digit, is_sign, front, behind}
-use Rattle.polynomial_text.specs.Degrees.{degree_max}
+use Rattle.monomial_order.specs.Limits.{degree_max}
 
 -- a number of at most digits_max digits at the front of the bytes, and what is behind it
 unfoldable pub number_at : List ℕ → Result (ℕ × List ℕ) LineKind

@@ -4,7 +4,7 @@ ghost use Rattle.word_field.specs.Field.{IsValue};
 ghost use Rattle.monomial_order.specs.Monomial.{IsMonomial, product};
 ghost use Rattle.polynomials.specs.Polynomial.{term_times};
 ghost use Rattle.polynomial_text.specs.Canonical.{AreDifferent};
-ghost use Rattle.polynomial_text.specs.Degrees.{degree_max};
+ghost use Rattle.monomial_order.specs.Limits.{degree_max};
 ghost use Rattle.polynomial_text.specs.PolyLine.{power, with_factor, term_at};
 ghost use Rattle.polynomial_text.specs.LineReading.{Gives, factor_term, bounded, low};
 ghost use Rattle.polynomial_text.specs.LineReading.{IsFactor, IsSmallMonomial, IsSmallTerm};

@@ -6,7 +6,7 @@ use Rattle.monomial_order.specs.declared.terms.Term.{Term}
 use Rattle.monomial_order.specs.MonomialOrder.{MonomialOrder, IsMonomialOrder}
 use Rattle.polynomials.specs.Polynomial.{Polynomial, coefficient, IsHomogeneous}
 use Rattle.polynomials.specs.laws.Decreasing.{coefficient_first}
-use Rattle.polynomial_text.specs.Degrees.{degree_max}
+use Rattle.monomial_order.specs.Limits.{degree_max}
 use Rattle.poly_core.specs.Presentation.{IsCanonicalGenerator, AreCanonicalGenerators}
 
 pub generator_at : (n : ℕ) (O : MonomialOrder) (fs : List (Polynomial ℕ)) (i : ℕ) (d : Polynomial ℕ) → AreCanonicalGenerators (residues n) O fs → i < length fs → IsCanonicalGenerator (residues n) O (get_or fs i d)

@@ -10,7 +10,8 @@ use Rattle.polynomials.specs.Polynomial.{Polynomial, coefficient, Same, AllAt, I
 use Rattle.polynomials.specs.laws.Decreasing.{coefficient_first}
 use Rattle.polynomials.specs.laws.Degrees.{all_found}
 use Rattle.poly_core.specs.Presentation.{IsCanonicalGenerator}
-use Rattle.polynomial_text.specs.Degrees.{degree_max, IsLow}
+use Rattle.monomial_order.specs.Limits.{degree_max}
+use Rattle.polynomial_text.specs.Degrees.{IsLow}
 use Rattle.presentation_text.specs.declared.text_kind.TextKind.{TextKind}
 use Rattle.presentation_text.specs.declared.text_kind.TextKind.TheVariants.{NotHomogeneous}
 use Rattle.presentation_text.specs.Judging.{degrees, is_one_degree, judged}

@@ -18,7 +18,8 @@ use Rattle.poly_core.specs.Text.{poly_text}
 use Rattle.poly_core.specs.laws.Text.{decreasing_named}
 use Rattle.presentation_text.specs.declared.text_kind.TextKind.{TextKind}
 use Rattle.polynomial_text.specs.Bytes.{is_skipped}
-use Rattle.polynomial_text.specs.Degrees.{degree_max, IsLow}
+use Rattle.monomial_order.specs.Limits.{degree_max}
+use Rattle.polynomial_text.specs.Degrees.{IsLow}
 use Rattle.polynomial_text.specs.PolyLine.{terms_of}
 use Rattle.polynomial_text.specs.laws.Names.{names_differ}
 use Rattle.presentation_text.specs.Heading.{rows_max, weight_max}

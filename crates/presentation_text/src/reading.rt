@@ -2,7 +2,7 @@
 ghost use Rattle.std.specs.Prelude.{◌≡◌, ◌≤◌, [], length, map, Ok, IfOk, IfErr};
 ghost use Rattle.poly_core.specs.Names.{AreNames};
 ghost use Rattle.poly_core.specs.Presentation.{IsCanonicalGenerator, AreCanonicalGenerators, generator_degree};
-ghost use Rattle.polynomial_text.specs.Degrees.{degree_max};
+ghost use Rattle.monomial_order.specs.Limits.{degree_max};
 ghost use Rattle.presentation_text.specs.Giving.{Gives, field_in, order_in, head_of};
 ghost use Rattle.presentation_text.specs.Heading.{closing_line};
 ghost use Rattle.presentation_text.specs.Meaning.{text_max, IsRead, IsFaultOf};

@@ -12,7 +12,7 @@ use Rattle.poly_core.specs.Names.{is_letter, is_name_byte, has_name_form}
 use Rattle.polynomials.specs.Polynomial.{term_of, term_times}
 use Rattle.poly_core.specs.Text.{factor_text}
 use Rattle.polynomial_text.specs.Bytes.{is_blank, is_digit, behind}
-use Rattle.polynomial_text.specs.Degrees.{degree_max}
+use Rattle.monomial_order.specs.Limits.{degree_max}
 use Rattle.polynomial_text.specs.PolyLine.{number_at, exponent_at, power, place_of, power_at, factor_at, with_factor}
 use Rattle.polynomial_text.specs.laws.Fronts.{Stops}
 use Rattle.polynomial_text.specs.laws.Names.{letter_in_name, name_bytes}

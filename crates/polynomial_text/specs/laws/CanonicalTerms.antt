@@ -18,7 +18,7 @@ use Rattle.polynomial_text.specs.Bytes.{is_blank}
 use Rattle.polynomial_text.specs.PolyLine.{power, place_of, with_factor, term_at}
 use Rattle.polynomial_text.specs.Canonical.{AreDifferent}
 use Rattle.polynomial_text.specs.laws.CanonicalParts.{Begins, begins_append, all_append, all_weaker, lack_from, is_piece_byte, is_term_byte, piece_in_term, piece_no_star, blank_no_star, between, is_star, Lack, split_joined, IsWritten}
-use Rattle.polynomial_text.specs.Degrees.{degree_max}
+use Rattle.monomial_order.specs.Limits.{degree_max}
 use Rattle.polynomial_text.specs.laws.Names.{place_found}
 use Rattle.polynomial_text.specs.laws.CanonicalFactors.{IsPieceOf, number_piece, power_piece, with_piece}
 

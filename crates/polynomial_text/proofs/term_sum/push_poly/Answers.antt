@@ -10,7 +10,7 @@ add_taking-requires-clause-a g c =
 pub loop-below-preserved : goal.loop-below-preserved
 loop-below-preserved g c = record {
   stack = canonical_rest (g.F.Field.ops c.args.f.now) (g.O.Order.order c.args.o.now) c.loop-below.stack.items c.take_short.new.stack.items c.in-Some.below c.loop-below.invariant.stack c.in-Some.ensures.some;
-  canonical = c.in_ok-sum.ensures.kept;
+  canonical = c.in_ok-sum.ensures.canonical;
   same = summed (g.F.Field.ops c.args.f.now) (g.met.F.Field.laws c.args.f.now) c.loop-below.stack.items c.take_short.new.stack.items c.in-Some.below c.loop-below.sum c.in_ok-sum.sum (terms_together c.args.stack.now.items ++ c.args.p) c.in-Some.ensures.some c.in_ok-sum.ensures.sum c.loop-below.invariant.same;
 }
 
