@@ -74,7 +74,7 @@ abbrev pub PutsFor : List (List ℕ) → Files → Outcome → SinkChange → Ty
 PutsFor words files outcome out =
     (IsNoCommand words × (outcome ≡ Usage) × TakesNothing out)
     ⊎ ((pres : List ℕ) × (bound : ℕ) × IsCompleteCommand words pres bound
-        × PutsAt (map.get files pres) bound outcome out)
+    × PutsAt (map.get files pres) bound outcome out)
 
 -- whatever the files are, `out` takes nothing unless a report is begun
 abbrev pub TakesOnlyReports : Outcome → SinkChange → Type 0
