@@ -2,7 +2,6 @@
 use Rattle.std.proofs.Common.{◌≡◌, ℕ, suc, ◌+◌, ◌<◌, ◌≤◌, List, ◌∷◌, ◌++◌, length, get_or, drop, Option, Result, Ok, Err, sym, ap, subst, ◌∙◌, add-one, append_assoc, drop-cons}
 use Rattle.std.specs.Prelude.{codes}
 use Rattle.std.specs.Fmt.{decimal}
-use Rattle.monomial_order.specs.declared.terms.Term.{Term}
 use Rattle.poly_core.specs.declared.place_names.Names.{Names}
 use Rattle.polynomials.specs.Subalgebra.{Presented}
 use Rattle.sagbi_cli.specs.declared.print_fault.PrintFault.{PrintFault}

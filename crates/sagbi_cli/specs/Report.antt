@@ -2,7 +2,6 @@
 use Rattle.std.specs.Prelude.{◌≡◌, ℕ, List}
 use Rattle.word_field.specs.Residues.{residues}
 use Rattle.word_field.specs.declared.WordField.{WordField}
-use Rattle.monomial_order.specs.declared.terms.Term.{Term}
 use Rattle.monomial_order.specs.declared.weight_order.WeightOrder.{WeightOrder}
 use Rattle.poly_core.specs.Presentation.{presented, weight_order_of}
 use Rattle.polynomials.specs.Subalgebra.{Presented, IsReducedBasis}

@@ -1,5 +1,4 @@
-use Rattle.std.proofs.Common.{ℕ, List, ◌≡◌, ◌<◌, slice_index_or}
-use Rattle.monomial_order.specs.declared.terms.Term.{Term}
+use Rattle.std.proofs.Common.{ℕ, ◌≡◌, ◌<◌, slice_index_or}
 use Rattle.word_field.specs.Residues.{residues}
 use Rattle.monomial_basis.specs.MonomialGenerators.{IsMonomialOrZero}
 use Rattle.sagbi_cli.proofs.built.are_monomials.Given as goal

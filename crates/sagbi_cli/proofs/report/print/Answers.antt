@@ -1,4 +1,4 @@
-use Rattle.std.proofs.Common.{◌++◌, ◌∙◌, Err, sym, subst, arith}
+use Rattle.std.proofs.Common.{◌++◌, ◌∙◌, Err, arith}
 use Rattle.std.specs.Prelude.{codes}
 use Rattle.std.proofs.lemmas.Result.{err_from_is_err_and}
 use Rattle.poly_core.specs.Presentation.{presented}
