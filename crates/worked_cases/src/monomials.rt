@@ -36,7 +36,7 @@ fn set(exponents: &mut Vec<u16>, index: usize, exponent: u16) -> Result<(), Memo
     Ok(())
 }
 
-/// The word of a text, as `x^2*s1`, in which x, y, z, w or x1, x2, .. are the first n letters and s1, s2, .. the others.
+/// The word of a text, as `x^2*s1`: x, y, z, w or x1, x2, .. are the first n letters, and s1, s2, .. the others.
 pub fn word(alloc: Global, n: usize, text: &str) -> Result<Monomial, Fail> {
     let mut exponents = Vec::new(alloc);
     if text != "1" {

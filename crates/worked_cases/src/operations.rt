@@ -77,27 +77,6 @@ fn of_two(
     }
 }
 
-#[test]
-fn sums_and_products(rt: HostRuntime) -> Result<(), Fail> {
-    let alloc = rt.alloc();
-    let p = ring(alloc, X_AND_Y)?;
-    for row in [
-        "y | plus | x | x + y",
-        "x + y | plus | 100*x | y",
-        "x + y | plus, taking | 100*x | y",
-        "x + y | minus | x + y | 0",
-        "x + y | times the term | 3*x | 3*x^2 + 3*x*y",
-        "x + y | times | x + y | x^2 + 2*x*y + y^2",
-        "x + y | times | 0 | 0",
-    ] {
-        let a = polynomial(alloc, &p, part(row, 0))?;
-        let b = polynomial(alloc, &p, part(row, 2))?;
-        let found = of_two(alloc, &p, a, part(row, 1), b)?;
-        judge(row, text_of(alloc, &p, &found)?.as_str())?;
-    }
-    Ok(())
-}
-
 /// What the operation makes of a polynomial and a number.
 fn of_one(
     alloc: Global,
@@ -116,26 +95,6 @@ fn of_one(
         "copied" => Ok(a.copy(alloc)?),
         _ => Err(Fail::new("no operation")),
     }
-}
-
-#[test]
-fn multiples_and_parts(rt: HostRuntime) -> Result<(), Fail> {
-    let alloc = rt.alloc();
-    let p = ring(alloc, X_AND_Y)?;
-    for row in [
-        "x + y | scaled by | 2 | 2*x + 2*y",
-        "x + y | scaled by | 101 | 0",
-        "2*x + 4*y | monic | 1 | x + 2*y",
-        "0 | monic | 1 | 0",
-        "2*x*y + 1 | copied | 1 | 2*x*y + 1",
-        "2*x*y + 1 | component | 1 | 0",
-        "x^2 + y | component | 1 | y",
-    ] {
-        let a = polynomial(alloc, &p, part(row, 0))?;
-        let found = of_one(alloc, &p, &a, part(row, 1), number(part(row, 2))?)?;
-        judge(row, text_of(alloc, &p, &found)?.as_str())?;
-    }
-    Ok(())
 }
 
 /// The degree of a polynomial, and 0 for zero.
@@ -206,23 +165,6 @@ fn value(
     Ok(Poly::evaluate(alloc, &p.field, &p.order, h, at)?)
 }
 
-#[test]
-fn values(rt: HostRuntime) -> Result<(), Fail> {
-    let alloc = rt.alloc();
-    let p = ring(alloc, X_AND_Y)?;
-    for row in [
-        "x^2 - 2*y | x + y\nx*y | x^2 + y^2",
-        "3 | x\ny | 3",
-        "0 | x\ny | 0",
-    ] {
-        let h = polynomial(alloc, &p, part(row, 0))?;
-        let at = polynomials(alloc, &p, part(row, 1))?;
-        let found = value(alloc, &p, &h, at.as_slice())?;
-        judge(row, text_of(alloc, &p, &found)?.as_str())?;
-    }
-    Ok(())
-}
-
 /// The first coefficient of a polynomial, its degree, and whether it is homogeneous.
 fn lead_and_degree(alloc: Global, p: &Ring, a: &Poly<WordField>) -> Result<String, Fail>
     requires { IsIn p.now a.now }
@@ -233,18 +175,73 @@ fn lead_and_degree(alloc: Global, p: &Ring, a: &Poly<WordField>) -> Result<Strin
     Ok(format!(in alloc; "{by}, {degree:?}, {is_homogeneous}")?)
 }
 
+/// What the operation of a row makes of its polynomial and of what the third part has.
+fn made_of(
+    alloc: Global,
+    p: &Ring,
+    a: Poly<WordField>,
+    operation: &str,
+    other: &str,
+) -> Result<Poly<WordField>, Fail>
+    requires valid { IsRing p.now }
+    requires a { IsIn p.now a }
+    requires low { IsLowIn p.now a }
+    ensures { IfOk result (IsIn p.now) }
+{
+    match operation {
+        "scaled by" | "component" | "monic" | "copied" => of_one(
+            alloc,
+            p,
+            &a,
+            operation,
+            number(other)?,
+        ),
+        "at" => value(alloc, p, &a, polynomials(alloc, p, other)?.as_slice()),
+        _ => of_two(alloc, p, a, operation, polynomial(alloc, p, other)?),
+    }
+}
+
+/// The canonical text of what a row asks for, or what it asks of the polynomial.
+fn answer(alloc: Global, p: &Ring, row: &str) -> Result<String, Fail>
+    requires { IsRing p.now }
+{
+    let a = polynomial(alloc, p, part(row, 0))?;
+    if part(row, 1) == "has" {
+        return lead_and_degree(alloc, p, &a);
+    }
+    let found = made_of(alloc, p, a, part(row, 1), part(row, 2))?;
+    text_of(alloc, p, &found)
+}
+
 #[test]
-fn leads_and_degrees(rt: HostRuntime) -> Result<(), Fail> {
+fn operations_of_polynomials(rt: HostRuntime) -> Result<(), Fail> {
     let alloc = rt.alloc();
     let p = ring(alloc, X_AND_Y)?;
     for row in [
-        "2*x*y + 1 | 2, Some(2), false",
-        "x^2 + y | 1, Some(2), false",
-        "y | 1, Some(1), true",
-        "0 | 0, None, true",
+        "y | plus | x | x + y",
+        "x + y | plus | 100*x | y",
+        "x + y | plus, taking | 100*x | y",
+        "x + y | minus | x + y | 0",
+        "x + y | times the term | 3*x | 3*x^2 + 3*x*y",
+        "x + y | times | x + y | x^2 + 2*x*y + y^2",
+        "x + y | times | 0 | 0",
+        "x + y | scaled by | 2 | 2*x + 2*y",
+        "x + y | scaled by | 101 | 0",
+        "2*x + 4*y | monic | 1 | x + 2*y",
+        "0 | monic | 1 | 0",
+        "2*x*y + 1 | copied | 1 | 2*x*y + 1",
+        "2*x*y + 1 | component | 1 | 0",
+        "x^2 + y | component | 1 | y",
+        "x^2 - 2*y | at | x + y\nx*y | x^2 + y^2",
+        "3 | at | x\ny | 3",
+        "0 | at | x\ny | 0",
+        // the first coefficient, the degree, and whether it is homogeneous
+        "2*x*y + 1 | has | 2, Some(2), false",
+        "x^2 + y | has | 1, Some(2), false",
+        "y | has | 1, Some(1), true",
+        "0 | has | 0, None, true",
     ] {
-        let a = polynomial(alloc, &p, part(row, 0))?;
-        judge(row, lead_and_degree(alloc, &p, &a)?.as_str())?;
+        judge(row, answer(alloc, &p, row)?.as_str())?;
     }
     Ok(())
 }
