@@ -1,6 +1,6 @@
 -- The criterion to a degree: if the generators of degree at most c have standard representations, and the S-polynomials have
 -- representations below, each lead of the ideal of degree at most c is a multiple of the lead of a member of the list.
-use Rattle.std.proofs.Common.{◌≡◌, ◌≢◌, ℕ, ◌+◌, ◌≤◌, refl, sym, ◌∙◌, ap, subst, List, [], ◌∷◌, ◌++◌, ◌⊎◌, inl, inr, ⊎_elim, arith, Bool, true, false, cond}
+use Rattle.std.proofs.Common.{◌≡◌, ◌≢◌, ℕ, ◌+◌, ◌≤◌, refl, sym, ◌∙◌, ap, subst, List, [], ◌∷◌, ◌++◌, ◌⊎◌, inl, inr, ⊎_elim, arith, true, false}
 use Rattle.polynomials.specs.laws.Coefficients.{single_term, lead_sum}
 use Rattle.std.specs.Prelude.{Contains, nat_eq}
 use Rattle.std.proofs.lemmas.Bool.{eqb-true, eq-eqb, true≢false}
@@ -25,7 +25,7 @@ use Rattle.polynomials.specs.laws.Terms.{IsBelow-append, IsDecreasing-scaled, sc
 use Rattle.polynomials.specs.laws.Leads.{below_found}
 use Rattle.polynomials.specs.laws.Ideal.{IsPoly-scaled}
 use Rattle.monomial_order.specs.laws.Rank.{IsWithin, below_induction}
-use Rattle.polynomials.specs.laws.Degrees.{component-append, coefficient-component, component_same, IsGraded, graded_component, graded_no_component, graded_times}
+use Rattle.polynomials.specs.laws.Degrees.{component-append, component_same, IsGraded, graded_component, graded_no_component, graded_times, component_leads}
 use Rattle.quotient_gb.specs.Combinations.{AtMost, Under, HasLeadDivisor, Step, sum_of_steps, AreSteps, Combines, HasStandardRepresentation}
 use Rattle.quotient_gb.specs.IdealBasis.{IsMonicMember}
 use Rattle.quotient_gb.specs.Criterion.{s_polynomial, HasRepresentationBelow, ReducesGenerators, RepresentsPairs}
@@ -337,18 +337,8 @@ module _ {E : Type 0} (K : FieldOps E) (F : IsField K) (O : MonomialOrder) (L : 
           (λ r. (led r.0 (record { monomial = r.1.monomial; degree = r.1.bound }) (component O (O.degree m) a) r.1.combines m part_lead).divisor)
           (top K F O L G monomials Small (component O (O.degree m) a) (member_part (O.degree m) l a h))
         where
-          at_m : coefficient K (component O (O.degree m) a) m ≡ coefficient K a m
-          at_m = coefficient-component K F O L (O.degree m) a m ∙ ap (λ b. cond b (coefficient K a m) K.zero) (eq-eqb (O.degree m) (O.degree m) refl)
-
-          if_zero : (b : Bool) → cond b K.zero K.zero ≡ K.zero
-          if_zero true = refl
-          if_zero false = refl
-
           part_lead : IsLead K O (component O (O.degree m) a) m
-          part_lead = record {
-            nonzero = λ z. lm.nonzero (sym at_m ∙ z);
-            greatest = λ n k ne. lm.greatest n (λ z. k (coefficient-component K F O L (O.degree m) a n ∙ (ap (λ x. cond (nat_eq (O.degree n) (O.degree m)) x K.zero) z ∙ if_zero (nat_eq (O.degree n) (O.degree m))))) ne;
-          }
+          part_lead = (component_leads K F O L a m lm).0
 
 -- a monic member serves to reduce
 pub reducer : {E : Type 0} (P : Presented E) → IsPresentation P → (G : List (Polynomial E)) → ((g : Polynomial E) → Contains G g → IsMonicMember P g) → (g : Polynomial E) → Contains G g → IsReducer P.field P.order g

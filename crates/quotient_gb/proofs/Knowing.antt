@@ -3,14 +3,13 @@ use Rattle.std.proofs.Common.{◌≡◌, ℕ, ◌≤◌, sym, ◌∙◌, ap, sub
 use Rattle.polynomials.specs.laws.Coefficients.{found_monomial}
 use Rattle.std.proofs.lemmas.Bool.{true≢false}
 use Rattle.std.specs.Prelude.{Contains, map}
-use Rattle.monomial_order.specs.Monomial.{product, IsMonomial, Divides, Exponents}
-use Rattle.monomial_order.specs.laws.Monomial.{product_comm}
-use Rattle.monomial_order.specs.laws.Cofactors.{cofactor, Divides-trans, Divides-antisymm}
+use Rattle.monomial_order.specs.Monomial.{IsMonomial, Divides, Exponents}
+use Rattle.monomial_order.specs.laws.Cofactors.{Divides-trans, Divides-antisymm}
 use Rattle.monomial_order.specs.laws.Comparing.{degree_falls, divisor_degree}
 use Rattle.monomial_order.specs.laws.Lists.{contains_none, contains_map}
 use Rattle.polynomials.specs.Polynomial.{Polynomial, minus, lead_monomial, degree_of}
 use Rattle.polynomials.specs.Subalgebra.{Presented, IsPresentation, LeadsIdeal, IsStandard, IsNormalForm}
-use Rattle.polynomials.specs.laws.NormalForm.{lead_times}
+use Rattle.polynomials.specs.laws.NormalForm.{lead_is_monomial, lead_multiple}
 use Rattle.polynomials.specs.laws.ReducedBasis.{map_contains}
 use Rattle.quotient_gb.specs.Combinations.{AtMost}
 use Rattle.quotient_gb.specs.Remainder.{IsRemainderBy, AreReducersIn}
@@ -18,27 +17,19 @@ use Rattle.quotient_gb.specs.IdealBasis.{AreIdealLeads, IsIdealBasis, IsMinimalL
 use Rattle.quotient_gb.specs.Quotient.{QuotientState, IsQuotientOf}
 use Rattle.quotient_gb.specs.CriticalPairs.{HasPairsAbove}
 use Rattle.quotient_gb.proofs.Combinations.{combines_inside}
-use Rattle.quotient_gb.proofs.Multiples.{divides_left}
-use Rattle.quotient_gb.proofs.Steps.{lead_monomial_of, reducer_of}
+use Rattle.quotient_gb.proofs.Steps.{reducer_of}
 use Rattle.quotient_gb.proofs.Tails.{positive_leads}
 
 module _ {E : Type 0} (P : Presented E) (H : IsPresentation P) where
-  -- a multiple of a lead of the ideal is one
-  pub multiple_leads : (m n : Exponents) → LeadsIdeal P n → Divides n m → IsMonomial P.order.places m → LeadsIdeal P m
-  multiple_leads m n h d hm =
-      let k = cofactor n m (lead_monomial_of P H n h).trimmed hm.trimmed d in
-      let is : product k.0 n ≡ m = product_comm k.0 n ∙ k.2 in
-      subst (LeadsIdeal P) is (lead_times P H k.0 n (divides_left k.0 n P.order.places (subst (IsMonomial P.order.places) (sym is) hm) k.1) h)
-
   module _ (c : ℕ) (ms : List Exponents) (h : AreIdealLeads P c ms) where
     pub each_minimal : (m : Exponents) → Contains ms m → IsMinimalLead P m × (P.order.degree m ≤ c)
     each_minimal m k = (
       record {
         leads = h.leads m k;
         minimal = λ n hn d.
-            let r = h.divides n hn (let a = divisor_degree P.order H.order n m (lead_monomial_of P H n hn).trimmed (lead_monomial_of P H m (h.leads m k)).trimmed d in let b = h.degrees m k in omega arith) in
+            let r = h.divides n hn (let a = divisor_degree P.order H.order n m (lead_is_monomial P H n hn).trimmed (lead_is_monomial P H m (h.leads m k)).trimmed d in let b = h.degrees m k in omega arith) in
             let same : r.0 ≡ m = h.minimal r.0 m r.1 k (Divides-trans r.0 n m r.2 d) in
-            Divides-antisymm n m (lead_monomial_of P H n hn).trimmed (lead_monomial_of P H m (h.leads m k)).trimmed d (subst (λ z. Divides z n) same r.2);
+            Divides-antisymm n m (lead_is_monomial P H n hn).trimmed (lead_is_monomial P H m (h.leads m k)).trimmed d (subst (λ z. Divides z n) same r.2);
       },
       h.degrees m k,
     )
@@ -50,7 +41,7 @@ module _ {E : Type 0} (P : Presented E) (H : IsPresentation P) where
     standard m none hm l = record { monomial = hm; no_lead = λ k. let r = h.divides m k l in none r.0 r.1 r.2 }
 
     pub not_standard : (m n : Exponents) → Contains ms n → Divides n m → IsMonomial P.order.places m → LeadsIdeal P m
-    not_standard m n k d hm = multiple_leads m n (h.leads n k) d hm
+    not_standard m n k d hm = lead_multiple P H n m (h.leads n k) hm d
 
   -- a remainder by a basis to the degree is a normal form
   pub remainder_normal : (c : ℕ) (G : List (Polynomial E)) → IsIdealBasis P c G → (a r : Polynomial E) → degree_of P.order a ≤ c →

@@ -1,7 +1,7 @@
 -- The members of a basis with those of the step after it.
 use Rattle.std.proofs.Common.{◌≢◌, ◌≡◌, ℕ, ◌+◌, ◌<◌, ◌≤◌, refl, sym, ◌∙◌, ap, subst, List, [], ◌++◌, length, arith, ◌⊎◌, ⊎_elim, get_or, slice_set, ◌∷◌}
 use Rattle.std.proofs.lemmas.List.{length-map}
-use Rattle.polynomials.specs.laws.Coefficients.{small_lead, found_monomial}
+use Rattle.polynomials.specs.laws.Coefficients.{small_lead}
 use Rattle.std.specs.Prelude.{Contains, map}
 use Rattle.std.specs.List.{insert}
 use Rattle.std.specs.declared.cmp.Ordering.TheVariants.{Less}
@@ -25,11 +25,9 @@ use Rattle.quotient_gb.proofs.Inserting.{insert_there, insert_cases, map_insert,
 use Rattle.quotient_gb.proofs.Places.{not_below, map_append, multiple_more}
 use Rattle.quotient_gb.proofs.Remainders.{first_is_canonical}
 use Rattle.quotient_gb.proofs.Tails.{member_leads, standard_tail}
+use Rattle.polynomials.specs.laws.NormalForm.{lead_is_monomial}
 
 module _ {E : Type 0} (P : Presented E) (H : IsPresentation P) where
-  pub lead_monomial_of : (m : Exponents) → LeadsIdeal P m → IsMonomial P.order.places m
-  lead_monomial_of m h = found_monomial P.field H.field P.order H.order h.member h.poly m h.leads.nonzero
-
   pub reducer_of : (g : Polynomial E) → IsMonicMember P g → P.order.degree (lead_monomial g) ≤ 30000 → IsReducerIn P g
   reducer_of g h l = record { canonical = record { decreasing = h.decreasing; small = small_lead P.field H.field P.order H.order g h.decreasing (omega arith) }; monic = h.monic }
 
@@ -101,7 +99,7 @@ module _ {F E : Type 0} (P : Presented E) (H : IsPresentation P) (b : Basis F E)
   pub step_leads : (n : Exponents) → Contains s.found.leads.items n → IsMonomial P.order.places n × (P.order.degree n ≤ 65535)
   step_leads n k =
       let r = map_contains lead_monomial found n (subst (λ ms. Contains ms n) h.leads k) in (
-        subst (IsMonomial P.order.places) r.2 (lead_monomial_of P H (lead_monomial r.0) (member_leads P H r.0 (h.members r.0 r.1))),
+        subst (IsMonomial P.order.places) r.2 (lead_is_monomial P H (lead_monomial r.0) (member_leads P H r.0 (h.members r.0 r.1))),
         let e = h.degrees r.0 r.1 in let q = h.small in let d : P.order.degree (lead_monomial r.0) ≡ P.order.degree n = ap P.order.degree r.2 in omega arith,
       )
 
@@ -110,7 +108,7 @@ module _ {F E : Type 0} (P : Presented E) (H : IsPresentation P) (b : Basis F E)
   all_leads v n k =
       let i = ideal_leads v in
       let j : Contains (map lead_monomial G) n = subst (λ ms. Contains ms n) (ap (λ ms. ms ++ s.found.leads.items) h.before.2.leads ∙ (ap (λ ms. map lead_monomial b.members.items ++ ms) h.leads ∙ sym (map_append lead_monomial b.members.items found))) k in
-      (lead_monomial_of P H n (i.leads n j), let l = i.degrees n j in let q = h.small in omega arith)
+      (lead_is_monomial P H n (i.leads n j), let l = i.degrees n j in let q = h.small in omega arith)
 
   pub later_itself : IsLaterStep P b s s
   later_itself = record { degree = refl; step = h; part = λ x k. k }

@@ -8,7 +8,7 @@ use Rattle.monomial_order.specs.laws.Comparing.{not_below_self, three_ways, equa
 use Rattle.polynomials.specs.Polynomial.{Polynomial, share, coefficient, Same, term_of, times, scaled, negated, minus, constant, AllAt, IsPoly, IsDecreasing, IsLead}
 use Rattle.polynomials.specs.Ideal.{InIdeal, Congruent}
 use Rattle.polynomials.specs.Value.{value, monomial_value, term_value}
-use Rattle.polynomials.specs.Subalgebra.{Presented, IsPresentation, LeadsIdeal, IsNormalForm}
+use Rattle.polynomials.specs.Subalgebra.{Presented, IsPresentation, LeadsIdeal, IsNormalForm, HasDegreesTo}
 use Rattle.polynomials.specs.laws.Ring.{coefficient_value, coefficient-append}
 use Rattle.polynomials.specs.laws.Same.{same_refl, append_same, times_same_left}
 use Rattle.polynomials.specs.laws.Value.{value_same, value-append, value-scaled, one_times, coefficient-constant_times, coefficient-scaled}
@@ -20,10 +20,10 @@ use Rattle.polynomials.specs.laws.Ideal.{IsPoly-append, IsPoly-scaled, InIdeal_s
 use Rattle.polynomials.specs.laws.Congruence.{congruent_same, congruent_refl, congruent_sym, congruent_trans, congruent_plus, congruent_times_left, minus_zero}
 use Rattle.polynomials.specs.laws.Membership.{IsPoly-value, ArePolys, value-negated}
 use Rattle.subalgebra_laws.specs.Words.{letters, letter_values, word_value, IsReducibleWord, IsIrreducibleSum, IsTopWord, IsCombination}
-use Rattle.subalgebra_laws.specs.Bases.{AreMonicElements, HasDegreesTo}
+use Rattle.subalgebra_laws.specs.Bases.{AreMonicElements}
 use Rattle.subalgebra_laws.specs.Statements.{SumsHaveTopWords, SumsAreUnique, SumsAreCombinations, MultiplesAreCombinations, CongruentAreCombinations, IrreducibleWordsAreCombinations}
-use Rattle.polynomials.specs.laws.Coefficients.{nothing_at, single_term, times_one, constant_poly, minus_poly, minus_nonzero, minus_back, lead_sum_right}
-use Rattle.subalgebra_laws.proofs.Nonzero.{same_false, AllAt-map, no_coefficient, append_nonzero, multiple_nonzero, lead_negated, below_lead, above_lead}
+use Rattle.polynomials.specs.laws.Coefficients.{nothing_at, single_term, times_one, constant_poly, minus_poly, minus_nonzero, minus_back, lead_sum_right, no_coefficient}
+use Rattle.subalgebra_laws.proofs.Nonzero.{same_false, AllAt-map, append_nonzero, multiple_nonzero, lead_negated, below_lead, above_lead}
 use Rattle.subalgebra_laws.proofs.MonicProducts.{AreMonic, monic_lead}
 use Rattle.subalgebra_laws.proofs.Letters.{letter_images, values_monic, word_monic, letter_laws, word_degree}
 

@@ -9,12 +9,12 @@ use Rattle.word_laws.specs.Words.{word_order_of, image_of, IsSWord}
 use Rattle.polynomials.specs.Polynomial.{Polynomial, coefficient, Same, term_of, lead_monomial}
 use Rattle.polynomials.specs.Ideal.{Congruent}
 use Rattle.polynomials.specs.Value.{value}
-use Rattle.polynomials.specs.Subalgebra.{IsPresentation, IsGenerator, InSubalgebra, LeadsIdeal, IsStandard, IsGenerated}
+use Rattle.polynomials.specs.Subalgebra.{IsPresentation, IsGenerator, InSubalgebra, LeadsIdeal, IsStandard, IsGenerated, IsDecidedTo}
 use Rattle.polynomials.specs.laws.Decreasing.{coefficient_first}
 use Rattle.polynomials.specs.laws.Degrees.{all_found}
 use Rattle.polynomials.specs.laws.Congruence.{congruent_same}
 use Rattle.subalgebra_laws.specs.Words.{letters, word_value, combination_value, IsReducibleWord, IsIrreducibleSum, IsTopWord, IsCombination}
-use Rattle.subalgebra_laws.specs.Bases.{IsMonicElement, AreMonicElements, IsDecidedTo, AreNextTo, HasCombinationsTo, HasCombinationsAt, IsCheckedElement, IsCheckedBasis}
+use Rattle.subalgebra_laws.specs.Bases.{IsMonicElement, AreMonicElements, AreNextTo, HasCombinationsTo, HasCombinationsAt, IsCheckedElement, IsCheckedBasis}
 use Rattle.subalgebra_laws.specs.Samples.{sum_xy, x_times_y, endless, endless_basis, endless_word, right_side}
 use Rattle.subalgebra_laws.proofs.Plane.{field, plane, plane_laws, term_in, sum_decreasing, product_decreasing}
 use Rattle.subalgebra_laws.proofs.Letters.{letter_laws}

@@ -1,7 +1,7 @@
 -- Coefficients and leads of single terms, sums and differences, and what a decreasing list says of them.
 use Rattle.std.proofs.Common.{◌≡◌, ◌≢◌, ℕ, ◌≤◌, refl, sym, ◌∙◌, ap, [], ◌∷◌, ◌++◌, ◌⊎◌, inl, inr, ⊎_elim, cond, true, false, arith}
 use Rattle.std.specs.declared.cmp.Ordering.TheVariants.{Less}
-use Rattle.word_field.specs.Field.{FieldOps, IsField, IsValue}
+use Rattle.word_field.specs.Field.{FieldOps, IsField}
 use Rattle.word_field.specs.laws.Field.{zero-plus-zero, negate-zero}
 use Rattle.monomial_order.specs.declared.terms.Term.{Term}
 use Rattle.monomial_order.specs.Monomial.{Exponents, product, IsMonomial}
@@ -24,6 +24,10 @@ unfolding coefficient
 nothing_at K m = refl
 
 module _ {E : Type 0} (K : FieldOps E) (F : IsField K) where
+  -- a coefficient that is not nonzero is zero
+  pub no_coefficient : (p : Polynomial E) (m : Exponents) → (coefficient K p m ≢ K.zero → ⊥) → coefficient K p m ≡ K.zero
+  no_coefficient p m h = ⊎_elim (λ z. z) (λ n. absurd (h n)) (F.equal_or_not (coefficient K p m) K.zero)
+
   -- a single term has a coefficient at its monomial alone
   pub single_term : (w : Exponents) (c : E) (v : Exponents) → coefficient K (term_of w c ∷ []) v ≢ K.zero → w ≡ v
   unfolding coefficient

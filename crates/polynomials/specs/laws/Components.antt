@@ -18,7 +18,7 @@ use Rattle.polynomials.specs.laws.ReducedBasis.{degree_one}
 use Rattle.polynomials.specs.laws.Degrees.{IsGraded, AreGraded, polys_graded, graded_times, graded_value, graded_component, graded_no_component, all_found, component-append, coefficient-component, ideal_component}
 use Rattle.polynomials.specs.laws.NormalForm.{IsPoly-component}
 
--- the terms of h are distinguished by the degrees of their values, where ds are the degrees of the generators
+-- Terms have the degrees of their values, if ds are the degrees of the generators.
 abbrev by_value : MonomialOrder → List ℕ → MonomialOrder
 by_value O ds = record { places = O.places; degree = weighted_degree ds; compare = O.compare }
 

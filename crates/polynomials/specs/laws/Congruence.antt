@@ -1,6 +1,6 @@
 -- Congruence modulo an ideal is an equivalence that sums and products keep.
 use Rattle.std.proofs.Common.{◌≡◌, ℕ, refl, sym, ◌∙◌, ap, List, [], ◌∷◌, ◌++◌}
-use Rattle.word_field.specs.Field.{FieldOps, IsField, IsValue}
+use Rattle.word_field.specs.Field.{FieldOps, IsField}
 use Rattle.word_field.specs.laws.Field.{negate-negate, zero-plus-zero, negate-zero, negate-plus, plus_four, negate-plus_cancel, plus_is_zero, negate-times, one-times}
 use Rattle.polynomials.specs.Polynomial.{Polynomial, coefficient, Same, times, negated, minus, constant, IsPoly}
 use Rattle.polynomials.specs.Ideal.{InIdeal, Congruent}

@@ -8,7 +8,7 @@ use Rattle.monomial_order.specs.declared.terms.Term.{Term}
 use Rattle.monomial_order.specs.laws.Lists.{contains_cases, contains_none}
 use Rattle.monomial_order.specs.Monomial.{Exponents, weighted_degree}
 use Rattle.monomial_order.specs.MonomialOrder.{MonomialOrder, IsMonomialOrder}
-use Rattle.polynomials.specs.Polynomial.{Polynomial, same_monomial, coefficient, Same, times, scaled, constant, IsPoly, IsDecreasing, IsHomogeneous, AllAt, component}
+use Rattle.polynomials.specs.Polynomial.{Polynomial, same_monomial, coefficient, Same, times, scaled, constant, IsPoly, IsDecreasing, IsLead, IsHomogeneous, IsComponent, AllAt, component}
 use Rattle.polynomials.specs.Ideal.{Multiple, AreMultiples, sum_of, InIdeal}
 use Rattle.polynomials.specs.Value.{power, monomial_value}
 use Rattle.polynomials.specs.Subalgebra.{IsGenerator, AreGenerators}
@@ -99,6 +99,27 @@ module _ {E : Type 0} (K : FieldOps E) (F : IsField K) (O : MonomialOrder) (L : 
           cond b (K.plus (cond (same_monomial t.at m) t.by K.zero) (coefficient K (component O d p) m)) (coefficient K (component O d p) m)
       pull true = refl
       pull false = refl
+
+  pub component_is : (d : ℕ) (p : Polynomial E) → IsComponent K O d p (component O d p)
+  component_is d p = record {
+    inside = λ m e. coefficient-component d p m ∙ ap (λ b. cond b (coefficient K p m) K.zero) (eq-eqb (O.degree m) d e);
+    outside = λ m n. coefficient-component d p m ∙ ap (λ b. cond b (coefficient K p m) K.zero) (differs (O.degree m) d n);
+  }
+
+  pub component_nonzero : (d : ℕ) (p : Polynomial E) (m : Exponents) → coefficient K (component O d p) m ≢ K.zero → (O.degree m ≡ d) × (coefficient K p m ≢ K.zero)
+  component_nonzero d p m k =
+      elim (nat_eq (O.degree m) d) as (λ b. nat_eq (O.degree m) d ≡ b → (O.degree m ≡ d) × (coefficient K p m ≢ K.zero)) [
+        | true ↦ λ e. (eqb-true (O.degree m) d e, λ z. k ((component_is d p).inside m (eqb-true (O.degree m) d e) ∙ z))
+        | false ↦ λ e. absurd (k (coefficient-component d p m ∙ ap (λ b. cond b (coefficient K p m) K.zero) e))
+      ] refl
+
+  -- the component of the degree of a lead has that lead, and is homogeneous
+  pub component_leads : (p : Polynomial E) (m : Exponents) → IsLead K O p m → IsLead K O (component O (O.degree m) p) m × IsHomogeneous K O (O.degree m) (component O (O.degree m) p)
+  component_leads p m h =
+      let nonzero : coefficient K (component O (O.degree m) p) m ≢ K.zero = λ z. h.nonzero (sym ((component_is (O.degree m) p).inside m refl) ∙ z) in (
+        record { nonzero = nonzero; greatest = λ n k ne. h.greatest n (component_nonzero (O.degree m) p n k).1 ne },
+        record { some = (m, nonzero); each = λ n k. (component_nonzero (O.degree m) p n k).0 },
+      )
 
   pub component_same : (d : ℕ) (p q : Polynomial E) → Same K p q → Same K (component O d p) (component O d q)
   component_same d p q h m =
