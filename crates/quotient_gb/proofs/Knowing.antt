@@ -1,5 +1,5 @@
 -- What a quotient of a presentation says of its ideal.
-use Rattle.std.proofs.Common.{◌≡◌, ℕ, ◌≤◌, sym, ◌∙◌, ap, subst, List, [], arith, ⊎_elim, false}
+use Rattle.std.proofs.Common.{◌≡◌, ℕ, ◌≤◌, sym, ◌∙◌, ap, subst, List, [], ◌∷◌, arith, ◌⊎◌, inl, inr, ⊎_elim, false}
 use Rattle.polynomials.specs.laws.Coefficients.{found_monomial}
 use Rattle.std.proofs.lemmas.Bool.{true≢false}
 use Rattle.std.specs.Prelude.{Contains, map}
@@ -7,10 +7,11 @@ use Rattle.monomial_order.specs.Monomial.{IsMonomial, Divides, Exponents}
 use Rattle.monomial_order.specs.laws.Cofactors.{Divides-trans, Divides-antisymm}
 use Rattle.monomial_order.specs.laws.Comparing.{degree_falls, divisor_degree}
 use Rattle.monomial_order.specs.laws.Lists.{contains_none, contains_map}
-use Rattle.polynomials.specs.Polynomial.{Polynomial, minus, lead_monomial, degree_of}
-use Rattle.polynomials.specs.Subalgebra.{Presented, IsPresentation, LeadsIdeal, IsStandard, IsNormalForm}
-use Rattle.polynomials.specs.laws.NormalForm.{lead_is_monomial, lead_multiple}
-use Rattle.polynomials.specs.laws.ReducedBasis.{map_contains}
+use Rattle.polynomials.specs.Polynomial.{Polynomial, minus, IsDecreasing, IsHomogeneous, lead_monomial, degree_of}
+use Rattle.polynomials.specs.Subalgebra.{Presented, IsPresentation, LeadsIdeal, AreZerosTo, IsStandard, IsNormalForm}
+use Rattle.polynomials.specs.laws.NormalForm.{lead_is_monomial, lead_multiple, normal_form_homogeneous}
+use Rattle.polynomials.specs.laws.Decreasing.{IsDecreasing_unique, coefficient_first}
+use Rattle.polynomials.specs.laws.ReducedBasis.{degree_one, map_contains}
 use Rattle.quotient_gb.specs.Combinations.{AtMost}
 use Rattle.quotient_gb.specs.Remainder.{IsRemainderBy, AreReducersIn}
 use Rattle.quotient_gb.specs.IdealBasis.{AreIdealLeads, IsIdealBasis, IsMinimalLead}
@@ -43,6 +44,9 @@ module _ {E : Type 0} (P : Presented E) (H : IsPresentation P) where
     pub not_standard : (m n : Exponents) → Contains ms n → Divides n m → IsMonomial P.order.places m → LeadsIdeal P m
     not_standard m n k d hm = lead_multiple P H n m (h.leads n k) hm d
 
+  at_most_degree : (M m : Exponents) → AtMost P.order M m → P.order.degree m ≤ P.order.degree M
+  at_most_degree M m h = ⊎_elim (λ e. let s : P.order.degree m ≡ P.order.degree M = ap P.order.degree e in omega arith) (λ lt. degree_falls P.order H.order m M lt) h
+
   -- a remainder by a basis to the degree is a normal form
   pub remainder_normal : (c : ℕ) (G : List (Polynomial E)) → IsIdealBasis P c G → (a r : Polynomial E) → degree_of P.order a ≤ c →
       IsRemainderBy P.field P.order G (AtMost P.order (lead_monomial a)) a r → IsNormalForm P a r
@@ -52,11 +56,22 @@ module _ {E : Type 0} (P : Presented E) (H : IsPresentation P) where
     standard = λ m k. record {
       monomial = found_monomial P.field H.field P.order H.order r rem.poly m k;
       no_lead = λ q.
-          let d = h.leads.divides m q (⊎_elim (λ e. let s : P.order.degree m ≡ P.order.degree (lead_monomial a) = ap P.order.degree e in omega arith) (λ lt. let s = degree_falls P.order H.order m (lead_monomial a) lt in omega arith) (rem.has m k)) in
+          let d = h.leads.divides m q (let s = at_most_degree (lead_monomial a) m (rem.has m k) in omega arith) in
           let g = map_contains lead_monomial G d.0 d.1 in
           rem.reduced m k (g.0, g.1, subst (λ z. Divides z m) (sym g.2) d.2);
     };
   }
+
+  -- it has no degree above that of the polynomial
+  pub remainder_degree : (G : List (Polynomial E)) (a r : Polynomial E) → IsDecreasing P.field P.order r →
+      IsRemainderBy P.field P.order G (AtMost P.order (lead_monomial a)) a r → degree_of P.order r ≤ degree_of P.order a
+  remainder_degree G a [] f rem = let z = degree_one P.order H.order in omega arith
+  remainder_degree G a (t ∷ r) f rem = at_most_degree (lead_monomial a) t.at (rem.has t.at (λ z. f.0.nonzero (sym (coefficient_first P.field H.field P.order H.order t r f.0) ∙ z)))
+
+  -- a decreasing normal form of a homogeneous polynomial
+  pub homogeneous_form : (a b : Polynomial E) → IsDecreasing P.field P.order b → IsNormalForm P a b → (d : ℕ) → IsHomogeneous P.field P.order d a →
+      (b ≡ []) ⊎ IsHomogeneous P.field P.order d b
+  homogeneous_form a b f h d k = ⊎_elim (λ z. inl (IsDecreasing_unique P.field H.field P.order H.order b [] f tt z)) inr (normal_form_homogeneous P H a b h d k)
 
 module _ {E : Type 0} (P : Presented E) (H : IsPresentation P) (q : QuotientState E) where
   -- no members are the basis to the degree 0
@@ -84,6 +99,9 @@ module _ {E : Type 0} (P : Presented E) (H : IsPresentation P) (q : QuotientStat
 
   pub quotient_leads : IsQuotientOf P q → AreIdealLeads P q.degree q.leads
   quotient_leads h = subst (AreIdealLeads P q.degree) (sym h.leads) h.basis.leads
+
+  pub quotient_zeros : IsQuotientOf P q → AreZerosTo P q.degree q.leads
+  quotient_zeros h = let l = quotient_leads h in record { lead = l.leads; divide = l.divides }
 
   -- the members serve to reduce
   pub quotient_reducers : IsQuotientOf P q → AreReducersIn P q.members

@@ -3,10 +3,11 @@ ghost use Rattle.std.specs.Prelude.{◌≡◌, ℕ, ◌+◌, ◌≤◌, List, Co
 ghost use Rattle.monomial_order.specs.Monomial.{AreCoprime, Exponents};
 ghost use Rattle.polynomials.specs.Polynomial.{Polynomial, IsPoly, IsLead, IsHomogeneous, IsDecreasing, lead_monomial};
 ghost use Rattle.polynomials.specs.Ideal.{InIdeal};
-ghost use Rattle.polynomials.specs.Subalgebra.{Presented, IsPresentation, LeadsIdeal, IsNormalForm};
+ghost use Rattle.polynomials.specs.Subalgebra.{Presented, IsPresentation, LeadsIdeal, IsDecidedTo, AreZerosTo, IsNormalForm};
 ghost use Rattle.quotient_gb.specs.Combinations.{HasLeadDivisor, HasStandardRepresentation};
 ghost use Rattle.quotient_gb.specs.Criterion.{HasRepresentationBelow, ReducesGenerators, RepresentsPairs, ReducesPairs};
 ghost use Rattle.quotient_gb.specs.IdealBasis.{IsMonicMember};
+ghost use Rattle.quotient_gb.specs.Quotient.{QuotientState, IsQuotientOf};
 
 use word_field::Field;
 
@@ -56,9 +57,17 @@ pub fn product_criterion<F: Field>()
         AreCoprime (lead_monomial g) (lead_monomial h) → HasRepresentationBelow P.field P.order G g h }
 {}
 
-/// A polynomial has one canonical normal form at most.
+/// A polynomial has one decreasing normal form at most.
 pub fn normal_form_is_unique<F: Field>()
     ensures { (P : Presented F.Elem) → IsPresentation P → (a b c : Polynomial F.Elem) →
         IsDecreasing P.field P.order b → IsDecreasing P.field P.order c →
         IsNormalForm P a b → IsNormalForm P a c → b ≡ c }
+{}
+
+/// The leads of a quotient are zeros to its degree, and so decide the ideal to that degree.
+pub fn quotients_decide<F: Field>()
+    ensures zeros { (P : Presented F.Elem) → IsPresentation P → (q : QuotientState F.Elem) →
+        IsQuotientOf P q → AreZerosTo P q.degree q.leads }
+    ensures decided { (P : Presented F.Elem) → IsPresentation P → (q : QuotientState F.Elem) →
+        IsQuotientOf P q → IsDecidedTo P q.degree }
 {}

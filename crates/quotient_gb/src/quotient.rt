@@ -1,8 +1,8 @@
 //! The ideal of a presentation to a degree.
-ghost use Rattle.std.specs.Prelude.{◌≡◌, ◌≤◌, ◌<◌, ◌+◌, ◌↔◌, max, true, false, IsTrue, IfOk, OnOk, OnErr, Contains};
+ghost use Rattle.std.specs.Prelude.{◌≡◌, ℕ, ◌≤◌, ◌<◌, ◌+◌, ◌↔◌, ◌⊎◌, [], max, true, false, IsTrue, IsOk, IfOk, OnOk, OnErr, Contains};
 ghost use Rattle.monomial_order.specs.Limits.{degree_max};
 ghost use Rattle.monomial_order.specs.Monomial.{IsMonomial, IsMultiple, Exponents};
-ghost use Rattle.polynomials.specs.Polynomial.{degree_of};
+ghost use Rattle.polynomials.specs.Polynomial.{IsHomogeneous, degree_of};
 ghost use Rattle.poly_core.specs.Presentation.{presented, AreCanonicalGenerators};
 ghost use Rattle.polynomials.specs.Subalgebra.{Presented, IsPresentation, LeadsIdeal, IsStandard, IsNormalForm};
 ghost use Rattle.monomial_order.specs.MonomialOrder.{IsIncreasing};
@@ -54,6 +54,7 @@ impl<F: Field, O: Order> Quotient<F, O> {
         requires { IsPresentation (presented F.ops O.order _p.now) }
         ensures quotient { IfOk result (IsQuotientOf (presented F.ops O.order _p.now)) }
         ensures degree { IfOk result (λ q. q.degree ≡ 0) }
+        ensures ok { IsOk result }
     {
         Ok(Quotient {
             degree: 0,
@@ -64,7 +65,7 @@ impl<F: Field, O: Order> Quotient<F, O> {
         })
     }
 
-    /// Goes on to the degree c, one degree after the other.
+    /// Goes on to the degree c, one degree after the other. If the degree is c or more already, nothing changes.
     pub fn extend_to(&mut self, alloc: Global, p: &Presentation<F, O>, c: u32) -> Result<(), Memory>
         requires presentation { IsPresentation (presented F.ops O.order p.now) }
         requires ideal { AreCanonicalGenerators (F.ops p.now.field) (O.order p.now.order) p.now.ideal.items }
@@ -72,9 +73,14 @@ impl<F: Field, O: Order> Quotient<F, O> {
         requires small { c ≤ degree_max }
         ensures quotient { IsQuotientOf (presented F.ops O.order p.now) self.new }
         ensures degree { OnOk result (self.new.degree ≡ max self.old.degree c) }
+        ensures reached { c ≤ self.old.degree → IsOk result }
+        ensures unchanged { c ≤ self.old.degree → self.new ≡ self.old }
         ensures memory { OnErr result (self.new ≡ self.old) }
     {
         let degree = self.degree;
+        if c <= degree {
+            return Ok(());
+        }
         let members = self.basis.members.as_slice().len();
         let pairs = self.pairs.as_slice().len();
         match self.add_degrees(alloc, p, c) {
@@ -156,6 +162,9 @@ impl<F: Field, O: Order> Quotient<F, O> {
         requires degree { degree_of (O.order p.now.order) a.now ≤ self.now.degree }
         ensures canonical { IfOk result (IsCanonicalIn (presented F.ops O.order p.now)) }
         ensures normal { IfOk result (IsNormalForm (presented F.ops O.order p.now) a.now) }
+        ensures degree { IfOk result (λ b. degree_of (O.order p.now.order) b ≤ degree_of (O.order p.now.order) a.now) }
+        ensures homogeneous { IfOk result (λ b. (d : ℕ) → IsHomogeneous (F.ops p.now.field) (O.order p.now.order) d a.now →
+            (b ≡ []) ⊎ IsHomogeneous (F.ops p.now.field) (O.order p.now.order) d b) }
     {
         let none = Basis::new(alloc);
         let rest = remainder(alloc, p, &self.basis, &none, a)?;

@@ -12,16 +12,12 @@ returns-in-Ok-clause-quotient g c =
     let P = presented g.F.Field.ops g.O.Order.order c.args.p.now in
     quotient_above P _ _ (subst (IsQuotientOf P) (sym c.self-2.view_is) c.in-Ok.ensures.quotient) refl refl refl refl c.retain_above.ensures
 
-pub returns-in-Err-clause-quotient : goal.returns-in-Err-clause-quotient
-returns-in-Err-clause-quotient g c =
-    let q = c.args.self.now in
-    subst (IsQuotientOf (presented g.F.Field.ops g.O.Order.order c.args.p.now)) (sym (restored q c.add_degrees.new.self _ _ c.in-Err.ensures.extension c.self-2.view_is _ _
-    (ap length c.as_slice-members.ensures.value ∙ ap (λ z. length z.members) c.self.view_is) (ap length c.requires.quotient.leads ∙ length-map q.members lead_monomial)
-    (ap length c.as_slice-pairs.ensures.value ∙ ap (λ z. length z.pairs) c.self.view_is) (ap (λ z. z.degree) c.self.view_is) c.truncate-in-Err.ensures.items c.truncate.ensures.items c.truncate-in-Err-2.ensures.items refl)) c.requires.quotient
-
 pub returns-in-Err-clause-memory : goal.returns-in-Err-clause-memory
 returns-in-Err-clause-memory g c =
     let q = c.args.self.now in
     restored q c.add_degrees.new.self _ _ c.in-Err.ensures.extension c.self-2.view_is _ _
     (ap length c.as_slice-members.ensures.value ∙ ap (λ z. length z.members) c.self.view_is) (ap length c.requires.quotient.leads ∙ length-map q.members lead_monomial)
     (ap length c.as_slice-pairs.ensures.value ∙ ap (λ z. length z.pairs) c.self.view_is) (ap (λ z. z.degree) c.self.view_is) c.truncate-in-Err.ensures.items c.truncate.ensures.items c.truncate-in-Err-2.ensures.items refl
+
+pub returns-in-Err-clause-quotient : goal.returns-in-Err-clause-quotient
+returns-in-Err-clause-quotient g c = subst (IsQuotientOf (presented g.F.Field.ops g.O.Order.order c.args.p.now)) (sym (returns-in-Err-clause-memory g c)) c.requires.quotient

@@ -4,7 +4,7 @@ use Rattle.poly_core.specs.Presentation.{presented}
 use Rattle.quotient_gb.specs.Quotient.{QuotientState, IsQuotientOf}
 use Rattle.quotient_gb.specs.Remainder.{AreReducersIn, IsRemainderIn}
 use Rattle.std.specs.Prelude.{map}
-use Rattle.quotient_gb.proofs.Knowing.{quotient_reducers, remainder_normal}
+use Rattle.quotient_gb.proofs.Knowing.{quotient_reducers, remainder_normal, remainder_degree, homogeneous_form}
 use Rattle.quotient_gb.proofs.quotient.Quotient.normal_form.Goals as goal
 
 pub remainder-requires : goal.remainder-requires
@@ -30,3 +30,11 @@ returns-clause-normal g c =
     remainder_normal P H c.self.inside.degree b.members.items q.basis c.args.a.now c.in_ok-rest.rest
     (subst (λ (q : QuotientState g.row.F-Elem.Denot). degree_of P.order c.args.a.now ≤ q.degree) (sym c.self.view_is) c.requires.degree)
     (subst (λ G. IsRemainderIn P G c.args.a.now c.in_ok-rest.rest) (ap (λ xs. b.members.items ++ xs) c.new-none.ensures.members ∙ append-nil b.members.items) c.in_ok-rest.ensures).remainder
+
+pub returns-clause-degree : goal.returns-clause-degree
+returns-clause-degree g c =
+    remainder_degree (presented g.F.Field.ops g.O.Order.order c.args.p.now) c.requires.presentation _ c.args.a.now c.in_ok-rest.rest c.in_ok-rest.ensures.canonical.decreasing c.in_ok-rest.ensures.remainder
+
+pub returns-clause-homogeneous : goal.returns-clause-homogeneous
+returns-clause-homogeneous g c =
+    homogeneous_form (presented g.F.Field.ops g.O.Order.order c.args.p.now) c.requires.presentation c.args.a.now c.in_ok-rest.rest c.in_ok-rest.ensures.canonical.decreasing (returns-clause-normal g c)
