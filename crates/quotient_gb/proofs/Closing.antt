@@ -19,7 +19,7 @@ use Rattle.quotient_gb.specs.declared.degree_step.DegreeStep.{DegreeStep}
 use Rattle.quotient_gb.specs.DegreeStep.{all_members, IsStepAfter, ReducesGeneratorsAt, DividesLeads}
 use Rattle.quotient_gb.proofs.Bases.{lead_is}
 use Rattle.quotient_gb.proofs.Complete.{complete_pairs, complete_generators}
-use Rattle.quotient_gb.proofs.Criterion.{IsReducer, criterion, reducer}
+use Rattle.quotient_gb.proofs.Criterion.{criterion, reducer, AreReducers}
 use Rattle.quotient_gb.proofs.Pairs.{below_sym, below_self, below_standard, below_coprime}
 use Rattle.quotient_gb.proofs.Places.{at_default, has_divisor, is_multiple, multiple_more, lead_at}
 use Rattle.quotient_gb.proofs.Steps.{member, degree, lower_multiple, increasing, minimal}
@@ -75,7 +75,7 @@ module _ {F E : Type 0} (P : Presented E) (H : IsPresentation P) (b : Basis F E)
   divides_lower : (m : Exponents) → LeadsIdeal P m → P.order.degree m ≤ h.before.0 → HasLeadDivisor G m
   divides_lower m k l = has_divisor G m (multiple_more before G m part (lower_multiple P H b s h m k (let e = next in omega arith)))
 
-  reducers : (x : Polynomial E) → Contains G x → IsReducer P.field P.order x
+  reducers : AreReducers P.field P.order G
   reducers = reducer P H G (member P H b s h)
 
   all_generators : ReducesGenerators P d G

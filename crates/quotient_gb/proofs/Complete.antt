@@ -25,7 +25,7 @@ use Rattle.polynomials.specs.laws.Congruence.{coefficient-minus, minus_zero, InI
 use Rattle.polynomials.specs.laws.Ideal.{IsPoly-append, IsPoly-scaled, IsPoly-negated, InIdeal_plus}
 use Rattle.quotient_gb.specs.Combinations.{AtMost, HasLeadDivisor, Combines, HasStandardRepresentation}
 use Rattle.quotient_gb.specs.Criterion.{s_polynomial, RepresentsPairs}
-use Rattle.quotient_gb.specs.IdealBasis.{IsMonicMember}
+use Rattle.quotient_gb.specs.IdealBasis.{AreMonicMembers}
 use Rattle.quotient_gb.proofs.Multiples.{divides_left}
 use Rattle.quotient_gb.proofs.Combinations.{combines_same, combines_plus, combines_one, combines_weaken}
 use Rattle.quotient_gb.proofs.Criterion.{coefficient-front, scaled_leads, reducer}
@@ -55,7 +55,7 @@ module _ {E : Type 0} (K : FieldOps E) (F : IsField K) (O : MonomialOrder) (L : 
       other : n ≢ M
       other q = k (ap (coefficient K (minus K a s)) q ∙ (coefficient-minus K F a s M ∙ (ap (λ x. K.plus x (K.negate (coefficient K s M))) e ∙ F.plus_negate (coefficient K s M))))
 
-module _ {E : Type 0} (P : Presented E) (H : IsPresentation P) (G : List (Polynomial E)) (members : (g : Polynomial E) → Contains G g → IsMonicMember P g)
+module _ {E : Type 0} (P : Presented E) (H : IsPresentation P) (G : List (Polynomial E)) (members : AreMonicMembers P G)
     (c : ℕ) (divides : (m : Exponents) → LeadsIdeal P m → P.order.degree m ≤ c → HasLeadDivisor G m) where
   abbrev Reduces : Exponents → Type 0
   Reduces M = (a : Polynomial E) → IsPoly P.field P.order.places a → InIdeal P.field P.order.places P.ideal a → IsLead P.field P.order a M → Combines P.field P.order G (AtMost P.order M) a

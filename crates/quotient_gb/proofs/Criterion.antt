@@ -27,7 +27,7 @@ use Rattle.polynomials.specs.laws.Ideal.{IsPoly-scaled}
 use Rattle.monomial_order.specs.laws.Rank.{IsWithin, below_induction}
 use Rattle.polynomials.specs.laws.Degrees.{component-append, component_same, IsGraded, graded_component, graded_no_component, graded_times, component_leads}
 use Rattle.quotient_gb.specs.Combinations.{AtMost, Under, HasLeadDivisor, Step, sum_of_steps, AreSteps, Combines, HasStandardRepresentation}
-use Rattle.quotient_gb.specs.IdealBasis.{IsMonicMember}
+use Rattle.quotient_gb.specs.IdealBasis.{AreMonicMembers}
 use Rattle.quotient_gb.specs.Criterion.{s_polynomial, HasRepresentationBelow, ReducesGenerators, RepresentsPairs}
 use Rattle.quotient_gb.proofs.Multiples.{common, product_divides}
 use Rattle.quotient_gb.proofs.Combinations.{scaled-append, scaled_scaled, scaled_is, scaled_same, combines_same, combines_zero, combines_plus, combines_one, combines_scaled, combines_constant, top}
@@ -77,7 +77,7 @@ module _ {E : Type 0} (K : FieldOps E) (F : IsField K) where
       (ap (K.plus (coefficient K T m)) (sym (coefficient-append K F A R m)) ∙ sym (coefficient-append K F T (A ++ R) m))))
 
   module _ (O : MonomialOrder) (L : IsMonomialOrder O) where
-    -- a term times a falling list
+    -- a term times a decreasing list
     pub below_scaled : (t : Term E) (g : Polynomial E) (M : Exponents) → IsTerm K O.places t → IsDecreasing K O g → O.compare (product t.at (lead_monomial g)) M ≡ Less → IsBelow K O M (scaled K t g)
     below_scaled t [] M ht h lt = tt
     below_scaled t (u ∷ p) M ht h lt =
@@ -97,13 +97,16 @@ pub zero_no_lead : {E : Type 0} (K : FieldOps E) (O : MonomialOrder) (a : Polyno
 unfolding coefficient
 zero_no_lead K O a m z h = h.nonzero (z m)
 
--- a member that serves to reduce: falling and monic
+-- a member that serves to reduce: decreasing and monic
 pub record IsReducer {E : Type 0} (K : FieldOps E) (O : MonomialOrder) (g : Polynomial E) : Type 0 where
   pub decreasing : IsDecreasing K O g
   pub monic : coefficient K g (lead_monomial g) ≡ K.one
 
+abbrev pub AreReducers : {E : Type 0} → FieldOps E → MonomialOrder → List (Polynomial E) → Type 0
+AreReducers {E} K O G = (g : Polynomial E) → Contains G g → IsReducer K O g
+
 module _ {E : Type 0} (K : FieldOps E) (F : IsField K) (O : MonomialOrder) (L : IsMonomialOrder O)
-    (G : List (Polynomial E)) (HG : (g : Polynomial E) → Contains G g → IsReducer K O g) where
+    (G : List (Polynomial E)) (HG : AreReducers K O G) where
   pub monomials : (g : Polynomial E) → Contains G g → IsMonomial O.places (lead_monomial g)
   monomials g h = let r = HG g h in monic_monomial K F O L g r.decreasing r.monic
 
@@ -341,7 +344,7 @@ module _ {E : Type 0} (K : FieldOps E) (F : IsField K) (O : MonomialOrder) (L : 
           part_lead = (component_leads K F O L a m lm).0
 
 -- a monic member serves to reduce
-pub reducer : {E : Type 0} (P : Presented E) → IsPresentation P → (G : List (Polynomial E)) → ((g : Polynomial E) → Contains G g → IsMonicMember P g) → (g : Polynomial E) → Contains G g → IsReducer P.field P.order g
+pub reducer : {E : Type 0} (P : Presented E) → IsPresentation P → (G : List (Polynomial E)) → AreMonicMembers P G → AreReducers P.field P.order G
 reducer P H G members g h = let m = members g h in record { decreasing = m.decreasing; monic = m.monic }
 
 module _ {E : Type 0} (P : Presented E) (H : IsPresentation P) (c : ℕ) (G : List (Polynomial E)) (HG : ReducesGenerators P c G) (HP : RepresentsPairs P c G) where

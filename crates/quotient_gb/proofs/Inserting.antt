@@ -60,21 +60,21 @@ map_set f (y ∷ xs) zero x d l e = ap (λ z. z ∷ map f xs) e
 map_set f (y ∷ xs) (suc i) x d l e = ap (λ ys. f y ∷ ys) (map_set f xs i x d (omega arith) e)
 
 module _ {E : Type 0} (P : Presented E) where
-  -- a rising list with a member put between the smaller and the greater ones
-  pub rise_insert : (ms : List Exponents) (k : ℕ) (m : Exponents) → IsIncreasing P.order ms → k ≤ length ms →
+  -- an increasing list with a member put between the smaller and the greater ones
+  pub increasing_insert : (ms : List Exponents) (k : ℕ) (m : Exponents) → IsIncreasing P.order ms → k ≤ length ms →
       ((i : ℕ) → i < k → P.order.compare (get_or ms i []) m ≡ Less) → (k < length ms → P.order.compare m (get_or ms k []) ≡ Less) → IsIncreasing P.order (insert ms k m)
-  rise_insert [] zero m h l before after = tt
-  rise_insert (n ∷ ms) zero m h l before after = (after (omega arith), h)
-  rise_insert [] (suc k) m h l before after = tt
-  rise_insert (n ∷ []) (suc zero) m h l before after = (before 0 (omega arith), tt)
-  rise_insert (n ∷ []) (suc (suc k)) m h l before after = absurd (omega arith)
-  rise_insert (n ∷ (n' ∷ ms)) (suc zero) m h l before after = (before 0 (omega arith), (after (omega arith), h.1))
-  rise_insert (n ∷ (n' ∷ ms)) (suc (suc k)) m h l before after =
-      (h.0, rise_insert (n' ∷ ms) (suc k) m h.1 (omega arith) (λ i q. before (suc i) (omega arith)) (λ q. after (omega arith)))
+  increasing_insert [] zero m h l before after = tt
+  increasing_insert (n ∷ ms) zero m h l before after = (after (omega arith), h)
+  increasing_insert [] (suc k) m h l before after = tt
+  increasing_insert (n ∷ []) (suc zero) m h l before after = (before 0 (omega arith), tt)
+  increasing_insert (n ∷ []) (suc (suc k)) m h l before after = absurd (omega arith)
+  increasing_insert (n ∷ (n' ∷ ms)) (suc zero) m h l before after = (before 0 (omega arith), (after (omega arith), h.1))
+  increasing_insert (n ∷ (n' ∷ ms)) (suc (suc k)) m h l before after =
+      (h.0, increasing_insert (n' ∷ ms) (suc k) m h.1 (omega arith) (λ i q. before (suc i) (omega arith)) (λ q. after (omega arith)))
 
   -- increasing lists of which the one is below the other
-  pub rise_append : (ms ns : List Exponents) → IsIncreasing P.order ms → IsIncreasing P.order ns → ((m n : Exponents) → Contains ms m → Contains ns n → P.order.compare m n ≡ Less) → IsIncreasing P.order (ms ++ ns)
-  rise_append [] ns h k b = k
-  rise_append (m ∷ []) [] h k b = tt
-  rise_append (m ∷ []) (n ∷ ns) h k b = (b m n (contains_here m []) (contains_here n ns), k)
-  rise_append (m ∷ (m' ∷ ms)) ns h k b = (h.0, rise_append (m' ∷ ms) ns h.1 k (λ x y i j. b x y (contains_there m (m' ∷ ms) x i) j))
+  pub increasing_append : (ms ns : List Exponents) → IsIncreasing P.order ms → IsIncreasing P.order ns → ((m n : Exponents) → Contains ms m → Contains ns n → P.order.compare m n ≡ Less) → IsIncreasing P.order (ms ++ ns)
+  increasing_append [] ns h k b = k
+  increasing_append (m ∷ []) [] h k b = tt
+  increasing_append (m ∷ []) (n ∷ ns) h k b = (b m n (contains_here m []) (contains_here n ns), k)
+  increasing_append (m ∷ (m' ∷ ms)) ns h k b = (h.0, increasing_append (m' ∷ ms) ns h.1 k (λ x y i j. b x y (contains_there m (m' ∷ ms) x i) j))

@@ -16,7 +16,7 @@ use Rattle.polynomials.specs.laws.Congruence.{congruent_sym, congruent_trans, co
 use Rattle.polynomials.specs.laws.Ideal.{InIdeal_same, InIdeal_times}
 use Rattle.quotient_gb.specs.Combinations.{AtMost, Combines, HasStandardRepresentation}
 use Rattle.quotient_gb.specs.Remainder.{IsRemainderBy}
-use Rattle.quotient_gb.specs.IdealBasis.{IsMonicMember}
+use Rattle.quotient_gb.specs.IdealBasis.{IsMonicMember, AreMonicMembers}
 use Rattle.quotient_gb.proofs.Combinations.{IsTerm_constant, combines_same, combines_plus, combines_one, combines_more, combines_inside}
 use Rattle.quotient_gb.proofs.Places.{has_divisor}
 
@@ -27,7 +27,7 @@ pub record IsInsertable {E : Type 0} (P : Presented E) (G : List (Polynomial E))
   pub fresh : ¬ IsMultiple (map lead_monomial G) (lead_monomial n)
   pub reduces : (G' : List (Polynomial E)) → ((g : Polynomial E) → Contains G g → Contains G' g) → Contains G' n → HasStandardRepresentation P.field P.order G' a
 
-module _ {E : Type 0} (P : Presented E) (H : IsPresentation P) (G : List (Polynomial E)) (members : (g : Polynomial E) → Contains G g → IsMonicMember P g)
+module _ {E : Type 0} (P : Presented E) (H : IsPresentation P) (G : List (Polynomial E)) (members : AreMonicMembers P G)
     (a rest : Polynomial E) (fa : IsDecreasing P.field P.order a) (ha : InIdeal P.field P.order.places P.ideal a) (rem : IsRemainderBy P.field P.order G (AtMost P.order (lead_monomial a)) a rest) where
   rest_inside : InIdeal P.field P.order.places P.ideal rest
   rest_inside = member_congruent P.field H.field P.order.places P.ideal rest

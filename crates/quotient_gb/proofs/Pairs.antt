@@ -21,7 +21,7 @@ use Rattle.quotient_gb.specs.Combinations.{AtMost, Under, Combines}
 use Rattle.quotient_gb.specs.Criterion.{AreCofactors, s_polynomial, HasStandardSPolynomial, HasRepresentationBelow}
 use Rattle.quotient_gb.proofs.Multiples.{product_cancel, divides_left, lcm_coprime}
 use Rattle.quotient_gb.proofs.Combinations.{combines_same, combines_zero, combines_plus, combines_one, combines_weaken, combines_negated, combines_minus}
-use Rattle.quotient_gb.proofs.Criterion.{IsReducer, monomials, scaled_leads}
+use Rattle.quotient_gb.proofs.Criterion.{IsReducer, monomials, scaled_leads, AreReducers}
 
 module _ {E : Type 0} (K : FieldOps E) (F : IsField K) where
   -- if a + b = c + d, then a - c = d - b
@@ -66,7 +66,7 @@ module _ {E : Type 0} (K : FieldOps E) (F : IsField K) where
             (ap (K.times K.one) (sym (coefficient_first K F O L x p f.0) ∙ e) ∙ (F.times_one K.one ∙ F.one_value))
 
 module _ {E : Type 0} (K : FieldOps E) (F : IsField K) (O : MonomialOrder) (L : IsMonomialOrder O)
-    (G : List (Polynomial E)) (HG : (g : Polynomial E) → Contains G g → IsReducer K O g) where
+    (G : List (Polynomial E)) (HG : AreReducers K O G) where
   pub below_sym : (g h : Polynomial E) → HasRepresentationBelow K O G g h → HasRepresentationBelow K O G h g
   below_sym g h j u v k =
       let e = lcm_comm (lead_monomial h) (lead_monomial g) in

@@ -21,7 +21,7 @@ use Rattle.quotient_gb.specs.Combinations.{HasLeadDivisor, AtMost, Combines}
 use Rattle.quotient_gb.specs.Remainder.{IsRemainderBy}
 use Rattle.quotient_gb.proofs.Multiples.{divides_left}
 use Rattle.quotient_gb.proofs.Combinations.{combines_same, combines_zero, combines_plus, combines_one, combines_negated}
-use Rattle.quotient_gb.proofs.Criterion.{IsReducer, monomials, coefficient-front, scaled_leads}
+use Rattle.quotient_gb.proofs.Criterion.{monomials, coefficient-front, scaled_leads, AreReducers}
 use Rattle.quotient_gb.proofs.Pairs.{scaled_monic}
 
 -- what the loop maintains: p is a combination, the work, which is at most the lead of p, and what is done, which is irreducible
@@ -157,7 +157,7 @@ module _ {E : Type 0} (K : FieldOps E) (F : IsField K) (O : MonomialOrder) (L : 
   lead_at_most M [] l h = absurd (l refl)
   lead_at_most M (t ∷ w) l h = h.0
 
-  module _ (G : List (Polynomial E)) (HG : (g : Polynomial E) → Contains G g → IsReducer K O g) (p : Polynomial E) where
+  module _ (G : List (Polynomial E)) (HG : AreReducers K O G) (p : Polynomial E) where
     pub reducing_start : IsDecreasing K O p → IsReducing K O G p p []
     unfolding coefficient
     reducing_start fp = record {

@@ -21,7 +21,7 @@ use Rattle.quotient_gb.specs.declared.critical_pair.CriticalPair.{CriticalPair}
 use Rattle.quotient_gb.specs.declared.degree_step.DegreeStep.{DegreeStep}
 use Rattle.quotient_gb.specs.CriticalPairs.{pair_degree, IsCriticalPair}
 use Rattle.quotient_gb.specs.DegreeStep.{all_members, IsStepAfter, ReducesPair}
-use Rattle.quotient_gb.specs.IdealBasis.{IsMonicMember}
+use Rattle.quotient_gb.specs.IdealBasis.{AreMonicMembers}
 use Rattle.quotient_gb.proofs.Bases.{lead_is, s_polynomial_inside}
 use Rattle.quotient_gb.proofs.Combinations.{combines_same}
 use Rattle.quotient_gb.proofs.Places.{lead_at, at_default}
@@ -40,7 +40,7 @@ pair_degree_is O G i j =
     ap (λ m. O.degree (least_common_multiple m (slice_index_or (map lead_monomial G) j []))) (lead_at G i) ∙
     ap (λ n. O.degree (least_common_multiple (lead_monomial (slice_index_or G i [])) n)) (lead_at G j)
 
-module _ {E : Type 0} (P : Presented E) (H : IsPresentation P) (G : List (Polynomial E)) (members : (g : Polynomial E) → Contains G g → IsMonicMember P g)
+module _ {E : Type 0} (P : Presented E) (H : IsPresentation P) (G : List (Polynomial E)) (members : AreMonicMembers P G)
     (g h : Polynomial E) (hg : Contains G g) (hh : Contains G h) (a : Polynomial E) (fa : IsDecreasing P.field P.order a)
     (D : (u v : Exponents) × AreCofactors u (lead_monomial g) v (lead_monomial h) × Same P.field a (s_polynomial P.field u g v h)) where
   top_monomial : IsMonomial P.order.places (least_common_multiple (lead_monomial g) (lead_monomial h))

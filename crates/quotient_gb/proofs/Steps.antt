@@ -17,11 +17,11 @@ use Rattle.monomial_order.specs.MonomialOrder.{IsIncreasing}
 use Rattle.polynomials.specs.laws.ReducedBasis.{map_contains}
 use Rattle.quotient_gb.specs.declared.basis.Basis.{Basis}
 use Rattle.quotient_gb.specs.declared.degree_step.DegreeStep.{DegreeStep}
-use Rattle.quotient_gb.specs.IdealBasis.{IsMonicMember, AreIdealLeads, HasStandardTail}
+use Rattle.quotient_gb.specs.IdealBasis.{IsMonicMember, AreIdealLeads, HasStandardTail, AreMonicMembers}
 use Rattle.quotient_gb.specs.DegreeStep.{IsPart, all_members, IsBasisTo, IsStepAfter, IsLaterStep, DividesLeads, HasReducedTail, HasTails}
 use Rattle.quotient_gb.specs.Remainder.{IsCanonicalIn, IsReducerIn, AreReducersIn}
 use Rattle.quotient_gb.proofs.Bases.{lead_is}
-use Rattle.quotient_gb.proofs.Inserting.{insert_there, insert_cases, map_insert, rise_insert, rise_append, set_cases, set_length, set_here, set_before, map_set}
+use Rattle.quotient_gb.proofs.Inserting.{insert_there, insert_cases, map_insert, increasing_insert, increasing_append, set_cases, set_length, set_here, set_before, map_set}
 use Rattle.quotient_gb.proofs.Places.{not_below, map_append, multiple_more}
 use Rattle.quotient_gb.proofs.Remainders.{first_is_canonical}
 use Rattle.quotient_gb.proofs.Tails.{member_leads, standard_tail}
@@ -41,7 +41,7 @@ module _ {F E : Type 0} (P : Presented E) (H : IsPresentation P) (b : Basis F E)
   pub lower_degree : (g : Polynomial E) → Contains b.members.items g → P.order.degree (lead_monomial g) < s.degree
   lower_degree g k = let l = h.before.2.basis.leads.degrees (lead_monomial g) (contains_map lead_monomial b.members.items g k) in let e = h.before.1 in omega arith
 
-  pub member : (g : Polynomial E) → Contains G g → IsMonicMember P g
+  pub member : AreMonicMembers P G
   member g k = ⊎_elim (λ i. h.before.2.basis.members g i) (λ i. h.members g i) (contains_either b.members.items found g k)
 
   pub degree : (g : Polynomial E) → Contains G g → P.order.degree (lead_monomial g) ≤ s.degree
@@ -63,7 +63,7 @@ module _ {F E : Type 0} (P : Presented E) (H : IsPresentation P) (b : Basis F E)
   lower_multiple m k l = h.before.2.basis.leads.divides m k (let e = h.before.1 in omega arith)
 
   pub increasing : IsIncreasing P.order (map lead_monomial G)
-  increasing = subst (IsIncreasing P.order) (sym (map_append lead_monomial b.members.items found)) (rise_append P (map lead_monomial b.members.items) (map lead_monomial found) h.before.2.basis.leads.increasing h.increasing
+  increasing = subst (IsIncreasing P.order) (sym (map_append lead_monomial b.members.items found)) (increasing_append P (map lead_monomial b.members.items) (map lead_monomial found) h.before.2.basis.leads.increasing h.increasing
       (λ m n i j.
       let x = map_contains lead_monomial b.members.items m i in
       let y = map_contains lead_monomial found n j in
@@ -149,7 +149,7 @@ module _ {F E : Type 0} (P : Presented E) (H : IsPresentation P) (b : Basis F E)
           leads = leads ∙ (ap (λ x. insert s.found.leads.items at x) m_is ∙ (ap (λ x. insert x at (lead_monomial r)) h.leads ∙ (sym (map_insert lead_monomial found at r) ∙ ap (map lead_monomial) (sym members))));
           members = λ g k. ⊎_elim (λ e. subst (IsMonicMember P) e hr) (λ i. h.members g i) (in_new g k);
           degrees = λ g k. ⊎_elim (λ e. subst (λ x. P.order.degree (lead_monomial x) ≡ s'.degree) e (new_degree ∙ sym same)) (λ i. h.degrees g i ∙ sym same) (in_new g k);
-          increasing = subst (λ xs. IsIncreasing P.order (map lead_monomial xs)) (sym members) (subst (IsIncreasing P.order) (sym (map_insert lead_monomial found at r)) (rise_insert P (map lead_monomial found) at (lead_monomial r) h.increasing
+          increasing = subst (λ xs. IsIncreasing P.order (map lead_monomial xs)) (sym members) (subst (IsIncreasing P.order) (sym (map_insert lead_monomial found at r)) (increasing_insert P (map lead_monomial found) at (lead_monomial r) h.increasing
               (subst (λ x. at ≤ length x) ls_are within) smaller
               (λ l. subst (λ x. P.order.compare x (get_or (map lead_monomial found) at []) ≡ Less) m_is (subst (λ x. P.order.compare m (get_or x at []) ≡ Less) ls_are (after (subst (λ x. at < length x) (sym ls_are) l))))));
           fresh = λ g k. ⊎_elim (λ e v. new (subst (IsMultiple (map lead_monomial G)) (sym (ap lead_monomial e)) (multiple_more b.members.items G (lead_monomial g) (λ x i. contains_left b.members.items found x i) v))) (λ i. h.fresh g i) (in_new g k);

@@ -1,7 +1,7 @@
 -- A member whose tail is reduced.
 use Rattle.std.proofs.Common.{◌≡◌, refl, ◌≢◌, ℕ, ◌≤◌, sym, ◌∙◌, ap, subst, List, [], ◌∷◌, ◌++◌, ⊎_elim, arith}
 use Rattle.polynomials.specs.laws.Coefficients.{sum_nonzero, single_term, found_monomial, decreasing_leads, monic_some}
-use Rattle.std.specs.Prelude.{Contains, map}
+use Rattle.std.specs.Prelude.{map}
 use Rattle.std.specs.declared.cmp.Ordering.TheVariants.{Less}
 use Rattle.word_field.specs.Field.{FieldOps, IsField}
 use Rattle.word_field.specs.laws.Field.{negate-plus}
@@ -18,7 +18,7 @@ use Rattle.polynomials.specs.laws.Congruence.{coefficient-minus, congruent_sym, 
 use Rattle.polynomials.specs.laws.Ideal.{InIdeal_same}
 use Rattle.quotient_gb.specs.Combinations.{AtMost}
 use Rattle.quotient_gb.specs.Remainder.{IsRemainderBy, IsCanonicalIn, IsRemainderIn}
-use Rattle.quotient_gb.specs.IdealBasis.{IsMonicMember, HasStandardTail, AreIdealLeads}
+use Rattle.quotient_gb.specs.IdealBasis.{IsMonicMember, HasStandardTail, AreIdealLeads, AreMonicMembers}
 use Rattle.quotient_gb.specs.DegreeStep.{HasReducedTail}
 use Rattle.quotient_gb.proofs.Combinations.{combines_inside}
 use Rattle.quotient_gb.proofs.Complete.{difference_below, generator_of}
@@ -58,7 +58,7 @@ module _ {E : Type 0} (P : Presented E) (H : IsPresentation P) where
       none : (r : Polynomial E) (e : ℕ) → e ≤ 0 → IsHomogeneous P.field P.order e r → IsGenerator P.field P.order r → ⊥
       none r e le hr k = ⊎_elim (λ z. hr.some.1 (z hr.some.0)) (λ s. let a = hr.each hr.some.0 hr.some.1 in let b = s.2.each hr.some.0 hr.some.1 in let l = s.1 in omega arith) k.homogeneous
 
-  module _ (G : List (Polynomial E)) (members : (g : Polynomial E) → Contains G g → IsMonicMember P g)
+  module _ (G : List (Polynomial E)) (members : AreMonicMembers P G)
       (x : Polynomial E) (hx : IsMonicMember P x) (t : Term E) (w : Polynomial E) (is : x ≡ t ∷ w)
       (tail rest member : Polynomial E) (f_tail : IsDecreasing P.field P.order tail) (f_rest : IsDecreasing P.field P.order rest) (f_member : IsDecreasing P.field P.order member)
       (tail_is : Same P.field tail (minus P.field x (t ∷ []))) (rem : IsRemainderBy P.field P.order G (AtMost P.order (lead_monomial tail)) tail rest)
@@ -133,7 +133,7 @@ module _ {E : Type 0} (P : Presented E) (H : IsPresentation P) where
       some = monic_some P.field H.field P.order H.order g hg.monic
 
 -- what replaces x: its first term and the remainder of its tail
-module _ {E : Type 0} (P : Presented E) (H : IsPresentation P) (G : List (Polynomial E)) (members : (g : Polynomial E) → Contains G g → IsMonicMember P g)
+module _ {E : Type 0} (P : Presented E) (H : IsPresentation P) (G : List (Polynomial E)) (members : AreMonicMembers P G)
     (x : Polynomial E) (hx : IsMonicMember P x) (t : Term E) (w : Polynomial E) (is : x ≡ t ∷ w) (front tail rest y : Polynomial E) (front_is : front ≡ t ∷ [])
     (k_tail : IsCanonicalIn P tail) (tail_is : Same P.field tail (minus P.field x front)) (rem : IsRemainderIn P G tail rest)
     (k_y : IsCanonicalIn P y) (y_is : Same P.field y (front ++ rest)) where
