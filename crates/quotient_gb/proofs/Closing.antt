@@ -1,4 +1,4 @@
--- Where the generators and the meetings of the degree d are looked at, the leads divide each lead of the ideal of degree d.
+-- If the generators and the critical pairs of the degree d are reduced, the leads divide each lead of the ideal of degree d.
 use Rattle.std.proofs.Common.{◌≡◌, ℕ, zero, suc, ◌+◌, ◌<◌, ◌≤◌, refl, sym, ◌∙◌, ap, subst, List, [], ◌∷◌, length, arith, ◌⊎◌, inl, inr, ⊎_elim, get_or, true, false}
 use Rattle.std.proofs.lemmas.List.{length-map}
 use Rattle.std.specs.Prelude.{Contains, map, nat_lt}
@@ -24,7 +24,7 @@ use Rattle.quotient_gb.proofs.Pairs.{below_sym, below_self, below_standard, belo
 use Rattle.quotient_gb.proofs.Places.{at_default, has_divisor, is_multiple, multiple_more, lead_at}
 use Rattle.quotient_gb.proofs.Steps.{member, degree, lower_multiple, increasing, minimal}
 
--- what is symmetric and holds of each member with itself, and at each two places, holds of each two members
+-- what is symmetric and holds of each member with itself, and at each two indices, holds of each two members
 pub each_two : {A : Type 0} (d : A) (xs : List A) (R : A → A → Type 0) → ((x y : A) → R x y → R y x) → ((x : A) → R x x) →
     ((i j : ℕ) → i < j → j < length xs → R (get_or xs i d) (get_or xs j d)) → (x y : A) → Contains xs x → Contains xs y → R x y
 each_two {A} d xs R turned itself some x y hx hy =

@@ -97,7 +97,7 @@ pub zero_no_lead : {E : Type 0} (K : FieldOps E) (O : MonomialOrder) (a : Polyno
 unfolding coefficient
 zero_no_lead K O a m z h = h.nonzero (z m)
 
--- a member that serves to reduce: decreasing and monic
+-- a reducer is decreasing and monic
 pub record IsReducer {E : Type 0} (K : FieldOps E) (O : MonomialOrder) (g : Polynomial E) : Type 0 where
   pub decreasing : IsDecreasing K O g
   pub monic : coefficient K g (lead_monomial g) ≡ K.one
@@ -343,7 +343,7 @@ module _ {E : Type 0} (K : FieldOps E) (F : IsField K) (O : MonomialOrder) (L : 
           part_lead : IsLead K O (component O (O.degree m) a) m
           part_lead = (component_leads K F O L a m lm).0
 
--- a monic member serves to reduce
+-- a monic member is a reducer
 pub reducer : {E : Type 0} (P : Presented E) → IsPresentation P → (G : List (Polynomial E)) → AreMonicMembers P G → AreReducers P.field P.order G
 reducer P H G members g h = let m = members g h in record { decreasing = m.decreasing; monic = m.monic }
 

@@ -103,6 +103,6 @@ module _ {E : Type 0} (P : Presented E) (H : IsPresentation P) (q : QuotientStat
   pub quotient_zeros : IsQuotientOf P q → AreZerosTo P q.degree q.leads
   quotient_zeros h = let l = quotient_leads h in record { lead = l.leads; divide = l.divides }
 
-  -- the members serve to reduce
+  -- the members are reducers
   pub quotient_reducers : IsQuotientOf P q → AreReducersIn P q.members
   quotient_reducers h g k = reducer_of P H g (h.basis.members g k) (let l = h.basis.leads.degrees (lead_monomial g) (contains_map lead_monomial q.members g k) in let s = h.small in omega arith)
