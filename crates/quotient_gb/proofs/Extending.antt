@@ -1,6 +1,7 @@
 -- Quotients with more at their ends, and back.
-use Rattle.std.proofs.Common.{◌≡◌, refl, sym, ◌∙◌, ap, subst, List, [], ◌∷◌, ◌++◌, length, append-nil, append_assoc, take, ℕ, Bool, true, false, cond}
+use Rattle.std.proofs.Common.{◌≡◌, sym, ◌∙◌, ap, subst, List, [], ◌++◌, length, append-nil, append_assoc, take, ℕ, Bool, true, false, cond}
 use Rattle.quotient_gb.specs.Quotient.{QuotientState, Begins, IsExtension}
+use Rattle.std.proofs.lemmas.List.{take_at}
 
 module _ {A : Type 0} where
   pub begins_itself : (xs ys : List A) → ys ≡ xs → Begins xs ys
@@ -13,13 +14,9 @@ module _ {A : Type 0} where
   begins_chain : (xs ys zs : List A) → Begins xs ys → Begins ys zs → Begins xs zs
   begins_chain xs ys zs h k = (h.0 ++ k.0, k.1 ∙ (ap (λ z. z ++ k.0) h.1 ∙ append_assoc xs h.0 k.0))
 
-  take_front : (xs ys : List A) → take (length xs) (xs ++ ys) ≡ xs
-  take_front [] ys = refl
-  take_front (x ∷ xs) ys = ap (λ zs. x ∷ zs) (take_front xs ys)
-
   -- cut to its length, the list is what it was
   pub take_begins : (xs ys : List A) (n : ℕ) → n ≡ length xs → Begins xs ys → take n ys ≡ xs
-  take_begins xs ys n e h = ap (λ k. take k ys) e ∙ (ap (take (length xs)) h.1 ∙ take_front xs h.0)
+  take_begins xs ys n e h = ap (take n) h.1 ∙ take_at xs h.0 n (sym e)
 
 module _ {E : Type 0} where
   pub extends_itself : (q q' : QuotientState E) → q'.leads ≡ q.leads → q'.members ≡ q.members → q'.pairs ≡ q.pairs → q'.closed ≡ q.closed → IsExtension q q'

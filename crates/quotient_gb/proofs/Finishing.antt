@@ -1,6 +1,6 @@
 -- A finished step: each lead of the ideal up to its degree is a multiple, and the quotient goes on to that degree.
 use Rattle.std.proofs.Common.{◌≡◌, ℕ, ◌+◌, ◌<◌, refl, sym, ◌∙◌, ap, subst, List, [], ◌∷◌, ◌++◌, length, length-append, arith, inl, inr, ⊎_elim, get_or, Bool, true, false, cond}
-use Rattle.std.proofs.lemmas.List.{length-map}
+use Rattle.std.proofs.lemmas.List.{length-map, map-append, get_or_append_left}
 use Rattle.std.specs.Prelude.{Contains, map, filter, nat_lt}
 use Rattle.std.proofs.lemmas.Bool.{ltb-false}
 use Rattle.monomial_order.specs.Monomial.{least_common_multiple, IsMultiple, AreCoprime, Exponents}
@@ -18,7 +18,7 @@ use Rattle.quotient_gb.specs.DegreeStep.{all_members, IsBasisTo, IsLaterStep, Is
 use Rattle.quotient_gb.specs.Quotient.{QuotientState, IsQuotientOf}
 use Rattle.quotient_gb.proofs.Closing.{closed}
 use Rattle.quotient_gb.proofs.Listing.{listed_more}
-use Rattle.quotient_gb.proofs.Places.{at_default, append_at, map_append, lead_at, multiple_more, not_below}
+use Rattle.quotient_gb.proofs.Places.{at_default, lead_at, multiple_more, not_below}
 use Rattle.quotient_gb.proofs.Representations.{represented_more}
 use Rattle.quotient_gb.proofs.SPolynomials.{pair_degree_is}
 use Rattle.quotient_gb.proofs.Steps.{member, ideal_leads, part_all}
@@ -41,7 +41,7 @@ module _ (O : MonomialOrder) (ms ns : List Exponents) where
   -- a critical pair stays one when leads are appended
   pair_degree_append : (i j : ℕ) → i < length ms → j < length ms → pair_degree O (ms ++ ns) i j ≡ pair_degree O ms i j
   pair_degree_append i j li lj =
-      ap (λ m. O.degree (least_common_multiple m (get_or (ms ++ ns) j []))) (append_at ms ns i [] li) ∙ ap (λ n. O.degree (least_common_multiple (get_or ms i []) n)) (append_at ms ns j [] lj)
+      ap (λ m. O.degree (least_common_multiple m (get_or (ms ++ ns) j []))) (get_or_append_left ms ns [] i li) ∙ ap (λ n. O.degree (least_common_multiple (get_or ms i []) n)) (get_or_append_left ms ns [] j lj)
 
   pair_append : (w : CriticalPair) → IsCriticalPair O ms w → IsCriticalPair O (ms ++ ns) w
   pair_append w h =
@@ -51,7 +51,7 @@ module _ (O : MonomialOrder) (ms ns : List Exponents) where
 
   listed_append : (pairs : List CriticalPair) (i j : ℕ) → i < length ms → j < length ms → IsCoprimeOrListed O ms pairs i j → IsCoprimeOrListed O (ms ++ ns) pairs i j
   listed_append pairs i j li lj h = ⊎_elim
-      (λ co. inl (subst (λ m. AreCoprime m (get_or (ms ++ ns) j [])) (sym (append_at ms ns i [] li)) (subst (AreCoprime (get_or ms i [])) (sym (append_at ms ns j [] lj)) co)))
+      (λ co. inl (subst (λ m. AreCoprime m (get_or (ms ++ ns) j [])) (sym (get_or_append_left ms ns [] i li)) (subst (AreCoprime (get_or ms i [])) (sym (get_or_append_left ms ns [] j lj)) co)))
       (λ k. inr (subst (λ d. Contains pairs (record { first = i; second = j; degree = d })) (sym (pair_degree_append i j li lj)) k)) h
 
 -- the quotient with the members of a finished step, and their critical pairs
@@ -77,7 +77,7 @@ module _ {F E : Type 0} (P : Presented E) (H : IsPresentation P) (b : Basis F E)
       all = em ∙ ap (λ xs. xs ++ s.found.members.items) (sym is_members)
 
       leads_are : q'.leads ≡ map lead_monomial q'.members
-      leads_are = el ∙ (ap (λ ls. ls ++ s.found.leads.items) hq.leads ∙ (ap (λ ls. map lead_monomial q.members ++ ls) hs.step.leads ∙ (sym (map_append lead_monomial q.members s.found.members.items) ∙ ap (map lead_monomial) (sym em))))
+      leads_are = el ∙ (ap (λ ls. ls ++ s.found.leads.items) hq.leads ∙ (ap (λ ls. map lead_monomial q.members ++ ls) hs.step.leads ∙ (sym (map-append lead_monomial q.members s.found.members.items) ∙ ap (map lead_monomial) (sym em))))
 
       pairs_are : HasPairsAbove P.order (q.leads ++ s.found.leads.items) q'.degree (q.pairs ++ vs)
       pairs_are = record {
