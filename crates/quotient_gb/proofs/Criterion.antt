@@ -70,11 +70,14 @@ module _ {E : Type 0} (K : FieldOps E) (F : IsField K) where
           (F.plus_zero (K.times d x) ∙ F.times_value d x)))
 
   sum_swap : (A S T R : Polynomial E) → Same K S (T ++ R) → Same K (A ++ S) (T ++ (A ++ R))
-  sum_swap A S T R h m =
-      coefficient-append K F A S m ∙
-      (ap (K.plus (coefficient K A m)) (h m ∙ coefficient-append K F T R m) ∙
-      (plus_swap K F (coefficient K A m) (coefficient K T m) (coefficient K R m) ∙
-      (ap (K.plus (coefficient K T m)) (sym (coefficient-append K F A R m)) ∙ sym (coefficient-append K F T (A ++ R) m))))
+  sum_swap A S T R h m = cc (
+    coefficient-append K F A S m,
+    h m,
+    coefficient-append K F T R m,
+    plus_swap K F (coefficient K A m) (coefficient K T m) (coefficient K R m),
+    coefficient-append K F A R m,
+    coefficient-append K F T (A ++ R) m,
+  )
 
   module _ (O : MonomialOrder) (L : IsMonomialOrder O) where
     -- a term times a decreasing list

@@ -35,12 +35,16 @@ pub record HasReplacement {E : Type 0} (P : Presented E) (G : List (Polynomial E
 module _ {E : Type 0} (K : FieldOps E) (F : IsField K) where
   -- (x - f) - r = x - (f + r)
   pub minus_twice : (x f r tail member : Polynomial E) → Same K tail (minus K x f) → Same K member (f ++ r) → Same K (minus K tail r) (minus K x member)
-  minus_twice x f r tail member ht hm m =
-      coefficient-minus K F tail r m ∙
-      (ap (λ z. K.plus z (K.negate (coefficient K r m))) (ht m ∙ coefficient-minus K F x f m) ∙
-      (F.plus_assoc (coefficient K x m) (K.negate (coefficient K f m)) (K.negate (coefficient K r m)) ∙
-      (ap (K.plus (coefficient K x m)) (sym (ap K.negate (hm m ∙ coefficient-append K F f r m) ∙ negate-plus K F (coefficient K f m) (coefficient K r m))) ∙
-      sym (coefficient-minus K F x member m))))
+  minus_twice x f r tail member ht hm m = cc (
+    coefficient-minus K F tail r m,
+    ht m,
+    coefficient-minus K F x f m,
+    F.plus_assoc (coefficient K x m) (K.negate (coefficient K f m)) (K.negate (coefficient K r m)),
+    hm m,
+    coefficient-append K F f r m,
+    negate-plus K F (coefficient K f m) (coefficient K r m),
+    coefficient-minus K F x member m,
+  )
 
 module _ {E : Type 0} (P : Presented E) (H : IsPresentation P) where
   pub member_leads : (r : Polynomial E) → IsMonicMember P r → LeadsIdeal P (lead_monomial r)
