@@ -5,7 +5,7 @@ use Rattle.std.proofs.lemmas.Bool.{true≢false}
 use Rattle.std.specs.Prelude.{Contains, map}
 use Rattle.monomial_order.specs.Monomial.{IsMonomial, Divides, Exponents}
 use Rattle.monomial_order.specs.laws.Cofactors.{Divides-trans, Divides-antisymm}
-use Rattle.monomial_order.specs.laws.Comparing.{degree_falls, divisor_degree}
+use Rattle.monomial_order.specs.laws.Comparing.{divisor_degree}
 use Rattle.monomial_order.specs.laws.Lists.{contains_none, contains_map}
 use Rattle.polynomials.specs.Polynomial.{Polynomial, minus, IsDecreasing, IsHomogeneous, lead_monomial, degree_of}
 use Rattle.polynomials.specs.Subalgebra.{Presented, IsPresentation, LeadsIdeal, AreZerosTo, IsStandard, IsNormalForm}
@@ -20,6 +20,7 @@ use Rattle.quotient_gb.specs.CriticalPairs.{HasPairsAbove}
 use Rattle.quotient_gb.proofs.Combinations.{combines_inside}
 use Rattle.quotient_gb.proofs.Steps.{reducer_of}
 use Rattle.quotient_gb.proofs.Tails.{positive_leads}
+use Rattle.quotient_gb.proofs.Criterion.{at_most_degree}
 
 module _ {E : Type 0} (P : Presented E) (H : IsPresentation P) where
   module _ (c : ℕ) (ms : List Exponents) (h : AreIdealLeads P c ms) where
@@ -44,9 +45,6 @@ module _ {E : Type 0} (P : Presented E) (H : IsPresentation P) where
     pub not_standard : (m n : Exponents) → Contains ms n → Divides n m → IsMonomial P.order.places m → LeadsIdeal P m
     not_standard m n k d hm = lead_multiple P H n m (h.leads n k) hm d
 
-  at_most_degree : (M m : Exponents) → AtMost P.order M m → P.order.degree m ≤ P.order.degree M
-  at_most_degree M m h = ⊎_elim (λ e. let s : P.order.degree m ≡ P.order.degree M = ap P.order.degree e in omega arith) (λ lt. degree_falls P.order H.order m M lt) h
-
   -- a remainder by a basis to the degree is a normal form
   pub remainder_normal : (c : ℕ) (G : List (Polynomial E)) → IsIdealBasis P c G → (a r : Polynomial E) → degree_of P.order a ≤ c →
       IsRemainderBy P.field P.order G (AtMost P.order (lead_monomial a)) a r → IsNormalForm P a r
@@ -56,7 +54,7 @@ module _ {E : Type 0} (P : Presented E) (H : IsPresentation P) where
     standard = λ m k. record {
       monomial = found_monomial P.field H.field P.order H.order r rem.poly m k;
       no_lead = λ q.
-          let d = h.leads.divides m q (let s = at_most_degree (lead_monomial a) m (rem.has m k) in omega arith) in
+          let d = h.leads.divides m q (let s = at_most_degree P.order H.order (lead_monomial a) m (rem.has m k) in omega arith) in
           let g = map_contains lead_monomial G d.0 d.1 in
           rem.reduced m k (g.0, g.1, subst (λ z. Divides z m) (sym g.2) d.2);
     };
@@ -66,7 +64,7 @@ module _ {E : Type 0} (P : Presented E) (H : IsPresentation P) where
   pub remainder_degree : (G : List (Polynomial E)) (a r : Polynomial E) → IsDecreasing P.field P.order r →
       IsRemainderBy P.field P.order G (AtMost P.order (lead_monomial a)) a r → degree_of P.order r ≤ degree_of P.order a
   remainder_degree G a [] f rem = let z = degree_one P.order H.order in omega arith
-  remainder_degree G a (t ∷ r) f rem = at_most_degree (lead_monomial a) t.at (rem.has t.at (λ z. f.0.nonzero (sym (coefficient_first P.field H.field P.order H.order t r f.0) ∙ z)))
+  remainder_degree G a (t ∷ r) f rem = at_most_degree P.order H.order (lead_monomial a) t.at (rem.has t.at (λ z. f.0.nonzero (sym (coefficient_first P.field H.field P.order H.order t r f.0) ∙ z)))
 
   -- a decreasing normal form of a homogeneous polynomial
   pub homogeneous_form : (a b : Polynomial E) → IsDecreasing P.field P.order b → IsNormalForm P a b → (d : ℕ) → IsHomogeneous P.field P.order d a →

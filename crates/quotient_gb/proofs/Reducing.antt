@@ -1,10 +1,10 @@
 -- The steps of reducing a polynomial by a list.
 use Rattle.std.proofs.Common.{◌≡◌, ◌≢◌, ℕ, suc, ◌<◌, refl, sym, ◌∙◌, ap, subst, List, [], ◌∷◌, ◌++◌, ◌⊎◌, inl, inr, ⊎_elim, arith, append-nil, append_assoc, cond}
-use Rattle.polynomials.specs.laws.Coefficients.{single_term, scaled_small}
+use Rattle.polynomials.specs.laws.Coefficients.{single_term, scaled_small, append_nonzero}
 use Rattle.std.specs.Prelude.{Contains}
 use Rattle.std.specs.declared.cmp.Ordering.TheVariants.{Less, Equal, Greater}
 use Rattle.word_field.specs.Field.{FieldOps, IsField, IsValue}
-use Rattle.word_field.specs.laws.Field.{zero-plus-zero, negate-zero, plus_four, negate-negate}
+use Rattle.word_field.specs.laws.Field.{negate-zero, plus_four, negate-negate}
 use Rattle.monomial_order.specs.declared.terms.Term.{Term}
 use Rattle.monomial_order.specs.Monomial.{product, IsMonomial, IsTrimmed, Exponents}
 use Rattle.monomial_order.specs.MonomialOrder.{MonomialOrder, IsMonomialOrder}
@@ -47,10 +47,7 @@ module _ {E : Type 0} (K : FieldOps E) (F : IsField K) (O : MonomialOrder) (L : 
   two_below A B M ha hb z r fr s =
       below_all M r (decreasing_all K F O L (λ n. O.compare n M ≡ Less) r fr (λ n k.
       let ne : n ≢ M = λ e. k (ap (coefficient K r) e ∙ (s M ∙ (coefficient-append K F A B M ∙ z))) in
-      ⊎_elim
-      (λ za. hb n (λ zb. k (s n ∙ (coefficient-append K F A B n ∙ (ap (λ x. K.plus x (coefficient K B n)) za ∙ (ap (K.plus K.zero) zb ∙ zero-plus-zero K F))))) ne)
-      (λ na. ha n na ne)
-      (F.equal_or_not (coefficient K A n) K.zero)))
+      ⊎_elim (λ na. ha n na ne) (λ nb. hb n nb ne) (append_nonzero K F A B n (λ z. k (s n ∙ z)))))
 
   module _ (p : Polynomial E) (t : Term E) (w : Polynomial E) (is : p ≡ t ∷ w) (kp : IsCanonical K O p) where
     parts : IsCanonical K O (t ∷ w)
@@ -78,26 +75,14 @@ module _ {E : Type 0} (K : FieldOps E) (F : IsField K) (O : MonomialOrder) (L : 
 
     -- the first term is moved to what is done
     pub moved_sum : (rest more done : Polynomial E) → Same K rest (p ++ (term_of t.at (K.negate t.by) ∷ [])) → Same K more (done ++ (t ∷ [])) → Same K (rest ++ more) (p ++ done)
-    unfolding coefficient
     moved_sum rest more done hr hm m =
         let A = term_of t.at (K.negate t.by) ∷ [] in
         let B = t ∷ [] in
-        let zero_sum : K.plus (coefficient K A m) (coefficient K B m) ≡ K.zero =
-        ap (λ x. K.plus x (coefficient K B m)) (coefficient-negated K F B m) ∙ (F.plus_comm (K.negate (coefficient K B m)) (coefficient K B m) ∙ F.plus_negate (coefficient K B m)) in
-        append_same K F rest (p ++ A) more (done ++ B) hr hm m ∙
-        (coefficient-append K F (p ++ A) (done ++ B) m ∙
-        (ap (λ x. K.plus x (coefficient K (done ++ B) m)) (coefficient-append K F p A m) ∙
-        (ap (K.plus (K.plus (coefficient K p m) (coefficient K A m))) (coefficient-append K F done B m) ∙
-        (plus_four K F (coefficient K p m) (coefficient K A m) (coefficient K done m) (coefficient K B m) ∙
-        (ap (K.plus (K.plus (coefficient K p m) (coefficient K done m))) zero_sum ∙
-        (F.plus_zero (K.plus (coefficient K p m) (coefficient K done m)) ∙ (F.plus_value (coefficient K p m) (coefficient K done m) ∙ sym (coefficient-append K F p done m))))))))
+        let zero_sum : K.plus (coefficient K A m) (coefficient K B m) ≡ K.zero = simp (coefficient-negated K F B, F.plus_comm (K.negate (coefficient K B m)) (coefficient K B m), F.plus_negate) in
+        simp (coefficient-append K F, hr, hm, plus_four K F, zero_sum, F.plus_zero, F.plus_value)
 
     pub moved_monomials : (more done : Polynomial E) → Same K more (done ++ (t ∷ [])) → (m : Exponents) → coefficient K more m ≢ K.zero → (m ≡ t.at) ⊎ (coefficient K done m ≢ K.zero)
-    moved_monomials more done h m k =
-        ⊎_elim
-        (λ z. inl (sym (single_term K F t.at t.by m (λ y. k (h m ∙ (coefficient-append K F done (t ∷ []) m ∙ (ap (λ x. K.plus x (coefficient K (t ∷ []) m)) z ∙ (ap (K.plus K.zero) y ∙ zero-plus-zero K F))))))))
-        (λ n. inr n)
-        (F.equal_or_not (coefficient K done m) K.zero)
+    moved_monomials more done h m k = ⊎_elim inr (λ s. inl (sym (single_term K F t.at t.by m s))) (append_nonzero K F done (t ∷ []) m (λ z. k (h m ∙ z)))
 
     module _ (g : Polynomial E) (u : Exponents) (kg : IsCanonical K O g) (monic : coefficient K g (lead_monomial g) ≡ K.one) (tu : IsTrimmed u) (at : product (lead_monomial g) u ≡ t.at) where
       whole : product u (lead_monomial g) ≡ t.at

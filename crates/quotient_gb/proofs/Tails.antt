@@ -1,6 +1,6 @@
 -- A member whose tail is reduced.
 use Rattle.std.proofs.Common.{◌≡◌, refl, ◌≢◌, ℕ, ◌≤◌, sym, ◌∙◌, ap, subst, List, [], ◌∷◌, ◌++◌, ⊎_elim, arith}
-use Rattle.polynomials.specs.laws.Coefficients.{sum_nonzero, single_term, found_monomial, decreasing_leads, monic_some}
+use Rattle.polynomials.specs.laws.Coefficients.{single_term, found_monomial, decreasing_leads, monic_some, append_nonzero}
 use Rattle.std.specs.Prelude.{map}
 use Rattle.std.specs.declared.cmp.Ordering.TheVariants.{Less}
 use Rattle.word_field.specs.Field.{FieldOps, IsField}
@@ -13,18 +13,19 @@ use Rattle.polynomials.specs.Polynomial.{Polynomial, coefficient, Same, minus, I
 use Rattle.polynomials.specs.Subalgebra.{Presented, IsPresentation, IsGenerator, LeadsIdeal}
 use Rattle.polynomials.specs.laws.Ring.{coefficient-append}
 use Rattle.polynomials.specs.laws.Decreasing.{IsDecreasing_unique, IsLead_first, coefficient_first, IsDecreasing_IsPoly}
-use Rattle.polynomials.specs.laws.Degrees.{decreasing_all}
-use Rattle.polynomials.specs.laws.Congruence.{coefficient-minus, congruent_sym, congruent_trans, congruent_member, member_congruent}
+use Rattle.polynomials.specs.laws.Degrees.{decreasing_all, generator_of}
+use Rattle.polynomials.specs.laws.Congruence.{congruent_sym, congruent_trans, congruent_member, member_congruent}
 use Rattle.polynomials.specs.laws.Ideal.{InIdeal_same}
 use Rattle.quotient_gb.specs.Combinations.{AtMost}
 use Rattle.quotient_gb.specs.Remainder.{IsRemainderBy, IsCanonicalIn, IsRemainderIn}
 use Rattle.quotient_gb.specs.IdealBasis.{IsMonicMember, HasStandardTail, AreIdealLeads, AreMonicMembers}
 use Rattle.quotient_gb.specs.DegreeStep.{HasReducedTail}
 use Rattle.quotient_gb.proofs.Combinations.{combines_inside}
-use Rattle.quotient_gb.proofs.Complete.{difference_below, generator_of}
 use Rattle.quotient_gb.proofs.Criterion.{criterion}
 use Rattle.quotient_gb.proofs.Reducing.{below_all}
 use Rattle.quotient_gb.proofs.Places.{has_divisor}
+use Rattle.quotient_gb.proofs.Pairs.{difference_below}
+use Rattle.polynomials.specs.laws.Same.{coefficient-negated}
 
 -- y has the lead of x and a reduced tail
 pub record HasReplacement {E : Type 0} (P : Presented E) (G : List (Polynomial E)) (x y : Polynomial E) : Type 0 where
@@ -35,16 +36,7 @@ pub record HasReplacement {E : Type 0} (P : Presented E) (G : List (Polynomial E
 module _ {E : Type 0} (K : FieldOps E) (F : IsField K) where
   -- (x - f) - r = x - (f + r)
   pub minus_twice : (x f r tail member : Polynomial E) → Same K tail (minus K x f) → Same K member (f ++ r) → Same K (minus K tail r) (minus K x member)
-  minus_twice x f r tail member ht hm m = cc (
-    coefficient-minus K F tail r m,
-    ht m,
-    coefficient-minus K F x f m,
-    F.plus_assoc (coefficient K x m) (K.negate (coefficient K f m)) (K.negate (coefficient K r m)),
-    hm m,
-    coefficient-append K F f r m,
-    negate-plus K F (coefficient K f m) (coefficient K r m),
-    coefficient-minus K F x member m,
-  )
+  minus_twice x f r tail member ht hm m = simp (coefficient-append K F, coefficient-negated K F, ht, hm, negate-plus K F, F.plus_assoc)
 
 module _ {E : Type 0} (P : Presented E) (H : IsPresentation P) where
   pub member_leads : (r : Polynomial E) → IsMonicMember P r → LeadsIdeal P (lead_monomial r)
@@ -124,7 +116,7 @@ module _ {E : Type 0} (P : Presented E) (H : IsPresentation P) where
     reduced_tail ms e m k ne h =
         ⊎_elim (λ a. ne (sym (single_term P.field H.field t.at t.by m a) ∙ sym (ap lead_monomial member_form)))
         (λ b. rem.reduced m b (has_divisor G m (subst (λ ns. IsMultiple ns m) e h)))
-        (sum_nonzero P.field H.field (coefficient P.field (t ∷ []) m) (coefficient P.field rest m) (λ z. k (member_is m ∙ (coefficient-append P.field H.field (t ∷ []) rest m ∙ z))))
+        (append_nonzero P.field H.field (t ∷ []) rest m (λ z. k (member_is m ∙ z)))
 
   -- a reduced tail is standard
   pub standard_tail : (d : ℕ) (ms : List Exponents) → AreIdealLeads P d ms → (g : Polynomial E) → IsMonicMember P g → P.order.degree (lead_monomial g) ≤ d → HasReducedTail P ms g → HasStandardTail P g

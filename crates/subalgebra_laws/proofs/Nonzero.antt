@@ -47,9 +47,6 @@ module _ {E : Type 0} (K : FieldOps E) where
           elim (nat_eq (O.degree t.at) d) as (λ b. cond b (term_of t.at (K.negate t.by) ∷ negated K (component O d q)) (negated K (component O d q)) ≡ negated K (cond b (t ∷ component O d q) (component O d q))) [ true ↦ refl | false ↦ refl ]
 
 module _ {E : Type 0} (K : FieldOps E) (F : IsField K) where
-  pub append_nonzero : (p q : Polynomial E) (m : List ℕ) → coefficient K (p ++ q) m ≢ K.zero → (coefficient K p m ≢ K.zero) ⊎ (coefficient K q m ≢ K.zero)
-  append_nonzero p q m h = sum_nonzero K F (coefficient K p m) (coefficient K q m) (λ z. h (coefficient-append K F p q m ∙ z))
-
   pub negated_nonzero : (p : Polynomial E) (m : List ℕ) → coefficient K (negated K p) m ≢ K.zero → coefficient K p m ≢ K.zero
   negated_nonzero p m h z = h (coefficient-negated K F p m ∙ (ap K.negate z ∙ negate-zero K F))
 

@@ -11,14 +11,14 @@ use Rattle.polynomials.specs.laws.Membership.{sub_congruent, sub_minus}
 use Rattle.subalgebra_laws.specs.Words.{combination_value, IsIrreducibleSum, IsCombination, HasSumAndRest, linear_sum, IsSubductionRemainder}
 use Rattle.subalgebra_laws.specs.Bases.{AreMonicElements}
 use Rattle.subalgebra_laws.specs.Statements.{RestsDecideCombinations, LeadsDetermineLinearSums}
-use Rattle.subalgebra_laws.proofs.Nonzero.{append_nonzero, multiple_nonzero}
+use Rattle.subalgebra_laws.proofs.Nonzero.{multiple_nonzero}
 use Rattle.polynomials.specs.laws.Ring.{coefficient_value, coefficient-append}
 use Rattle.polynomials.specs.laws.Value.{coefficient-constant_times}
 use Rattle.word_field.specs.laws.Field.{zero-plus}
 use Rattle.std.proofs.lemmas.List.Elements.{Contains-get_or}
 use Rattle.subalgebra_laws.proofs.Combinations.{sums_unique, combination_congruent, combination_same, combination_plus, combination_multiple}
 use Rattle.subalgebra_laws.proofs.Criterion.{lead_generated}
-use Rattle.polynomials.specs.laws.Coefficients.{minus_poly, minus_nonzero, nothing_at, no_coefficient}
+use Rattle.polynomials.specs.laws.Coefficients.{minus_poly, minus_nonzero, nothing_at, no_coefficient, append_nonzero}
 
 -- r - q is the difference of a - q and a - r
 difference : {E : Type 0} (K : FieldOps E) (F : IsField K) (a r q : Polynomial E) → Same K (minus K r q) (minus K (minus K a q) (minus K a r))

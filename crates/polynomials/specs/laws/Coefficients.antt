@@ -42,6 +42,9 @@ module _ {E : Type 0} (K : FieldOps E) (F : IsField K) where
   sum_nonzero a b h =
       ⊎_elim (λ z. inr (λ w. h (ap (λ x. K.plus x b) z ∙ (ap (K.plus K.zero) w ∙ zero-plus-zero K F)))) (λ n. inl n) (F.equal_or_not a K.zero)
 
+  pub append_nonzero : (p q : Polynomial E) (m : Exponents) → coefficient K (p ++ q) m ≢ K.zero → (coefficient K p m ≢ K.zero) ⊎ (coefficient K q m ≢ K.zero)
+  append_nonzero p q m h = sum_nonzero (coefficient K p m) (coefficient K q m) (λ z. h (coefficient-append K F p q m ∙ z))
+
   pub minus_nonzero : (p q : Polynomial E) (m : Exponents) → coefficient K (minus K p q) m ≢ K.zero → (coefficient K p m ≢ K.zero) ⊎ (coefficient K q m ≢ K.zero)
   minus_nonzero p q m h =
       ⊎_elim (λ a. inl a) (λ b. inr (λ z. b (ap K.negate z ∙ negate-zero K F)))
@@ -70,7 +73,7 @@ module _ {E : Type 0} (K : FieldOps E) (F : IsField K) (O : MonomialOrder) (L : 
       let none : coefficient K q m ≡ K.zero = ⊎_elim (λ z. z) (λ n. absurd (not_below_self O L m (k m n))) (F.equal_or_not (coefficient K q m) K.zero) in
       record {
         nonzero = λ z. h.nonzero (sym (coefficient_value K F p m) ∙ (sym (F.plus_zero (coefficient K p m)) ∙ (ap (K.plus (coefficient K p m)) (sym none) ∙ (sym (coefficient-append K F p q m) ∙ z))));
-        greatest = λ n c ne. ⊎_elim (λ a. h.greatest n a ne) (λ b. k n b) (sum_nonzero K F (coefficient K p n) (coefficient K q n) (λ z. c (coefficient-append K F p q n ∙ z)));
+        greatest = λ n c ne. ⊎_elim (λ a. h.greatest n a ne) (λ b. k n b) (append_nonzero K F p q n c);
       }
 
   -- and if the first part is

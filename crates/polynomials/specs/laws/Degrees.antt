@@ -58,6 +58,10 @@ module _ {E : Type 0} where
       by_test true r = (h.0, r)
       by_test false r = r
 
+pub generator_of : {E : Type 0} (K : FieldOps E) (O : MonomialOrder) (rs : List (Polynomial E)) → AreGenerators K O rs → (r : Polynomial E) → Contains rs r → IsGenerator K O r
+generator_of K O [] h r k = absurd (contains_none r k)
+generator_of K O (x ∷ rs) h r k = ⊎_elim (λ e. subst (IsGenerator K O) e h.0) (λ i. generator_of K O rs h.1 r i) (contains_cases x rs r k)
+
 module _ {E : Type 0} (K : FieldOps E) (F : IsField K) (O : MonomialOrder) (L : IsMonomialOrder O) where
   -- a monomial with a nonzero coefficient is that of a term
   pub all_found : (P : List ℕ → Type 0) (p : Polynomial E) → AllAt P p → (n : Exponents) → coefficient K p n ≢ K.zero → P n
@@ -189,10 +193,6 @@ module _ {E : Type 0} (K : FieldOps E) (F : IsField K) (O : MonomialOrder) (L : 
                 (ap (λ x. coefficient K x m) (component_times q f.0 h.0 d f.2) ∙ times_same K F (picked O h.0 d q) (picked O h.0 d q) f.0 r (λ j. refl) f.1 m),
           )
 
-  generator_of : (rs : List (Polynomial E)) → AreGenerators K O rs → (r : Polynomial E) → Contains rs r → IsGenerator K O r
-  generator_of [] h r k = absurd (contains_none r k)
-  generator_of (x ∷ rs) h r k = ⊎_elim (λ e. subst (IsGenerator K O) e h.0) (λ i. generator_of rs h.1 r i) (contains_cases x rs r k)
-
   -- a homogeneous ideal has each component of its members
   pub ideal_component : (rs : List (Polynomial E)) → AreGenerators K O rs → (d : ℕ) (a : Polynomial E) → InIdeal K O.places rs a → InIdeal K O.places rs (component O d a)
   ideal_component rs g d a h =
@@ -202,7 +202,7 @@ module _ {E : Type 0} (K : FieldOps E) (F : IsField K) (O : MonomialOrder) (L : 
       all : (ws : List (Multiple E)) → AreMultiples K O.places rs ws → (vs : List (Multiple E)) × AreMultiples K O.places rs vs × Same K (component O d (sum_of K ws)) (sum_of K vs)
       all [] k = ([], tt, λ m. refl)
       all (w ∷ ws) k =
-          let first = part_component d w.by w.of k.0 (generator_of rs g w.of k.1) in
+          let first = part_component d w.by w.of k.0 (generator_of K O rs g w.of k.1) in
           let rest = all ws k.2 in (
             record { by = first.0; of = w.of } ∷ rest.0,
             (first.1, k.1, rest.1),
