@@ -1,5 +1,5 @@
 -- Polynomials alone: which coefficients of sums, multiples and components are nonzero, and their leads.
-use Rattle.std.proofs.Common.{◌≡◌, ◌≢◌, ℕ, refl, sym, ◌∙◌, ap, subst, List, [], ◌∷◌, ◌++◌, ◌⊎◌, ⊎_elim, cond, true, false}
+use Rattle.std.proofs.Common.{◌≡◌, ◌≢◌, ℕ, refl, sym, ◌∙◌, ap, subst, List, [], ◌∷◌, ◌++◌, ⊎_elim, cond, true, false}
 use Rattle.std.specs.Prelude.{nat_eq}
 use Rattle.std.specs.declared.cmp.Ordering.TheVariants.{Less}
 use Rattle.word_field.specs.Field.{FieldOps, IsField, IsValue}
@@ -9,11 +9,11 @@ use Rattle.monomial_order.specs.Monomial.{product}
 use Rattle.monomial_order.specs.MonomialOrder.{MonomialOrder, IsMonomialOrder}
 use Rattle.monomial_order.specs.laws.Comparing.{not_below_self, equal_or_not}
 use Rattle.polynomials.specs.Polynomial.{Polynomial, same_monomial, coefficient, term_of, scaled, times, negated, minus, constant, component, AllAt, IsLead}
-use Rattle.polynomials.specs.laws.Ring.{coefficient_value, coefficient-append}
+use Rattle.polynomials.specs.laws.Ring.{coefficient_value}
 use Rattle.polynomials.specs.laws.Same.{same_true, coefficient-negated}
 use Rattle.polynomials.specs.laws.Value.{coefficient-constant_times}
 use Rattle.polynomials.specs.laws.Degrees.{component-append}
-use Rattle.polynomials.specs.laws.Coefficients.{sum_nonzero, minus_nonzero, no_coefficient}
+use Rattle.polynomials.specs.laws.Coefficients.{minus_nonzero, no_coefficient}
 use Rattle.polynomials.specs.laws.Terms.{AllAt-append}
 use Rattle.polynomials.specs.laws.Congruence.{coefficient-minus}
 
