@@ -30,6 +30,10 @@ module _ {E : Type 0} (P : Presented E) where
   abbrev pub HasReducedTail : List Exponents → Polynomial E → Type 0
   HasReducedTail ms g = (m : Exponents) → coefficient P.field g m ≢ P.field.zero → m ≢ lead_monomial g → ¬ IsMultiple ms m
 
+  -- the S-polynomial of the members of G at a critical pair has a standard representation by G
+  abbrev pub ReducesPairOf : List (Polynomial E) → CriticalPair → Type 0
+  ReducesPairOf G w = HasStandardSPolynomial P.field P.order G (slice_index_or G w.first []) (slice_index_or G w.second [])
+
   -- the members at the first n indices have standard tails
   abbrev pub HasTails : ℕ → List (Polynomial E) → Type 0
   HasTails n G = (i : ℕ) → i < n → i < length G → HasStandardTail P (slice_index_or G i [])
