@@ -205,8 +205,15 @@ module _ {E : Type 0} (K : FieldOps E) (F : IsField K) (O : MonomialOrder) (L : 
           sums = λ m.
               let x = coefficient K (scaled K (term_of s.term.at K.one) s.of) m in
               let y = coefficient K (scaled K (term_of r.by K.one) r.member) m in
-              simp (coefficient-append K F, r.sums, coefficient-scaled K F, coefficient-negated K F, coefficient-front K F s.term.at s.term.by s.of m k.0.value,
-              coefficient-front K F r.by r.front r.member m r.value, coefficient-front K F r.by (K.plus s.term.by r.front) r.member m (F.plus_value s.term.by r.front))
+              simp (
+                coefficient-append K F,
+                r.sums,
+                coefficient-scaled K F,
+                coefficient-negated K F,
+                coefficient-front K F s.term.at s.term.by s.of m k.0.value,
+                coefficient-front K F r.by r.front r.member m r.value,
+                coefficient-front K F r.by (K.plus s.term.by r.front) r.member m (F.plus_value s.term.by r.front),
+              )
               (moved K F s.term.by r.front x y (coefficient K r.rest m));
         }
           where

@@ -3,7 +3,7 @@ use Rattle.std.proofs.Common.{◌≡◌, ℕ, ◌+◌, ◌<◌, ◌≤◌, refl,
 use Rattle.std.proofs.lemmas.List.{length-map, map-append, get_or_append_left}
 use Rattle.std.specs.Prelude.{Contains, map, filter, nat_lt}
 use Rattle.std.proofs.lemmas.Bool.{ltb-false}
-use Rattle.monomial_order.specs.Monomial.{least_common_multiple, IsMultiple, AreCoprime, Exponents}
+use Rattle.monomial_order.specs.Monomial.{least_common_multiple, AreCoprime, Exponents}
 use Rattle.monomial_order.specs.MonomialOrder.{MonomialOrder}
 use Rattle.monomial_order.specs.laws.Comparing.{le_or_not}
 use Rattle.monomial_order.specs.laws.Lists.{contains_here, contains_there, contains_cases, contains_left, contains_right, contains_either}
@@ -18,7 +18,7 @@ use Rattle.quotient_gb.specs.DegreeStep.{all_members, IsBasisTo, IsLaterStep, Is
 use Rattle.quotient_gb.specs.Quotient.{QuotientState, IsQuotientOf, IsClosed}
 use Rattle.quotient_gb.proofs.Closing.{closed}
 use Rattle.quotient_gb.proofs.Listing.{listed_more}
-use Rattle.quotient_gb.proofs.Places.{at_default, lead_at, multiple_more, not_below}
+use Rattle.quotient_gb.proofs.Places.{at_default, lead_at, not_below}
 use Rattle.quotient_gb.proofs.Representations.{represented_more}
 use Rattle.quotient_gb.proofs.SPolynomials.{pair_degree_is}
 use Rattle.quotient_gb.proofs.Steps.{member, ideal_leads, part_all}

@@ -29,7 +29,7 @@ pub record IsInsertable {E : Type 0} (P : Presented E) (G : List (Polynomial E))
 
 module _ {E : Type 0} (P : Presented E) (H : IsPresentation P) (G : List (Polynomial E)) (members : AreMonicMembers P G)
     (a rest : Polynomial E) (fa : IsDecreasing P.field P.order a) (ha : InIdeal P.field P.order.places P.ideal a) (rem : IsRemainderBy P.field P.order G (AtMost P.order (lead_monomial a)) a rest) where
-  rest_inside : InIdeal P.field P.order.places P.ideal rest
+  pub rest_inside : InIdeal P.field P.order.places P.ideal rest
   rest_inside = member_congruent P.field H.field P.order.places P.ideal rest
       (congruent_trans P.field H.field P.order.places P.ideal rest a []
       (congruent_sym P.field H.field P.order.places P.ideal a rest (combines_inside P.field H.field P.order H.order G P.ideal (λ g h. (members g h).inside) (AtMost P.order (lead_monomial a)) (minus P.field a rest) rem.combines))
@@ -47,7 +47,7 @@ module _ {E : Type 0} (P : Presented E) (H : IsPresentation P) (G : List (Polyno
     rest_degree : (d : ℕ) → degree_of P.order a ≤ d → P.order.degree (lead_monomial rest) ≤ d
     rest_degree d l = ⊎_elim (λ e. subst (λ m. P.order.degree m ≤ d) (sym e) l) (λ lt. let q = degree_falls P.order H.order (lead_monomial rest) (lead_monomial a) lt in omega arith) rest_at_most
 
-    rest_fresh : IsMultiple (map lead_monomial G) (lead_monomial rest) → ⊥
+    pub rest_fresh : IsMultiple (map lead_monomial G) (lead_monomial rest) → ⊥
     rest_fresh h = rem.reduced (lead_monomial rest) (decreasing_leads P.field H.field P.order H.order rest fr some).nonzero (has_divisor G (lead_monomial rest) h)
 
     front_value : (q : Polynomial E) → IsDecreasing P.field P.order q → q ≢ [] → IsValue P.field (first_coefficient P.field q)

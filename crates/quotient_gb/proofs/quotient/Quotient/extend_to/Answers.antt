@@ -1,11 +1,20 @@
-use Rattle.std.proofs.Common.{◌∙◌, refl, sym, ap, subst, length}
+use Rattle.std.proofs.Common.{ℕ, ◌<◌, ◌≤◌, arith, ◌∙◌, refl, sym, ap, subst, length}
 use Rattle.std.proofs.lemmas.List.{length-map}
 use Rattle.polynomials.specs.Polynomial.{lead_monomial}
 use Rattle.poly_core.specs.Presentation.{presented}
 use Rattle.quotient_gb.specs.Quotient.{IsQuotientOf}
+use Rattle.quotient_gb.proofs.EveryDegree.{closed_quotient}
 use Rattle.quotient_gb.proofs.Extending.{restored}
 use Rattle.quotient_gb.proofs.Finishing.{quotient_above}
 use Rattle.quotient_gb.proofs.quotient.Quotient.extend_to.Goals as goal
+
+pub returns-then-self-clause-quotient : goal.returns-then-self-clause-quotient
+returns-then-self-clause-quotient g c =
+    let P = presented g.F.Field.ops g.O.Order.order c.args.p.now in
+    closed_quotient P _ (subst (IsQuotientOf P) (sym c.self.view_is) c.requires.quotient) c.if-self.true c.args.c (at_most c.self.inside.degree c.args.c c.if-c-degree.false) c.requires.small
+  where
+    at_most : (a b : ℕ) → a < b → a ≤ b
+    at_most a b l = omega arith
 
 pub returns-in-Ok-clause-quotient : goal.returns-in-Ok-clause-quotient
 returns-in-Ok-clause-quotient g c =

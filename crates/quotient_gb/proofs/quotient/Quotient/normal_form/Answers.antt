@@ -19,7 +19,7 @@ returns-clause-normal g c =
     let H = c.requires.presentation in
     let q = subst (IsQuotientOf P) (sym c.self.view_is) c.requires.quotient in
     let k = known_to P _ q (degree_of P.order c.args.a.now)
-        (subst (λ (q : QuotientState g.row.F-Elem.Denot). (degree_of P.order c.args.a.now ≤ q.degree) ⊎ (q.closed ≡ true)) (sym c.self.view_is) c.requires.degree) in
+    (subst (λ (q : QuotientState g.row.F-Elem.Denot). (degree_of P.order c.args.a.now ≤ q.degree) ⊎ (q.closed ≡ true)) (sym c.self.view_is) c.requires.degree) in
     remainder_normal P H k.0 c.self.inside.basis.members.items k.2 c.args.a.now c.in_ok-rest.rest k.1 c.in_ok-rest.ensures.remainder
 
 pub returns-clause-degree : goal.returns-clause-degree
