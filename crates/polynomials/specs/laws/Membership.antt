@@ -1,5 +1,5 @@
 -- The subalgebra is closed under sums, products and congruence.
-use Rattle.std.proofs.Common.{ℕ, zero, suc, refl, sym, ◌∙◌, ap, List, [], ◌∷◌, ◌++◌, length, arith}
+use Rattle.std.proofs.Common.{ℕ, zero, suc, refl, sym, ap, List, [], ◌∷◌, ◌++◌, length, arith}
 use Rattle.word_field.specs.Field.{FieldOps, IsField}
 use Rattle.word_field.specs.laws.Field.{negate-times}
 use Rattle.polynomials.specs.Polynomial.{Polynomial, coefficient, Same, times, negated, minus, constant, IsPoly}
@@ -44,13 +44,9 @@ module _ {E : Type 0} (K : FieldOps E) (F : IsField K) where
   unfolding coefficient
   value-negated [] fs m = refl
   value-negated (t ∷ h) fs m =
-      coefficient-append K F (times K (constant K (K.negate t.by)) (monomial_value K t.at fs)) (value K (negated K h) fs) m ∙
-      (ap (λ x. K.plus x (coefficient K (value K (negated K h) fs) m)) (coefficient-constant_times K F (K.negate t.by) (monomial_value K t.at fs) m ∙
-      (negate-times K F t.by (coefficient K (monomial_value K t.at fs) m) ∙ ap K.negate (sym (coefficient-constant_times K F t.by (monomial_value K t.at fs) m)))) ∙
-      (ap (K.plus (K.negate (coefficient K (times K (constant K t.by) (monomial_value K t.at fs)) m))) (value-negated h fs m ∙ coefficient-negated K F (value K h fs) m) ∙
-      (sym (Rattle.word_field.specs.laws.Field.negate-plus K F (coefficient K (times K (constant K t.by) (monomial_value K t.at fs)) m) (coefficient K (value K h fs) m)) ∙
-      (ap K.negate (sym (coefficient-append K F (times K (constant K t.by) (monomial_value K t.at fs)) (value K h fs) m)) ∙
-      sym (coefficient-negated K F (value K (t ∷ h) fs) m)))))
+      let x = monomial_value K t.at fs in
+      simp (coefficient-append K F (times K (constant K (K.negate t.by)) x) (value K (negated K h) fs) m, coefficient-append K F (times K (constant K t.by) x) (value K h fs) m,
+      coefficient-constant_times K F (K.negate t.by) x m, coefficient-constant_times K F t.by x m, coefficient-negated K F, negate-times K F, value-negated h fs m, Rattle.word_field.specs.laws.Field.negate-plus K F)
 
 module _ {E : Type 0} (P : Presented E) (H : IsPresentation P) where
   n : ℕ
