@@ -1,8 +1,8 @@
 -- The steps of reducing a polynomial by a list.
 use Rattle.std.proofs.Common.{◌≡◌, ◌≢◌, ℕ, suc, ◌<◌, refl, sym, ◌∙◌, ap, subst, List, [], ◌∷◌, ◌++◌, ◌⊎◌, inl, inr, ⊎_elim, arith, append-nil, append_assoc, cond}
-use Rattle.polynomials.specs.laws.Coefficients.{single_term, scaled_small, append_nonzero}
+use Rattle.polynomials.specs.laws.Coefficients.{nothing_at, single_term, scaled_small, append_nonzero}
 use Rattle.std.specs.Prelude.{Contains}
-use Rattle.std.specs.declared.cmp.Ordering.TheVariants.{Less, Equal, Greater}
+use Rattle.std.specs.declared.cmp.Ordering.TheVariants.{Less}
 use Rattle.word_field.specs.Field.{FieldOps, IsField, IsValue}
 use Rattle.word_field.specs.laws.Field.{negate-zero, plus_four, negate-negate}
 use Rattle.monomial_order.specs.declared.terms.Term.{Term}
@@ -13,7 +13,7 @@ use Rattle.polynomials.specs.Polynomial.{Polynomial, coefficient, Same, term_of,
 use Rattle.polynomials.specs.laws.Ring.{coefficient-append}
 use Rattle.polynomials.specs.laws.Same.{same_refl, append_same, append_comm, coefficient-negated, minus_self}
 use Rattle.polynomials.specs.laws.Decreasing.{IsDecreasing_IsPoly, IsLead_first, coefficient_first}
-use Rattle.monomial_order.specs.laws.Comparing.{not_below_self, greater_less}
+use Rattle.monomial_order.specs.laws.Comparing.{equal_or_not}
 use Rattle.polynomials.specs.laws.Congruence.{minus_same, minus-append}
 use Rattle.monomial_order.specs.laws.Rank.{rank, rank_falls}
 use Rattle.polynomials.specs.laws.Degrees.{decreasing_all}
@@ -124,14 +124,8 @@ module _ {E : Type 0} (K : FieldOps E) (F : IsField K) (O : MonomialOrder) (L : 
       let l = rank_falls O L s.at t.at kr.decreasing.0.term.monomial b.0 in omega arith
 
   at_most_lead : (p : Polynomial E) → IsDecreasing K O p → (n : Exponents) → coefficient K p n ≢ K.zero → AtMost O (lead_monomial p) n
-  unfolding coefficient
-  at_most_lead [] h n k = absurd (k refl)
-  at_most_lead (t ∷ p) h n k =
-      elim (O.compare n t.at) as (λ o. O.compare n t.at ≡ o → AtMost O t.at n) [
-        | Less ↦ λ e. inr e
-        | Equal ↦ λ e. inl (L.equal n t.at e)
-        | Greater ↦ λ e. inr ((IsLead_first K F O L t p h).greatest n k (λ q. not_below_self O L t.at (subst (λ x. O.compare t.at x ≡ Less) q (greater_less O L n t.at e))))
-      ] refl
+  at_most_lead [] h n k = absurd (k (sym (nothing_at K n)))
+  at_most_lead (t ∷ p) h n k = ⊎_elim inl (λ ne. inr ((IsLead_first K F O L t p h).greatest n k ne)) (equal_or_not n t.at)
 
   -- a list below the lead of what is at most M is at most M
   lower : (M m : Exponents) (r : Polynomial E) → AtMost O M m → IsBelow K O m r → AllAt (AtMost O M) r
