@@ -67,7 +67,6 @@ module _ {E : Type 0} (K : FieldOps E) (F : IsField K) (O : MonomialOrder) (L : 
       (n : List ℕ) → coefficient K (minus K a (times K (constant K f) b)) n ≢ K.zero → O.compare n m ≡ Less
   lowered a b m f la lb e n k =
       ⊎_elim
-      (λ same. absurd (k (ap (coefficient K (minus K a (times K (constant K f) b))) same ∙
-      (coefficient-minus K F a (times K (constant K f) b) m ∙ (ap (λ x. K.plus (coefficient K a m) (K.negate x)) (coefficient-constant_times K F f b m ∙ e) ∙ F.plus_negate (coefficient K a m))))))
+      (λ same. absurd (k (ap (coefficient K (minus K a (times K (constant K f) b))) same ∙ simp (coefficient-minus K F, coefficient-constant_times K F f b m, e, F.plus_negate))))
       (λ ne. ⊎_elim (λ na. la.greatest n na ne) (λ nb. lb.greatest n (multiple_nonzero K F f b n nb) ne) (minus_nonzero K F a (times K (constant K f) b) n k))
       (equal_or_not n m)
