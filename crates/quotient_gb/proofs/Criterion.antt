@@ -240,9 +240,9 @@ module _ {E : Type 0} (K : FieldOps E) (F : IsField K) (O : MonomialOrder) (L : 
           where
             none : (r : IsGathered M (sum_of_steps K h.steps)) → r.front ≡ K.zero → IsLed a m
             none r z = lower M w ih a (combines_same K F O L G (Under O M) r.rest a (λ n.
-                sym (h.sums n ∙ (r.sums n ∙ (coefficient-append K F (scaled K (term_of r.by r.front) r.member) r.rest n ∙
-                (ap (λ x. K.plus x (coefficient K r.rest n)) (coefficient-front K F r.by r.front r.member n r.value ∙ (ap (λ x. K.times x (coefficient K (scaled K (term_of r.by K.one) r.member) n)) z ∙ zero-times K F (coefficient K (scaled K (term_of r.by K.one) r.member) n))) ∙
-                (zero-plus K F (coefficient K r.rest n) ∙ coefficient_value K F r.rest n)))))) r.under) m lead_m
+                let x = coefficient K (scaled K (term_of r.by K.one) r.member) n in
+                cc (h.sums n, r.sums n, coefficient-append K F (scaled K (term_of r.by r.front) r.member) r.rest n, coefficient-front K F r.by r.front r.member n r.value, z, zero-times K F x,
+                zero-plus K F (coefficient K r.rest n), coefficient_value K F r.rest n)) r.under) m lead_m
 
             some : (r : IsGathered M (sum_of_steps K h.steps)) → r.front ≢ K.zero → IsLed a m
             some r nz =
