@@ -174,8 +174,7 @@ module _ {E : Type 0} (P : Presented E) (H : IsPresentation P) (S : List (Polyno
       pub top_leads_normal_form : IsLead K O b (im w) × (coefficient K b (im w) ≡ coefficient K e w)
       top_leads_normal_form = (
         IsLead_same K F O L (rest ++ value K e values) b (im w) (minus_back K F b (value K e values)) (lead_sum_right K F O L rest (value K e values) (im w) top_leads.0 below),
-        cc (minus_back K F b (value K e values) (im w), coefficient-append K F rest (value K e values) (im w), no_coefficient K F rest (im w) (λ c. not_below_self O L (im w) (below (im w) c)),
-            zero-plus K F (coefficient K (value K e values) (im w)), coefficient_value K F (value K e values) (im w), top_leads.1),
+        cc (minus_back K F b (value K e values) (im w), coefficient-append K F rest (value K e values) (im w), no_coefficient K F rest (im w) (λ c. not_below_self O L (im w) (below (im w) c)), zero-plus K F (coefficient K (value K e values) (im w)), coefficient_value K F (value K e values) (im w), top_leads.1),
       )
 
   -- sums of irreducible s-words with congruent values are equal
