@@ -61,13 +61,7 @@ module _ {E : Type 0} (K : FieldOps E) (F : IsField K) where
   moved : (d e x y r : E) → K.plus (K.times d x) (K.plus (K.times e y) r) ≡ K.plus (K.times (K.plus d e) y) (K.plus (K.times d (K.plus x (K.negate y))) r)
   moved d e x y r =
       let n = K.negate (K.times d y) in
-      simp (F.times_plus, plus-times K F, times-negate K F, F.plus_assoc) (cc (
-        plus_swap K F (K.times e y) (K.times d x) (K.plus n r),
-        plus_swap K F (K.times d y) (K.times d x) (K.plus (K.times e y) (K.plus n r)),
-        plus_swap K F (K.times e y) n r,
-        plus_negate_cancel (K.times d y) (K.plus (K.times e y) r),
-        F.plus_value (K.times e y) r,
-      ))
+      simp (F.times_plus, plus-times K F, times-negate K F, F.plus_assoc) (cc (plus_swap K F (K.times e y) (K.times d x) (K.plus n r), plus_swap K F (K.times d y) (K.times d x) (K.plus (K.times e y) (K.plus n r)), plus_swap K F (K.times e y) n r, plus_negate_cancel (K.times d y) (K.plus (K.times e y) r), F.plus_value (K.times e y) r))
 
   sum_swap : (A S T R : Polynomial E) → Same K S (T ++ R) → Same K (A ++ S) (T ++ (A ++ R))
   sum_swap A S T R h m = simp (coefficient-append K F, h) (plus_swap K F (coefficient K A m) (coefficient K T m) (coefficient K R m))
@@ -205,16 +199,7 @@ module _ {E : Type 0} (K : FieldOps E) (F : IsField K) (O : MonomialOrder) (L : 
           sums = λ m.
               let x = coefficient K (scaled K (term_of s.term.at K.one) s.of) m in
               let y = coefficient K (scaled K (term_of r.by K.one) r.member) m in
-              simp (
-                coefficient-append K F,
-                r.sums,
-                coefficient-scaled K F,
-                coefficient-negated K F,
-                coefficient-front K F s.term.at s.term.by s.of m k.0.value,
-                coefficient-front K F r.by r.front r.member m r.value,
-                coefficient-front K F r.by (K.plus s.term.by r.front) r.member m (F.plus_value s.term.by r.front),
-              )
-              (moved K F s.term.by r.front x y (coefficient K r.rest m));
+              simp (coefficient-append K F, r.sums, coefficient-scaled K F, coefficient-negated K F, coefficient-front K F s.term.at s.term.by s.of m k.0.value, coefficient-front K F r.by r.front r.member m r.value, coefficient-front K F r.by (K.plus s.term.by r.front) r.member m (F.plus_value s.term.by r.front)) (moved K F s.term.by r.front x y (coefficient K r.rest m));
         }
           where
             difference : Polynomial E
@@ -247,9 +232,8 @@ module _ {E : Type 0} (K : FieldOps E) (F : IsField K) (O : MonomialOrder) (L : 
           where
             none : (r : IsGathered M (sum_of_steps K h.steps)) → r.front ≡ K.zero → IsLed a m
             none r z = lower M w ih a (combines_same K F O L G (Under O M) r.rest a (λ n.
-                sym (h.sums n ∙ (r.sums n ∙ (coefficient-append K F (scaled K (term_of r.by r.front) r.member) r.rest n ∙
-                (ap (λ x. K.plus x (coefficient K r.rest n)) (coefficient-front K F r.by r.front r.member n r.value ∙ (ap (λ x. K.times x (coefficient K (scaled K (term_of r.by K.one) r.member) n)) z ∙ zero-times K F (coefficient K (scaled K (term_of r.by K.one) r.member) n))) ∙
-                (zero-plus K F (coefficient K r.rest n) ∙ coefficient_value K F r.rest n)))))) r.under) m lead_m
+                let x = coefficient K (scaled K (term_of r.by K.one) r.member) n in
+                cc (h.sums n, r.sums n, coefficient-append K F (scaled K (term_of r.by r.front) r.member) r.rest n, coefficient-front K F r.by r.front r.member n r.value, z, zero-times K F x, zero-plus K F (coefficient K r.rest n), coefficient_value K F r.rest n)) r.under) m lead_m
 
             some : (r : IsGathered M (sum_of_steps K h.steps)) → r.front ≢ K.zero → IsLed a m
             some r nz =

@@ -35,11 +35,8 @@ module _ {E : Type 0} where
 
   pub same_state : (q q' : QuotientState E) → q'.degree ≡ q.degree → q'.leads ≡ q.leads → q'.members ≡ q.members → q'.pairs ≡ q.pairs → q'.closed ≡ q.closed → q' ≡ q
   same_state q q' d l m p c =
-      ap (λ x. record { degree = x; leads = q'.leads; members = q'.members; pairs = q'.pairs; closed = q'.closed }) d ∙
-      (ap (λ x. record { degree = q.degree; leads = x; members = q'.members; pairs = q'.pairs; closed = q'.closed }) l ∙
-      (ap (λ x. record { degree = q.degree; leads = q.leads; members = x; pairs = q'.pairs; closed = q'.closed }) m ∙
-      (ap (λ x. record { degree = q.degree; leads = q.leads; members = q.members; pairs = x; closed = q'.closed }) p ∙
-      ap (λ x. record { degree = q.degree; leads = q.leads; members = q.members; pairs = q.pairs; closed = x }) c)))
+      let e : record { degree = q'.degree; leads = q'.leads; members = q'.members; pairs = q'.pairs; closed = q'.closed } ≡ record { degree = q.degree; leads = q.leads; members = q.members; pairs = q.pairs; closed = q.closed } = cc in
+      e
 
   -- cut to their lengths, the lists are what they were
   pub restored : (q q1 v q' : QuotientState E) → IsExtension q q1 → v ≡ q1 → (n k : ℕ) → n ≡ length q.members → length q.leads ≡ length q.members → k ≡ length q.pairs →

@@ -73,12 +73,7 @@ module _ {E : Type 0} (P : Presented E) (H : IsPresentation P) (G : List (Polyno
           (λ m.
           let x = coefficient P.field n m in
           let f = first_coefficient P.field rest in
-          coefficient-constant_times P.field H.field (P.field.reduce c) rest m ∙
-          (reduce-times P.field H.field c (coefficient P.field rest m) ∙
-          (ap (P.field.times c) (multiple m) ∙
-          (sym (H.field.times_assoc c f x) ∙
-          (ap (λ y. P.field.times y x) (H.field.times_comm c f ∙ e) ∙
-          (one-times P.field H.field x ∙ coefficient_value P.field H.field n m))))))
+          cc (coefficient-constant_times P.field H.field (P.field.reduce c) rest m, reduce-times P.field H.field c (coefficient P.field rest m), multiple m, H.field.times_assoc c f x, H.field.times_comm c f, e, one-times P.field H.field x, coefficient_value P.field H.field n m))
           (InIdeal_times P.field H.field P.order.places P.ideal (constant P.field (P.field.reduce c)) rest (IsTerm_constant P.field H.field P.order.places (P.field.reduce c) reduced, tt) rest_inside)
         where
           reduced : IsValue P.field (P.field.reduce c)

@@ -13,6 +13,9 @@ use Rattle.quotient_gb.specs.DegreeStep.{IsPart}
 pub below_stop : (k n i : ℕ) → k < n → n ≤ i → k < i
 below_stop k n i h l = omega arith
 
+pub not_below_zero : (k : ℕ) → k < 0 → ⊥
+not_below_zero k l = omega arith
+
 pub not_below : (n k : ℕ) → (n ≤ k → ⊥) → k < n
 not_below n k h = omega arith
 

@@ -1,20 +1,20 @@
 -- The steps of reducing a polynomial by a list.
-use Rattle.std.proofs.Common.{◌≡◌, ◌≢◌, ℕ, suc, ◌<◌, refl, sym, ◌∙◌, ap, subst, List, [], ◌∷◌, ◌++◌, ◌⊎◌, inl, inr, ⊎_elim, arith, append-nil, append_assoc, cond}
-use Rattle.polynomials.specs.laws.Coefficients.{single_term, scaled_small, append_nonzero}
+use Rattle.std.proofs.Common.{◌≡◌, ◌≢◌, ℕ, suc, ◌<◌, refl, sym, ◌∙◌, ap, subst, List, [], ◌∷◌, ◌++◌, ◌⊎◌, inl, inr, ⊎_elim, arith, append-nil, cond}
+use Rattle.polynomials.specs.laws.Coefficients.{nothing_at, single_term, scaled_small, append_nonzero}
 use Rattle.std.specs.Prelude.{Contains}
-use Rattle.std.specs.declared.cmp.Ordering.TheVariants.{Less, Equal, Greater}
+use Rattle.std.specs.declared.cmp.Ordering.TheVariants.{Less}
 use Rattle.word_field.specs.Field.{FieldOps, IsField, IsValue}
-use Rattle.word_field.specs.laws.Field.{negate-zero, plus_four, negate-negate}
+use Rattle.word_field.specs.laws.Field.{negate-plus, negate-zero, plus_four, negate-negate}
 use Rattle.monomial_order.specs.declared.terms.Term.{Term}
 use Rattle.monomial_order.specs.Monomial.{product, IsMonomial, IsTrimmed, Exponents}
 use Rattle.monomial_order.specs.MonomialOrder.{MonomialOrder, IsMonomialOrder}
 use Rattle.monomial_order.specs.laws.Monomial.{product_comm}
 use Rattle.polynomials.specs.Polynomial.{Polynomial, coefficient, Same, term_of, scaled, negated, minus, IsTerm, IsBelow, IsDecreasing, IsLead, IsSmall, IsCanonical, AllAt, lead_monomial}
 use Rattle.polynomials.specs.laws.Ring.{coefficient-append}
-use Rattle.polynomials.specs.laws.Same.{same_refl, append_same, append_comm, coefficient-negated, minus_self}
+use Rattle.polynomials.specs.laws.Same.{same_refl, coefficient-negated, minus_self}
 use Rattle.polynomials.specs.laws.Decreasing.{IsDecreasing_IsPoly, IsLead_first, coefficient_first}
-use Rattle.monomial_order.specs.laws.Comparing.{not_below_self, greater_less}
-use Rattle.polynomials.specs.laws.Congruence.{minus_same, minus-append}
+use Rattle.monomial_order.specs.laws.Comparing.{equal_or_not}
+use Rattle.polynomials.specs.laws.Congruence.{minus_same}
 use Rattle.monomial_order.specs.laws.Rank.{rank, rank_falls}
 use Rattle.polynomials.specs.laws.Degrees.{decreasing_all}
 use Rattle.quotient_gb.specs.Combinations.{HasLeadDivisor, AtMost, Combines}
@@ -124,14 +124,8 @@ module _ {E : Type 0} (K : FieldOps E) (F : IsField K) (O : MonomialOrder) (L : 
       let l = rank_falls O L s.at t.at kr.decreasing.0.term.monomial b.0 in omega arith
 
   at_most_lead : (p : Polynomial E) → IsDecreasing K O p → (n : Exponents) → coefficient K p n ≢ K.zero → AtMost O (lead_monomial p) n
-  unfolding coefficient
-  at_most_lead [] h n k = absurd (k refl)
-  at_most_lead (t ∷ p) h n k =
-      elim (O.compare n t.at) as (λ o. O.compare n t.at ≡ o → AtMost O t.at n) [
-        | Less ↦ λ e. inr e
-        | Equal ↦ λ e. inl (L.equal n t.at e)
-        | Greater ↦ λ e. inr ((IsLead_first K F O L t p h).greatest n k (λ q. not_below_self O L t.at (subst (λ x. O.compare t.at x ≡ Less) q (greater_less O L n t.at e))))
-      ] refl
+  at_most_lead [] h n k = absurd (k (sym (nothing_at K n)))
+  at_most_lead (t ∷ p) h n k = ⊎_elim inl (λ ne. inr ((IsLead_first K F O L t p h).greatest n k ne)) (equal_or_not n t.at)
 
   -- a list below the lead of what is at most M is at most M
   lower : (M m : Exponents) (r : Polynomial E) → AtMost O M m → IsBelow K O m r → AllAt (AtMost O M) r
@@ -161,10 +155,7 @@ module _ {E : Type 0} (K : FieldOps E) (F : IsField K) (O : MonomialOrder) (L : 
         let top = lead_at_most (lead_monomial p) work some h.at_most in
         record {
           combines = combines_same K F O L G (AtMost O (lead_monomial p)) (minus K p (work ++ done) ++ negated K S) (minus K p (next ++ done))
-              (λ m. sym (minus_same K F p (p ++ []) (next ++ done) ((work ++ done) ++ S) (λ n. ap (λ x. coefficient K x n) (sym (append-nil p)))
-              (λ n. append_same K F next (work ++ S) done done same (λ i. refl) n ∙
-              (ap (λ x. coefficient K x n) (append_assoc work S done) ∙ (append_same K F work work (S ++ done) (done ++ S) (λ i. refl) (append_comm K F S done) n ∙ ap (λ x. coefficient K x n) (sym (append_assoc work done S))))) m ∙
-              minus-append K F p [] (work ++ done) S m))
+              (λ m. simp (coefficient-append K F, coefficient-negated K F, same, negate-plus K F, F.plus_assoc, F.plus_comm (K.negate (coefficient K done m)) (K.negate (coefficient K S m))))
               (combines_plus K F O L G (AtMost O (lead_monomial p)) (minus K p (work ++ done)) (negated K S) h.combines
               (combines_negated K F O L G (monomials K F O L G HG) (AtMost O (lead_monomial p)) S
               (combines_one K F O L G (AtMost O (lead_monomial p)) s g ht hg (subst (AtMost O (lead_monomial p)) (sym at) top))));

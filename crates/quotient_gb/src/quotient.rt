@@ -170,8 +170,8 @@ impl<F: Field, O: Order> Quotient<F, O> {
         ensures canonical { IfOk result (IsCanonicalIn (presented F.ops O.order p.now)) }
         ensures normal { IfOk result (IsNormalForm (presented F.ops O.order p.now) a.now) }
         ensures degree { IfOk result (λ b. degree_of (O.order p.now.order) b ≤ degree_of (O.order p.now.order) a.now) }
-        ensures homogeneous { let K = F.ops p.now.field in let order = O.order p.now.order in IfOk result (λ b. (d : ℕ) →
-            IsHomogeneous K order d a.now → (b ≡ []) ⊎ IsHomogeneous K order d b) }
+        ensures homogeneous { let K = F.ops p.now.field in let order = O.order p.now.order in
+            IfOk result (λ b. (d : ℕ) → IsHomogeneous K order d a.now → (b ≡ []) ⊎ IsHomogeneous K order d b) }
     {
         let rest = remainder_by(alloc, p, &self.basis, a)?;
         Ok(rest)

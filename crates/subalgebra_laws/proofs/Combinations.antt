@@ -93,9 +93,7 @@ module _ {E : Type 0} (P : Presented E) (H : IsPresentation P) (S : List (Polyno
   unfolding coefficient
   value_at w [] hp u = refl
   value_at w (t ∷ e) hp u =
-      coefficient-append K F (term_value K values t) (value K e values) (im w) ∙
-      (ap (λ x. K.plus x (coefficient K (value K e values) (im w))) (coefficient-constant_times K F t.by (word_value P S t.at) (im w) ∙ ⊎_elim same less u.0) ∙
-      ap (K.plus (share K w t)) (value_at w e hp.1 u.1))
+      simp (coefficient-append K F (term_value K values t) (value K e values) (im w), coefficient-constant_times K F t.by (word_value P S t.at) (im w), ⊎_elim same less u.0, value_at w e hp.1 u.1)
     where
       same : t.at ≡ w → K.times t.by (coefficient K (word_value P S t.at) (im w)) ≡ share K w t
       same e = subst (λ x. K.times t.by (coefficient K (word_value P S t.at) (im x)) ≡ share K x t) e
@@ -176,9 +174,7 @@ module _ {E : Type 0} (P : Presented E) (H : IsPresentation P) (S : List (Polyno
       pub top_leads_normal_form : IsLead K O b (im w) × (coefficient K b (im w) ≡ coefficient K e w)
       top_leads_normal_form = (
         IsLead_same K F O L (rest ++ value K e values) b (im w) (minus_back K F b (value K e values)) (lead_sum_right K F O L rest (value K e values) (im w) top_leads.0 below),
-        sym (minus_back K F b (value K e values) (im w)) ∙ (coefficient-append K F rest (value K e values) (im w) ∙
-            (ap (λ x. K.plus x (coefficient K (value K e values) (im w))) (no_coefficient K F rest (im w) (λ c. not_below_self O L (im w) (below (im w) c))) ∙
-            (zero-plus K F (coefficient K (value K e values) (im w)) ∙ (coefficient_value K F (value K e values) (im w) ∙ top_leads.1)))),
+        cc (minus_back K F b (value K e values) (im w), coefficient-append K F rest (value K e values) (im w), no_coefficient K F rest (im w) (λ c. not_below_self O L (im w) (below (im w) c)), zero-plus K F (coefficient K (value K e values) (im w)), coefficient_value K F (value K e values) (im w), top_leads.1),
       )
 
   -- sums of irreducible s-words with congruent values are equal

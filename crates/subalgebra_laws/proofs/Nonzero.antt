@@ -1,6 +1,5 @@
 -- Polynomials alone: which coefficients of sums, multiples and components are nonzero, and their leads.
-use Rattle.std.proofs.Common.{◌≡◌, ◌≢◌, ℕ, refl, sym, ◌∙◌, ap, subst, List, [], ◌∷◌, ◌++◌, ⊎_elim, cond, true, false}
-use Rattle.std.specs.Prelude.{nat_eq}
+use Rattle.std.proofs.Common.{◌≡◌, ◌≢◌, ℕ, refl, sym, ◌∙◌, ap, subst, List, [], ◌∷◌, ⊎_elim, true, false}
 use Rattle.std.specs.declared.cmp.Ordering.TheVariants.{Less}
 use Rattle.word_field.specs.Field.{FieldOps, IsField, IsValue}
 use Rattle.word_field.specs.laws.Field.{times-zero, negate-zero, negate-negate}
@@ -8,11 +7,10 @@ use Rattle.monomial_order.specs.declared.terms.Term.{Term}
 use Rattle.monomial_order.specs.Monomial.{product}
 use Rattle.monomial_order.specs.MonomialOrder.{MonomialOrder, IsMonomialOrder}
 use Rattle.monomial_order.specs.laws.Comparing.{not_below_self, equal_or_not}
-use Rattle.polynomials.specs.Polynomial.{Polynomial, same_monomial, coefficient, term_of, scaled, times, negated, minus, constant, component, AllAt, IsLead}
+use Rattle.polynomials.specs.Polynomial.{Polynomial, same_monomial, coefficient, scaled, times, negated, minus, constant, AllAt, IsLead}
 use Rattle.polynomials.specs.laws.Ring.{coefficient_value}
 use Rattle.polynomials.specs.laws.Same.{same_true, coefficient-negated}
 use Rattle.polynomials.specs.laws.Value.{coefficient-constant_times}
-use Rattle.polynomials.specs.laws.Degrees.{component-append}
 use Rattle.polynomials.specs.laws.Coefficients.{minus_nonzero, no_coefficient}
 use Rattle.polynomials.specs.laws.Terms.{AllAt-append}
 use Rattle.polynomials.specs.laws.Congruence.{coefficient-minus}
@@ -35,16 +33,6 @@ module _ {E : Type 0} (K : FieldOps E) where
   AllAt-times A B Q f [] q h k = tt
   AllAt-times A B Q f (t ∷ p) q h k =
       AllAt-append Q (scaled K t q) (times K p q) (AllAt-scaled Q t q (AllAt-map B (λ n. Q (product t.at n)) (λ n. f t.at n h.0) q k)) (AllAt-times A B Q f p q h.1 k)
-
-  -- the component of a difference
-  pub component-minus : (O : MonomialOrder) (d : ℕ) (p q : Polynomial E) → component O d (minus K p q) ≡ minus K (component O d p) (component O d q)
-  component-minus O d p q = component-append O d p (negated K q) ∙ ap (λ x. component O d p ++ x) (negated_part q)
-    where
-      negated_part : (q : Polynomial E) → component O d (negated K q) ≡ negated K (component O d q)
-      negated_part [] = refl
-      negated_part (t ∷ q) =
-          ap (λ x. cond (nat_eq (O.degree t.at) d) (term_of t.at (K.negate t.by) ∷ x) x) (negated_part q) ∙
-          elim (nat_eq (O.degree t.at) d) as (λ b. cond b (term_of t.at (K.negate t.by) ∷ negated K (component O d q)) (negated K (component O d q)) ≡ negated K (cond b (t ∷ component O d q) (component O d q))) [ true ↦ refl | false ↦ refl ]
 
 module _ {E : Type 0} (K : FieldOps E) (F : IsField K) where
   pub negated_nonzero : (p : Polynomial E) (m : List ℕ) → coefficient K (negated K p) m ≢ K.zero → coefficient K p m ≢ K.zero
@@ -79,7 +67,6 @@ module _ {E : Type 0} (K : FieldOps E) (F : IsField K) (O : MonomialOrder) (L : 
       (n : List ℕ) → coefficient K (minus K a (times K (constant K f) b)) n ≢ K.zero → O.compare n m ≡ Less
   lowered a b m f la lb e n k =
       ⊎_elim
-      (λ same. absurd (k (ap (coefficient K (minus K a (times K (constant K f) b))) same ∙
-      (coefficient-minus K F a (times K (constant K f) b) m ∙ (ap (λ x. K.plus (coefficient K a m) (K.negate x)) (coefficient-constant_times K F f b m ∙ e) ∙ F.plus_negate (coefficient K a m))))))
+      (λ same. absurd (k (ap (coefficient K (minus K a (times K (constant K f) b))) same ∙ simp (coefficient-minus K F, coefficient-constant_times K F f b m, e, F.plus_negate))))
       (λ ne. ⊎_elim (λ na. la.greatest n na ne) (λ nb. lb.greatest n (multiple_nonzero K F f b n nb) ne) (minus_nonzero K F a (times K (constant K f) b) n k))
       (equal_or_not n m)

@@ -147,14 +147,11 @@ module _ {E : Type 0} (P : Presented E) (H : IsPresentation P) where
   linear_at m [] S i lc l v one h = absurd (omega arith)
   linear_at m (c ∷ cs) [] i lc l v one h = absurd (omega arith)
   linear_at m (c ∷ cs) (s ∷ S) zero lc l v one h =
-      coefficient-append K F (times K (constant K c) s) (linear_sum P cs S) m ∙
-      (ap (λ x. K.plus x (coefficient K (linear_sum P cs S) m)) (coefficient-constant_times K F c s m ∙ (ap (K.times c) one ∙ (F.times_one c ∙ v))) ∙
-      (ap (K.plus c) (linear_zero m cs S (λ j k. h (suc j) (omega arith) (λ e. cc))) ∙ (F.plus_zero c ∙ v)))
+      simp (coefficient-append K F (times K (constant K c) s) (linear_sum P cs S) m, coefficient-constant_times K F c s m, one, F.times_one, v, linear_zero m cs S (λ j k. h (suc j) (omega arith) (λ e. cc)), F.plus_zero)
   linear_at m (c ∷ cs) (s ∷ S) (suc i) lc l v one h =
-      coefficient-append K F (times K (constant K c) s) (linear_sum P cs S) m ∙
-      (ap (λ x. K.plus x (coefficient K (linear_sum P cs S) m)) (no_coefficient K F (times K (constant K c) s) m (λ k. multiple_nonzero K F c s m k (h 0 (omega arith) (λ e. cc)))) ∙
-      (zero-plus K F (coefficient K (linear_sum P cs S) m) ∙ (coefficient_value K F (linear_sum P cs S) m ∙
-      linear_at m cs S i (omega arith) (omega arith) v one (λ j k n. h (suc j) (omega arith) (λ e. n (let z : j ≡ i = cc in z))))))
+      let none = no_coefficient K F (times K (constant K c) s) m (λ k. multiple_nonzero K F c s m k (h 0 (omega arith) (λ e. cc))) in
+      let rest = linear_at m cs S i (omega arith) (omega arith) v one (λ j k n. h (suc j) (omega arith) (λ e. n (let z : j ≡ i = cc in z))) in
+      simp (coefficient-append K F (times K (constant K c) s) (linear_sum P cs S) m, none, zero-plus K F, coefficient_value K F) rest
 
   pub leads_determine : (S : List (Polynomial E)) → AreMonicElements P S → LeadsDetermineLinearSums P S
   leads_determine S HS reduced cs i lc l v =

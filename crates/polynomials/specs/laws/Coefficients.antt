@@ -9,7 +9,7 @@ use Rattle.monomial_order.specs.MonomialOrder.{MonomialOrder, IsMonomialOrder}
 use Rattle.monomial_order.specs.laws.Comparing.{not_below_self, degree_falls}
 use Rattle.polynomials.specs.Polynomial.{Polynomial, same_monomial, coefficient, Same, term_of, scaled, times, negated, minus, constant, IsTerm, IsPoly, IsBelow, IsLead, IsSmall, IsDecreasing, AllAt, lead_monomial}
 use Rattle.polynomials.specs.laws.Ring.{coefficient_value, coefficient-append, times_comm}
-use Rattle.polynomials.specs.laws.Same.{same_true, append_comm}
+use Rattle.polynomials.specs.laws.Same.{same_true, append_comm, coefficient-negated}
 use Rattle.polynomials.specs.laws.Value.{one_times}
 use Rattle.polynomials.specs.laws.Canonical.{IsLead_same}
 use Rattle.polynomials.specs.laws.Ideal.{IsPoly-append, IsPoly-negated}
@@ -60,11 +60,8 @@ module _ {E : Type 0} (K : FieldOps E) (F : IsField K) where
   -- what was taken away is put back
   pub minus_back : (a x : Polynomial E) → Same K (minus K a x ++ x) a
   minus_back a x m =
-      coefficient-append K F (minus K a x) x m ∙
-      (ap (λ y. K.plus y (coefficient K x m)) (coefficient-minus K F a x m) ∙
-      (F.plus_assoc (coefficient K a m) (K.negate (coefficient K x m)) (coefficient K x m) ∙
-      (ap (K.plus (coefficient K a m)) (F.plus_comm (K.negate (coefficient K x m)) (coefficient K x m) ∙ F.plus_negate (coefficient K x m)) ∙
-      (F.plus_zero (coefficient K a m) ∙ coefficient_value K F a m))))
+      let y = coefficient K x m in
+      simp (coefficient-append K F, coefficient-negated K F, F.plus_assoc, F.plus_comm (K.negate y) y, F.plus_negate, F.plus_zero, coefficient_value K F)
 
 module _ {E : Type 0} (K : FieldOps E) (F : IsField K) (O : MonomialOrder) (L : IsMonomialOrder O) where
   -- the lead of a sum, if the second part is below it

@@ -8,7 +8,7 @@ use Rattle.monomial_order.specs.declared.terms.Term.{Term}
 use Rattle.monomial_order.specs.laws.Lists.{contains_cases, contains_none}
 use Rattle.monomial_order.specs.Monomial.{Exponents, weighted_degree}
 use Rattle.monomial_order.specs.MonomialOrder.{MonomialOrder, IsMonomialOrder}
-use Rattle.polynomials.specs.Polynomial.{Polynomial, same_monomial, coefficient, Same, times, scaled, constant, IsPoly, IsDecreasing, IsLead, IsHomogeneous, IsComponent, AllAt, component}
+use Rattle.polynomials.specs.Polynomial.{Polynomial, same_monomial, coefficient, Same, times, scaled, constant, term_of, negated, minus, IsPoly, IsDecreasing, IsLead, IsHomogeneous, IsComponent, AllAt, component}
 use Rattle.polynomials.specs.Ideal.{Multiple, AreMultiples, sum_of, InIdeal}
 use Rattle.polynomials.specs.Value.{power, monomial_value}
 use Rattle.polynomials.specs.Subalgebra.{IsGenerator, AreGenerators}
@@ -57,6 +57,17 @@ module _ {E : Type 0} where
       by_test : (b : Bool) → IsPoly K n (picked O k d p) → IsPoly K n (cond b (t ∷ picked O k d p) (picked O k d p))
       by_test true r = (h.0, r)
       by_test false r = r
+
+module _ {E : Type 0} (K : FieldOps E) where
+  -- the component of a difference
+  pub component-minus : (O : MonomialOrder) (d : ℕ) (p q : Polynomial E) → component O d (minus K p q) ≡ minus K (component O d p) (component O d q)
+  component-minus O d p q = component-append O d p (negated K q) ∙ ap (λ x. component O d p ++ x) (negated_part q)
+    where
+      negated_part : (q : Polynomial E) → component O d (negated K q) ≡ negated K (component O d q)
+      negated_part [] = refl
+      negated_part (t ∷ q) =
+          ap (λ x. cond (nat_eq (O.degree t.at) d) (term_of t.at (K.negate t.by) ∷ x) x) (negated_part q) ∙
+          elim (nat_eq (O.degree t.at) d) as (λ b. cond b (term_of t.at (K.negate t.by) ∷ negated K (component O d q)) (negated K (component O d q)) ≡ negated K (cond b (t ∷ component O d q) (component O d q))) [ true ↦ refl | false ↦ refl ]
 
 pub generator_of : {E : Type 0} (K : FieldOps E) (O : MonomialOrder) (rs : List (Polynomial E)) → AreGenerators K O rs → (r : Polynomial E) → Contains rs r → IsGenerator K O r
 generator_of K O [] h r k = absurd (contains_none r k)

@@ -12,8 +12,8 @@ use Rattle.monomial_order.specs.laws.Monomial.{product_comm}
 use Rattle.monomial_order.specs.MonomialOrder.{MonomialOrder}
 use Rattle.polynomials.specs.Polynomial.{Polynomial, coefficient, Same, term_of, times, scaled, negated, minus, component, IsTerm, IsPoly, IsLead, IsHomogeneous}
 use Rattle.polynomials.specs.Subalgebra.{HasHomogeneousLead, Presented, IsPresentation, LeadsIdeal, IsDecidedTo, AreZerosTo, HasDegreesTo, IsNormalForm}
-use Rattle.polynomials.specs.laws.Ring.{coefficient_value}
-use Rattle.polynomials.specs.laws.Same.{times_same}
+use Rattle.polynomials.specs.laws.Ring.{coefficient_value, coefficient-append}
+use Rattle.polynomials.specs.laws.Same.{times_same, coefficient-negated}
 use Rattle.polynomials.specs.laws.Decreasing.{IsLead_first, IsLead_unique}
 use Rattle.polynomials.specs.laws.Canonical.{canonical, IsCanonicalForm, IsLead_same, zero_or_lead}
 use Rattle.polynomials.specs.laws.Ideal.{IsPoly-append, IsPoly-negated, IsPoly-times, InIdeal_same, InIdeal_times}
@@ -144,10 +144,7 @@ module _ {E : Type 0} (P : Presented E) (H : IsPresentation P) where
         same n = coefficient-component K F O L d (minus K b a) n ∙ (by_test (nat_eq (O.degree n) d) refl ∙ sym (coefficient-component K F O L d b n))
           where
             by_test : (t : Bool) → nat_eq (O.degree n) d ≡ t → cond t (coefficient K (minus K b a) n) K.zero ≡ cond t (coefficient K b n) K.zero
-            by_test true e =
-                coefficient-minus K F b a n ∙
-                (ap (λ x. K.plus (coefficient K b n) (K.negate x)) (none n (eqb-true (O.degree n) d e)) ∙
-                (ap (K.plus (coefficient K b n)) (negate-zero K F) ∙ (F.plus_zero (coefficient K b n) ∙ coefficient_value K F b n)))
+            by_test true e = simp (coefficient-append K F, coefficient-negated K F, none n (eqb-true (O.degree n) d e), negate-zero K F, F.plus_zero, coefficient_value K F)
             by_test false e = refl
 
         no_lead : (n : Exponents) → IsLead K O part n → ⊥
