@@ -75,8 +75,7 @@ impl<F: Field, O: Order> Quotient<F, O> {
         ensures reached { c ≤ self.old.degree → IsOk result }
         ensures unchanged { c ≤ self.old.degree → self.new ≡ self.old }
         ensures closed { self.new.closed ≡ self.old.closed }
-        ensures known { self.old.closed ≡ true → IsOk result }
-        ensures cheap { self.old.closed ≡ true → self.new ≡ with_degree (max self.old.degree c) self.old }
+        ensures known { self.old.closed ≡ true → IsOk result × (self.new ≡ with_degree (max self.old.degree c) self.old) }
         ensures memory { OnErr result (self.new ≡ self.old) }
     {
         let degree = self.degree;
@@ -207,7 +206,8 @@ impl<F: Field, O: Order> Quotient<F, O> {
             IsClosed (presented F.ops O.order p.now) self.old.degree self.old.leads) }
         ensures no { IfOk result (λ r. r ≡ false → HasGeneratorAbove (presented F.ops O.order p.now) self.old.degree ⊎
             HasOtherLead (presented F.ops O.order p.now) self.old.leads) }
-        ensures known { IfOk result (λ r. self.new ≡ with_closed r self.old) }
+        ensures state { IfOk result (λ r. self.new ≡ with_closed r self.old) }
+        ensures known { self.old.closed ≡ true → IsOk result }
         ensures memory { OnErr result (self.new ≡ self.old) }
     {
         if self.closed {
