@@ -1,20 +1,20 @@
 -- What the calls on polynomials rest on.
 use Rattle.std.proofs.Common.{◌≡◌, ◌≢◌, ℕ, zero, suc, ◌<◌, ◌≤◌, refl, sym, ◌∙◌, ap, subst, List, [], ◌∷◌, ◌++◌, length, get_or, cond, Bool, true, false, inr, ⊎_elim, append-nil, arith}
 use Rattle.std.specs.Prelude.{All}
-use Rattle.std.proofs.lemmas.Bool.{eq-eqb, true≢false}
+use Rattle.std.proofs.lemmas.Bool.{true≢false}
 use Rattle.std.specs.declared.cmp.Ordering.TheVariants.{Less, Equal, Greater}
 use Rattle.word_field.specs.Field.{FieldOps, IsField, IsValue}
 use Rattle.word_field.specs.laws.Field.{zero-times, times-zero, zero-plus-zero, one-times, negate-zero, negate-negate}
 use Rattle.monomial_order.specs.declared.terms.Term.{Term}
 use Rattle.monomial_order.specs.MonomialOrder.{MonomialOrder, IsMonomialOrder}
 use Rattle.monomial_order.specs.laws.Comparing.{degree_falls, greater_less}
-use Rattle.polynomials.specs.Polynomial.{Polynomial, same_monomial, coefficient, Same, term_of, scaled, negated, minus, constant, component, first_coefficient, AllAt, IsCanonical, IsDecreasing, IsZeroOrHomogeneous, IsDegree, IsComponent}
+use Rattle.polynomials.specs.Polynomial.{Polynomial, same_monomial, coefficient, Same, term_of, scaled, negated, minus, constant, first_coefficient, AllAt, IsCanonical, IsDecreasing, IsZeroOrHomogeneous, IsDegree}
 use Rattle.polynomials.specs.laws.Ring.{coefficient_value}
 use Rattle.polynomials.specs.laws.Same.{append_same}
 use Rattle.polynomials.specs.laws.Value.{coefficient-scaled}
 use Rattle.polynomials.specs.laws.Congruence.{negated_is}
 use Rattle.polynomials.specs.laws.Decreasing.{coefficient_first, coefficient_above}
-use Rattle.polynomials.specs.laws.Degrees.{differs, coefficient-component, decreasing_all, all_found}
+use Rattle.polynomials.specs.laws.Degrees.{decreasing_all, all_found}
 use Rattle.polynomials.specs.laws.ReducedBasis.{degree_one}
 
 -- each item, and each term's monomial
@@ -73,12 +73,6 @@ module _ {E : Type 0} (K : FieldOps E) (F : IsField K) where
   module _ (O : MonomialOrder) (L : IsMonomialOrder O) where
     first_nonzero : (t : Term E) (p : Polynomial E) → IsDecreasing K O (t ∷ p) → coefficient K (t ∷ p) t.at ≢ K.zero
     first_nonzero t p h e = h.0.nonzero (sym (coefficient_first K F O L t p h.0) ∙ e)
-
-    pub component_is : (d : ℕ) (a : Polynomial E) → IsComponent K O d a (component O d a)
-    component_is d a = record {
-      inside = λ m e. coefficient-component K F O L d a m ∙ ap (λ b. cond b (coefficient K a m) K.zero) (eq-eqb (O.degree m) d e);
-      outside = λ m n. coefficient-component K F O L d a m ∙ ap (λ b. cond b (coefficient K a m) K.zero) (differs (O.degree m) d n);
-    }
 
     -- the first term has the greatest degree
     pub first_degree : (a : Polynomial E) (t : Term E) (rest : Polynomial E) → a ≡ t ∷ rest → IsDecreasing K O a → IsDegree K O (O.degree t.at) a

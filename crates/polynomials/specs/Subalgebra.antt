@@ -1,7 +1,7 @@
 -- The subalgebra that a list of polynomials generates modulo an ideal, and its reduced basis to a degree.
 use Rattle.std.specs.Prelude.{◌≡◌, ◌≢◌, ℕ, ◌≤◌, ◌⊎◌, List, [], ◌∷◌, ◌++◌, length, map, Contains}
 use Rattle.word_field.specs.Field.{FieldOps, IsField}
-use Rattle.monomial_order.specs.Monomial.{Exponents, product, IsMonomial}
+use Rattle.monomial_order.specs.Monomial.{Exponents, product, IsMonomial, Divides}
 use Rattle.monomial_order.specs.MonomialOrder.{IsIncreasing, MonomialOrder, IsMonomialOrder}
 use Rattle.polynomials.specs.Polynomial.{Polynomial, coefficient, IsPoly, IsLead, IsHomogeneous, IsDecreasing, lead_monomial, minus}
 use Rattle.polynomials.specs.Ideal.{InIdeal}
@@ -65,6 +65,21 @@ module _ {E : Type 0} (P : Presented E) where
   pub record IsStandard (m : Exponents) : Type 0 where
     pub monomial : IsMonomial P.order.places m
     pub no_lead : ¬ LeadsIdeal m
+
+  -- of each monomial of degree at most c it is known that it leads a member of the ideal, or that it leads none
+  abbrev pub IsDecidedTo : ℕ → Type 0
+  IsDecidedTo c = (m : Exponents) →
+      IsMonomial P.order.places m → P.order.degree m ≤ c → LeadsIdeal m ⊎ (LeadsIdeal m → ⊥)
+
+  -- zeros are leads of members of the ideal, and divide each such lead of degree at most c
+  pub record AreZerosTo (c : ℕ) (zeros : List Exponents) : Type 0 where
+    pub lead : (n : Exponents) → Contains zeros n → LeadsIdeal n
+    pub divide : (m : Exponents) → LeadsIdeal m → P.order.degree m ≤ c →
+        (n : Exponents) × Contains zeros n × Divides n m
+
+  -- each monomial of a has a degree of at most d
+  abbrev pub HasDegreesTo : ℕ → Polynomial E → Type 0
+  HasDegreesTo d a = (m : Exponents) → coefficient P.field a m ≢ P.field.zero → P.order.degree m ≤ d
 
   -- b is a polynomial that differs from a by a member of the ideal and has only standard monomials
   pub record IsNormalForm (a b : Polynomial E) : Type 0 where

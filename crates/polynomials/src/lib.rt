@@ -3,12 +3,12 @@
 //! No call does anything: each contract is the law.
 #![tactic(auto)]
 
-ghost use Rattle.std.specs.Prelude.{◌≡◌, ℕ, ◌++◌, List, []};
+ghost use Rattle.std.specs.Prelude.{◌≡◌, ◌⊎◌, ℕ, ◌++◌, List, []};
 ghost use Rattle.monomial_order.specs.Monomial.{Exponents, product, IsMonomial};
-ghost use Rattle.polynomials.specs.Polynomial.{Polynomial, constant, minus, times, component, Same, IsDecreasing, IsPoly};
+ghost use Rattle.polynomials.specs.Polynomial.{Polynomial, constant, minus, times, component, Same, IsDecreasing, IsHomogeneous, IsPoly};
 ghost use Rattle.polynomials.specs.Value.{value};
 ghost use Rattle.polynomials.specs.Ideal.{InIdeal};
-ghost use Rattle.polynomials.specs.Subalgebra.{Presented, IsPresentation, AreGenerators, InSubalgebra, HasHomogeneousLead, LeadsIdeal, IsNormalForm, IsReducedBasis};
+ghost use Rattle.polynomials.specs.Subalgebra.{Presented, IsPresentation, AreGenerators, InSubalgebra, HasDegreesTo, HasHomogeneousLead, LeadsIdeal, IsNormalForm, IsReducedBasis};
 
 use monomial_order::Order;
 use word_field::Field;
@@ -68,8 +68,9 @@ pub fn ideal_laws<F: Field, O: Order>(f: &F, o: &O)
         InIdeal K order.places rs a → InIdeal K order.places rs (component order d a) }
 {}
 
-/// The leads of an ideal are closed under multiples and are leads of homogeneous members, and a normal form modulo
-/// it is unique.
+/// The leads of an ideal are closed under multiples and are leads of homogeneous members. A normal form modulo it is
+/// unique. That of a homogeneous polynomial is zero or homogeneous of its degree, and no normal form has a monomial of
+/// a degree above those of the polynomial.
 pub fn normal_form_laws<F: Field>()
     ensures multiples { (P : Presented F.Elem) (k m : Exponents) → IsPresentation P →
         IsMonomial P.order.places k → LeadsIdeal P m → LeadsIdeal P (product k m) }
@@ -77,6 +78,11 @@ pub fn normal_form_laws<F: Field>()
         LeadsIdeal P m → (a : Polynomial F.Elem) × HasHomogeneousLead P m a }
     ensures unique { (P : Presented F.Elem) (a b c : Polynomial F.Elem) → IsPresentation P →
         IsNormalForm P a b → IsNormalForm P a c → Same P.field b c }
+    ensures homogeneous { (P : Presented F.Elem) (d : ℕ) (a b : Polynomial F.Elem) → IsPresentation P →
+        IsHomogeneous P.field P.order d a → IsNormalForm P a b →
+        Same P.field b [] ⊎ IsHomogeneous P.field P.order d b }
+    ensures degrees { (P : Presented F.Elem) (d : ℕ) (a b : Polynomial F.Elem) → IsPresentation P →
+        HasDegreesTo P d a → IsNormalForm P a b → HasDegreesTo P d b }
 {}
 
 /// A subalgebra is closed under sums, products and homogeneous components.

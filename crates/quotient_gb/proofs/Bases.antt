@@ -9,13 +9,13 @@ use Rattle.polynomials.specs.Subalgebra.{Presented, IsPresentation}
 use Rattle.polynomials.specs.laws.Ideal.{InIdeal_same, InIdeal_plus, InIdeal_times}
 use Rattle.polynomials.specs.laws.Congruence.{InIdeal_negated}
 use Rattle.quotient_gb.specs.Criterion.{s_polynomial, ReducesGenerators, RepresentsPairs}
-use Rattle.quotient_gb.specs.IdealBasis.{IsMonicMember}
+use Rattle.quotient_gb.specs.IdealBasis.{AreMonicMembers}
 use Rattle.quotient_gb.proofs.Multiples.{degree-lcm}
 use Rattle.quotient_gb.proofs.Combinations.{scaled_is}
 use Rattle.quotient_gb.proofs.Criterion.{reducer, monomials}
 
 module _ {E : Type 0} (P : Presented E) (H : IsPresentation P) (G : List (Polynomial E)) where
-  module _ (members : (g : Polynomial E) → Contains G g → IsMonicMember P g) where
+  module _ (members : AreMonicMembers P G) where
     pub lead_is : (g : Polynomial E) → Contains G g → IsMonomial P.order.places (lead_monomial g)
     lead_is g h = monomials P.field H.field P.order H.order G (reducer P H G members) g h
 

@@ -1,4 +1,4 @@
--- Where the generators and the meetings of the degree d are looked at, the leads divide each lead of the ideal of degree d.
+-- If the generators and the critical pairs of the degree d are reduced, the leads divide each lead of the ideal of degree d.
 use Rattle.std.proofs.Common.{◌≡◌, ℕ, zero, suc, ◌+◌, ◌<◌, ◌≤◌, refl, sym, ◌∙◌, ap, subst, List, [], ◌∷◌, length, arith, ◌⊎◌, inl, inr, ⊎_elim, get_or, true, false}
 use Rattle.std.proofs.lemmas.List.{length-map}
 use Rattle.std.specs.Prelude.{Contains, map, nat_lt}
@@ -19,12 +19,12 @@ use Rattle.quotient_gb.specs.declared.degree_step.DegreeStep.{DegreeStep}
 use Rattle.quotient_gb.specs.DegreeStep.{all_members, IsStepAfter, ReducesGeneratorsAt, DividesLeads}
 use Rattle.quotient_gb.proofs.Bases.{lead_is}
 use Rattle.quotient_gb.proofs.Complete.{complete_pairs, complete_generators}
-use Rattle.quotient_gb.proofs.Criterion.{IsReducer, criterion, reducer}
+use Rattle.quotient_gb.proofs.Criterion.{criterion, reducer, AreReducers}
 use Rattle.quotient_gb.proofs.Pairs.{below_sym, below_self, below_standard, below_coprime}
 use Rattle.quotient_gb.proofs.Places.{at_default, has_divisor, is_multiple, multiple_more, lead_at}
 use Rattle.quotient_gb.proofs.Steps.{member, degree, lower_multiple, increasing, minimal}
 
--- what is symmetric and holds of each member with itself, and at each two places, holds of each two members
+-- what is symmetric and holds of each member with itself, and at each two indices, holds of each two members
 pub each_two : {A : Type 0} (d : A) (xs : List A) (R : A → A → Type 0) → ((x y : A) → R x y → R y x) → ((x : A) → R x x) →
     ((i j : ℕ) → i < j → j < length xs → R (get_or xs i d) (get_or xs j d)) → (x y : A) → Contains xs x → Contains xs y → R x y
 each_two {A} d xs R turned itself some x y hx hy =
@@ -75,7 +75,7 @@ module _ {F E : Type 0} (P : Presented E) (H : IsPresentation P) (b : Basis F E)
   divides_lower : (m : Exponents) → LeadsIdeal P m → P.order.degree m ≤ h.before.0 → HasLeadDivisor G m
   divides_lower m k l = has_divisor G m (multiple_more before G m part (lower_multiple P H b s h m k (let e = next in omega arith)))
 
-  reducers : (x : Polynomial E) → Contains G x → IsReducer P.field P.order x
+  reducers : AreReducers P.field P.order G
   reducers = reducer P H G (member P H b s h)
 
   all_generators : ReducesGenerators P d G

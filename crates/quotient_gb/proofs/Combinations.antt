@@ -1,7 +1,7 @@
 -- Combinations of the members of a list are closed under sums and products.
 use Rattle.std.proofs.Common.{◌≡◌, ◌≢◌, ℕ, zero, suc, ◌+◌, ◌≤◌, refl, sym, ◌∙◌, ap, subst, List, [], ◌∷◌, ◌++◌, ◌⊎◌, inl, inr, ⊎_elim, append-nil, append_assoc, arith}
 use Rattle.std.specs.Prelude.{map, Contains}
-use Rattle.std.specs.declared.cmp.Ordering.TheVariants.{Less, Equal, Greater}
+use Rattle.std.specs.declared.cmp.Ordering.TheVariants.{Less}
 use Rattle.word_field.specs.Field.{FieldOps, IsField, IsValue}
 use Rattle.monomial_order.specs.declared.terms.Term.{Term}
 use Rattle.monomial_order.specs.Monomial.{product, IsMonomial, Exponents}
@@ -11,7 +11,7 @@ use Rattle.polynomials.specs.Polynomial.{Polynomial, coefficient, Same, term_of,
 use Rattle.polynomials.specs.Ideal.{InIdeal}
 use Rattle.polynomials.specs.laws.Ring.{term_times_assoc}
 use Rattle.polynomials.specs.laws.Same.{times_same, append_same}
-use Rattle.monomial_order.specs.laws.Comparing.{greater_less}
+use Rattle.monomial_order.specs.laws.Comparing.{three_ways}
 use Rattle.polynomials.specs.laws.Congruence.{negated_is}
 use Rattle.polynomials.specs.laws.Ideal.{InIdeal_same, InIdeal_zero, InIdeal_plus, InIdeal_times}
 use Rattle.quotient_gb.specs.Combinations.{AtMost, Step, sum_of_steps, AreSteps, Combines}
@@ -153,33 +153,17 @@ module _ {E : Type 0} (K : FieldOps E) (F : IsField K) where
 
               beside : (N : Exponents) × HasTop B (sum_of_steps K ss) N → (N : Exponents) × HasTop B (scaled K s.term s.of ++ sum_of_steps K ss) N
               beside r =
-                  elim (O.compare M r.0) as (λ o. O.compare M r.0 ≡ o → (N : Exponents) × HasTop B (scaled K s.term s.of ++ sum_of_steps K ss) N) [
-                    | Less ↦ λ e. (
-                      r.0,
-                      record {
-                        monomial = r.1.monomial;
-                        bound = r.1.bound;
-                        combines = combines_plus (AtMost O r.0) (scaled K s.term s.of) (sum_of_steps K ss) (one r.0 (inr e)) r.1.combines;
-                      },
-                    )
-                    | Equal ↦ λ e. (
-                      r.0,
-                      record {
-                        monomial = r.1.monomial;
-                        bound = r.1.bound;
-                        combines = combines_plus (AtMost O r.0) (scaled K s.term s.of) (sum_of_steps K ss) (one r.0 (inl (L.equal M r.0 e))) r.1.combines;
-                      },
-                    )
-                    | Greater ↦ λ e. (
-                      M,
-                      record {
-                        monomial = mono;
-                        bound = k.2;
-                        combines = combines_plus (AtMost O M) (scaled K s.term s.of) (sum_of_steps K ss) (one M (inl refl))
-                            (combines_weaken (AtMost O r.0) (AtMost O M) (sum_of_steps K ss) (λ m q b. at_most_less r.0 M m (greater_less O L M r.0 e) b) r.1.combines);
-                      },
-                    )
-                  ] refl
+                  let lower : AtMost O r.0 M → (N : Exponents) × HasTop B (scaled K s.term s.of ++ sum_of_steps K ss) N =
+                  λ b. (r.0, record { monomial = r.1.monomial; bound = r.1.bound; combines = combines_plus (AtMost O r.0) (scaled K s.term s.of) (sum_of_steps K ss) (one r.0 b) r.1.combines }) in
+                  ⊎_elim (λ lt. lower (inr lt)) (λ q. ⊎_elim (λ e. lower (inl e)) (λ gt. (
+                    M,
+                    record {
+                      monomial = mono;
+                      bound = k.2;
+                      combines = combines_plus (AtMost O M) (scaled K s.term s.of) (sum_of_steps K ss) (one M (inl refl))
+                          (combines_weaken (AtMost O r.0) (AtMost O M) (sum_of_steps K ss) (λ m q b. at_most_less r.0 M m gt b) r.1.combines);
+                    },
+                  )) q) (three_ways O L M r.0)
 
     -- a combination of members of the ideal is one
     pub combines_inside : (rs : List (Polynomial E)) → ((g : Polynomial E) → Contains G g → InIdeal K O.places rs g) → (B : Exponents → Type 0) (a : Polynomial E) →

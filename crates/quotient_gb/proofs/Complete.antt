@@ -1,36 +1,34 @@
 -- If the leads of a list divide each lead of the ideal of degree at most c, each member of the ideal of degree at most c has a
 -- standard representation by it.
 use Rattle.std.proofs.Common.{◌≡◌, ◌≢◌, ℕ, ◌≤◌, sym, ◌∙◌, ap, subst, List, [], ◌∷◌, ◌++◌, ⊎_elim, inl, inr, arith, append-nil}
-use Rattle.polynomials.specs.laws.Coefficients.{minus_back, sum_nonzero, found_monomial}
+use Rattle.polynomials.specs.laws.Coefficients.{minus_back, found_monomial, minus_poly}
 use Rattle.std.specs.Prelude.{Contains}
 use Rattle.std.specs.declared.cmp.Ordering.TheVariants.{Less}
 use Rattle.word_field.specs.Field.{FieldOps, IsField, IsValue}
-use Rattle.word_field.specs.laws.Field.{negate-zero}
 use Rattle.monomial_order.specs.Monomial.{product, least_common_multiple, IsMonomial, Exponents}
-use Rattle.monomial_order.specs.MonomialOrder.{MonomialOrder, IsMonomialOrder}
 use Rattle.monomial_order.specs.laws.Monomial.{product_comm, IsMonomial-least_common_multiple}
 use Rattle.monomial_order.specs.laws.Cofactors.{cofactor}
 use Rattle.monomial_order.specs.laws.Comparing.{degree_falls}
-use Rattle.monomial_order.specs.laws.Lists.{contains_none, contains_cases}
 use Rattle.monomial_order.specs.laws.Rank.{IsWithin, below_induction}
 use Rattle.polynomials.specs.Polynomial.{Polynomial, coefficient, term_of, times, scaled, negated, minus, constant, IsTerm, IsPoly, IsLead, IsHomogeneous, lead_monomial}
 use Rattle.polynomials.specs.Ideal.{InIdeal}
-use Rattle.polynomials.specs.Subalgebra.{Presented, IsPresentation, IsGenerator, AreGenerators, LeadsIdeal}
+use Rattle.polynomials.specs.Subalgebra.{Presented, IsPresentation, LeadsIdeal}
 use Rattle.polynomials.specs.laws.Ring.{coefficient_value}
 use Rattle.polynomials.specs.laws.Value.{one_times}
 use Rattle.polynomials.specs.laws.Membership.{IsPoly-one}
 use Rattle.polynomials.specs.laws.Decreasing.{IsDecreasing_IsPoly}
 use Rattle.polynomials.specs.laws.Canonical.{zero_or_lead}
-use Rattle.polynomials.specs.laws.Congruence.{coefficient-minus, minus_zero, InIdeal_negated}
-use Rattle.polynomials.specs.laws.Ideal.{IsPoly-append, IsPoly-scaled, IsPoly-negated, InIdeal_plus}
+use Rattle.polynomials.specs.laws.Congruence.{minus_zero, InIdeal_negated}
+use Rattle.polynomials.specs.laws.Ideal.{IsPoly-scaled, InIdeal_plus}
 use Rattle.quotient_gb.specs.Combinations.{AtMost, HasLeadDivisor, Combines, HasStandardRepresentation}
 use Rattle.quotient_gb.specs.Criterion.{s_polynomial, RepresentsPairs}
-use Rattle.quotient_gb.specs.IdealBasis.{IsMonicMember}
+use Rattle.quotient_gb.specs.IdealBasis.{AreMonicMembers}
 use Rattle.quotient_gb.proofs.Multiples.{divides_left}
 use Rattle.quotient_gb.proofs.Combinations.{combines_same, combines_plus, combines_one, combines_weaken}
 use Rattle.quotient_gb.proofs.Criterion.{coefficient-front, scaled_leads, reducer}
-use Rattle.quotient_gb.proofs.Pairs.{scaled_monic, pair_below, s_polynomial_poly, below_standard}
+use Rattle.quotient_gb.proofs.Pairs.{scaled_monic, pair_below, s_polynomial_poly, below_standard, difference_below}
 use Rattle.quotient_gb.proofs.Bases.{lead_is, scaled_inside, s_polynomial_inside}
+use Rattle.polynomials.specs.laws.Degrees.{generator_of}
 
 -- a generator lies in the ideal
 pub generator_inside : {E : Type 0} (K : FieldOps E) (F : IsField K) (n : ℕ) (rs : List (Polynomial E)) (r : Polynomial E) → Contains rs r → InIdeal K n rs r
@@ -40,22 +38,7 @@ generator_inside K F n rs r h = record {
   sums = λ m. sym (one_times K F r m) ∙ ap (λ x. coefficient K x m) (sym (append-nil (times K (constant K K.one) r)));
 }
 
-pub generator_of : {E : Type 0} (K : FieldOps E) (O : MonomialOrder) (rs : List (Polynomial E)) → AreGenerators K O rs → (r : Polynomial E) → Contains rs r → IsGenerator K O r
-generator_of K O [] h r k = absurd (contains_none r k)
-generator_of K O (x ∷ rs) h r k = ⊎_elim (λ e. subst (IsGenerator K O) e h.0) (λ i. generator_of K O rs h.1 r i) (contains_cases x rs r k)
-
-module _ {E : Type 0} (K : FieldOps E) (F : IsField K) (O : MonomialOrder) (L : IsMonomialOrder O) where
-  -- two polynomials with one lead and one coefficient there differ by something below
-  pub difference_below : (a s : Polynomial E) (M : Exponents) → IsLead K O a M → IsLead K O s M → coefficient K a M ≡ coefficient K s M →
-      (n : Exponents) → coefficient K (minus K a s) n ≢ K.zero → O.compare n M ≡ Less
-  difference_below a s M la ls e n k =
-      ⊎_elim (λ na. la.greatest n na other) (λ ns. ls.greatest n (λ z. ns (ap K.negate z ∙ negate-zero K F)) other)
-      (sum_nonzero K F (coefficient K a n) (K.negate (coefficient K s n)) (λ z. k (coefficient-minus K F a s n ∙ z)))
-    where
-      other : n ≢ M
-      other q = k (ap (coefficient K (minus K a s)) q ∙ (coefficient-minus K F a s M ∙ (ap (λ x. K.plus x (K.negate (coefficient K s M))) e ∙ F.plus_negate (coefficient K s M))))
-
-module _ {E : Type 0} (P : Presented E) (H : IsPresentation P) (G : List (Polynomial E)) (members : (g : Polynomial E) → Contains G g → IsMonicMember P g)
+module _ {E : Type 0} (P : Presented E) (H : IsPresentation P) (G : List (Polynomial E)) (members : AreMonicMembers P G)
     (c : ℕ) (divides : (m : Exponents) → LeadsIdeal P m → P.order.degree m ≤ c → HasLeadDivisor G m) where
   abbrev Reduces : Exponents → Type 0
   Reduces M = (a : Polynomial E) → IsPoly P.field P.order.places a → InIdeal P.field P.order.places P.ideal a → IsLead P.field P.order a M → Combines P.field P.order G (AtMost P.order M) a
@@ -104,7 +87,7 @@ module _ {E : Type 0} (P : Presented E) (H : IsPresentation P) (G : List (Polyno
           (zero_or_lead P.field H.field P.order H.order (minus P.field a s) poly)
         where
           poly : IsPoly P.field P.order.places (minus P.field a s)
-          poly = IsPoly-append P.field H.field P.order.places a (negated P.field s) hp (IsPoly-negated P.field H.field P.order.places s h.poly)
+          poly = minus_poly P.field H.field P.order.places a s hp h.poly
 
           smaller : (N : Exponents) → IsLead P.field P.order (minus P.field a s) N → Combines P.field P.order G (AtMost P.order M) (minus P.field a s)
           smaller N l =

@@ -1,12 +1,12 @@
 -- The criterion to a degree: if the generators of degree at most c have standard representations, and the S-polynomials have
 -- representations below, each lead of the ideal of degree at most c is a multiple of the lead of a member of the list.
-use Rattle.std.proofs.Common.{◌≡◌, ◌≢◌, ℕ, ◌+◌, ◌≤◌, refl, sym, ◌∙◌, ap, subst, List, [], ◌∷◌, ◌++◌, ◌⊎◌, inl, inr, ⊎_elim, arith, Bool, true, false, cond}
+use Rattle.std.proofs.Common.{◌≡◌, ◌≢◌, ℕ, ◌+◌, ◌≤◌, refl, sym, ◌∙◌, ap, subst, List, [], ◌∷◌, ◌++◌, ◌⊎◌, inl, inr, ⊎_elim, arith, true, false}
 use Rattle.polynomials.specs.laws.Coefficients.{single_term, lead_sum}
 use Rattle.std.specs.Prelude.{Contains, nat_eq}
 use Rattle.std.proofs.lemmas.Bool.{eqb-true, eq-eqb, true≢false}
 use Rattle.std.specs.declared.cmp.Ordering.TheVariants.{Less}
 use Rattle.word_field.specs.Field.{FieldOps, IsField, IsValue}
-use Rattle.word_field.specs.laws.Field.{plus_swap, plus_four, plus-times, times-negate, times-zero, zero-times, zero-plus}
+use Rattle.word_field.specs.laws.Field.{plus_swap, plus-times, times-negate, zero-times, zero-plus}
 use Rattle.monomial_order.specs.declared.terms.Term.{Term}
 use Rattle.monomial_order.specs.Monomial.{product, least_common_multiple as lcm, IsMonomial, IsTrimmed, Divides, Exponents}
 use Rattle.monomial_order.specs.laws.Monomial.{IsTrimmed-least_common_multiple}
@@ -19,18 +19,17 @@ use Rattle.polynomials.specs.laws.Ring.{coefficient_value, coefficient-append}
 use Rattle.polynomials.specs.laws.Value.{coefficient-scaled}
 use Rattle.polynomials.specs.laws.Decreasing.{IsDecreasing_IsPoly, IsBelow_trans, IsLead_first, IsLead_unique}
 use Rattle.polynomials.specs.laws.Canonical.{IsLead_same, zero_or_lead}
-use Rattle.polynomials.specs.laws.Congruence.{coefficient-minus}
-use Rattle.monomial_order.specs.laws.Lists.{contains_cases, contains_none}
 use Rattle.polynomials.specs.laws.Terms.{IsBelow-append, IsDecreasing-scaled, scaled_below}
 use Rattle.polynomials.specs.laws.Leads.{below_found}
 use Rattle.polynomials.specs.laws.Ideal.{IsPoly-scaled}
 use Rattle.monomial_order.specs.laws.Rank.{IsWithin, below_induction}
-use Rattle.polynomials.specs.laws.Degrees.{component-append, coefficient-component, component_same, IsGraded, graded_component, graded_no_component, graded_times}
+use Rattle.polynomials.specs.laws.Degrees.{component-append, component_same, IsGraded, graded_component, graded_no_component, graded_times, component_leads, generator_of}
 use Rattle.quotient_gb.specs.Combinations.{AtMost, Under, HasLeadDivisor, Step, sum_of_steps, AreSteps, Combines, HasStandardRepresentation}
-use Rattle.quotient_gb.specs.IdealBasis.{IsMonicMember}
+use Rattle.quotient_gb.specs.IdealBasis.{AreMonicMembers}
 use Rattle.quotient_gb.specs.Criterion.{s_polynomial, HasRepresentationBelow, ReducesGenerators, RepresentsPairs}
 use Rattle.quotient_gb.proofs.Multiples.{common, product_divides}
 use Rattle.quotient_gb.proofs.Combinations.{scaled-append, scaled_scaled, scaled_is, scaled_same, combines_same, combines_zero, combines_plus, combines_one, combines_scaled, combines_constant, top}
+use Rattle.polynomials.specs.laws.Same.{coefficient-negated}
 
 module _ {E : Type 0} (K : FieldOps E) (F : IsField K) where
   pub scaled-negated : (t : Term E) (p : Polynomial E) → scaled K t (negated K p) ≡ negated K (scaled K t p)
@@ -55,29 +54,20 @@ module _ {E : Type 0} (K : FieldOps E) (F : IsField K) where
       ap (λ x. coefficient K (scaled K (term_of a x) p) m) (sym v ∙ sym (F.times_one d)) ∙
       (ap (λ x. coefficient K x m) (sym (scaled_scaled K F (term_of [] d) (term_of a K.one) p)) ∙ coefficient-scaled K F d (scaled K (term_of a K.one) p) m)
 
+  plus_negate_cancel : (a b : E) → K.plus a (K.plus (K.negate a) b) ≡ K.reduce b
+  plus_negate_cancel a b = sym (F.plus_assoc a (K.negate a) b) ∙ (ap (λ x. K.plus x b) (F.plus_negate a) ∙ zero-plus K F b)
+
   -- d x + (e y + r) = (d + e) y + (d (x - y) + r)
   moved : (d e x y r : E) → K.plus (K.times d x) (K.plus (K.times e y) r) ≡ K.plus (K.times (K.plus d e) y) (K.plus (K.times d (K.plus x (K.negate y))) r)
   moved d e x y r =
-      ap (λ z. K.plus z (K.plus (K.times e y) r)) (sym parts) ∙
-      (plus_four K F (K.times d y) (K.times d (K.plus x (K.negate y))) (K.times e y) r ∙
-      ap (λ z. K.plus z (K.plus (K.times d (K.plus x (K.negate y))) r)) (sym (plus-times K F d e y)))
-    where
-      parts : K.plus (K.times d y) (K.times d (K.plus x (K.negate y))) ≡ K.times d x
-      parts =
-          ap (K.plus (K.times d y)) (F.times_plus d x (K.negate y)) ∙
-          (plus_swap K F (K.times d y) (K.times d x) (K.times d (K.negate y)) ∙
-          (ap (K.plus (K.times d x)) (sym (F.times_plus d y (K.negate y)) ∙ (ap (K.times d) (F.plus_negate y) ∙ times-zero K F d)) ∙
-          (F.plus_zero (K.times d x) ∙ F.times_value d x)))
+      let n = K.negate (K.times d y) in
+      simp (F.times_plus, plus-times K F, times-negate K F, F.plus_assoc) (cc (plus_swap K F (K.times e y) (K.times d x) (K.plus n r), plus_swap K F (K.times d y) (K.times d x) (K.plus (K.times e y) (K.plus n r)), plus_swap K F (K.times e y) n r, plus_negate_cancel (K.times d y) (K.plus (K.times e y) r), F.plus_value (K.times e y) r))
 
   sum_swap : (A S T R : Polynomial E) → Same K S (T ++ R) → Same K (A ++ S) (T ++ (A ++ R))
-  sum_swap A S T R h m =
-      coefficient-append K F A S m ∙
-      (ap (K.plus (coefficient K A m)) (h m ∙ coefficient-append K F T R m) ∙
-      (plus_swap K F (coefficient K A m) (coefficient K T m) (coefficient K R m) ∙
-      (ap (K.plus (coefficient K T m)) (sym (coefficient-append K F A R m)) ∙ sym (coefficient-append K F T (A ++ R) m))))
+  sum_swap A S T R h m = simp (coefficient-append K F, h) (plus_swap K F (coefficient K A m) (coefficient K T m) (coefficient K R m))
 
   module _ (O : MonomialOrder) (L : IsMonomialOrder O) where
-    -- a term times a falling list
+    -- a term times a decreasing list
     pub below_scaled : (t : Term E) (g : Polynomial E) (M : Exponents) → IsTerm K O.places t → IsDecreasing K O g → O.compare (product t.at (lead_monomial g)) M ≡ Less → IsBelow K O M (scaled K t g)
     below_scaled t [] M ht h lt = tt
     below_scaled t (u ∷ p) M ht h lt =
@@ -93,17 +83,23 @@ module _ {E : Type 0} (K : FieldOps E) (F : IsField K) where
     monic_monomial [] h e = absurd (F.one_not_zero (sym e))
     monic_monomial (u ∷ p) h e = h.0.term.monomial
 
+pub at_most_degree : (O : MonomialOrder) → IsMonomialOrder O → (M m : Exponents) → AtMost O M m → O.degree m ≤ O.degree M
+at_most_degree O L M m h = ⊎_elim (λ e. let q : O.degree m ≡ O.degree M = ap O.degree e in omega arith) (λ lt. less_degree O L m M lt) h
+
 pub zero_no_lead : {E : Type 0} (K : FieldOps E) (O : MonomialOrder) (a : Polynomial E) (m : Exponents) → Same K a [] → IsLead K O a m → ⊥
 unfolding coefficient
 zero_no_lead K O a m z h = h.nonzero (z m)
 
--- a member that serves to reduce: falling and monic
+-- a reducer is decreasing and monic
 pub record IsReducer {E : Type 0} (K : FieldOps E) (O : MonomialOrder) (g : Polynomial E) : Type 0 where
   pub decreasing : IsDecreasing K O g
   pub monic : coefficient K g (lead_monomial g) ≡ K.one
 
+abbrev pub AreReducers : {E : Type 0} → FieldOps E → MonomialOrder → List (Polynomial E) → Type 0
+AreReducers {E} K O G = (g : Polynomial E) → Contains G g → IsReducer K O g
+
 module _ {E : Type 0} (K : FieldOps E) (F : IsField K) (O : MonomialOrder) (L : IsMonomialOrder O)
-    (G : List (Polynomial E)) (HG : (g : Polynomial E) → Contains G g → IsReducer K O g) where
+    (G : List (Polynomial E)) (HG : AreReducers K O G) where
   pub monomials : (g : Polynomial E) → Contains G g → IsMonomial O.places (lead_monomial g)
   monomials g h = let r = HG g h in monic_monomial K F O L g r.decreasing r.monic
 
@@ -203,15 +199,7 @@ module _ {E : Type 0} (K : FieldOps E) (F : IsField K) (O : MonomialOrder) (L : 
           sums = λ m.
               let x = coefficient K (scaled K (term_of s.term.at K.one) s.of) m in
               let y = coefficient K (scaled K (term_of r.by K.one) r.member) m in
-              coefficient-append K F (scaled K s.term s.of) (sum_of_steps K ss) m ∙
-              (ap (λ z. K.plus z (coefficient K (sum_of_steps K ss) m)) (coefficient-front K F s.term.at s.term.by s.of m k.0.value) ∙
-              (ap (K.plus (K.times s.term.by x)) (r.sums m ∙ (coefficient-append K F (scaled K (term_of r.by r.front) r.member) r.rest m ∙ ap (λ z. K.plus z (coefficient K r.rest m)) (coefficient-front K F r.by r.front r.member m r.value))) ∙
-              (moved K F s.term.by r.front x y (coefficient K r.rest m) ∙
-              (ap (λ z. K.plus z (K.plus (K.times s.term.by (K.plus x (K.negate y))) (coefficient K r.rest m))) (sym (coefficient-front K F r.by (K.plus s.term.by r.front) r.member m (F.plus_value s.term.by r.front))) ∙
-              (ap (λ z. K.plus (coefficient K (scaled K (term_of r.by (K.plus s.term.by r.front)) r.member) m) (K.plus z (coefficient K r.rest m)))
-              (ap (K.times s.term.by) (sym (coefficient-minus K F (scaled K (term_of s.term.at K.one) s.of) (scaled K (term_of r.by K.one) r.member) m)) ∙ sym (coefficient-scaled K F s.term.by difference m)) ∙
-              (ap (K.plus (coefficient K (scaled K (term_of r.by (K.plus s.term.by r.front)) r.member) m)) (sym (coefficient-append K F (scaled K (term_of [] s.term.by) difference) r.rest m)) ∙
-              sym (coefficient-append K F (scaled K (term_of r.by (K.plus s.term.by r.front)) r.member) (scaled K (term_of [] s.term.by) difference ++ r.rest) m)))))));
+              simp (coefficient-append K F, r.sums, coefficient-scaled K F, coefficient-negated K F, coefficient-front K F s.term.at s.term.by s.of m k.0.value, coefficient-front K F r.by r.front r.member m r.value, coefficient-front K F r.by (K.plus s.term.by r.front) r.member m (F.plus_value s.term.by r.front)) (moved K F s.term.by r.front x y (coefficient K r.rest m));
         }
           where
             difference : Polynomial E
@@ -244,9 +232,8 @@ module _ {E : Type 0} (K : FieldOps E) (F : IsField K) (O : MonomialOrder) (L : 
           where
             none : (r : IsGathered M (sum_of_steps K h.steps)) → r.front ≡ K.zero → IsLed a m
             none r z = lower M w ih a (combines_same K F O L G (Under O M) r.rest a (λ n.
-                sym (h.sums n ∙ (r.sums n ∙ (coefficient-append K F (scaled K (term_of r.by r.front) r.member) r.rest n ∙
-                (ap (λ x. K.plus x (coefficient K r.rest n)) (coefficient-front K F r.by r.front r.member n r.value ∙ (ap (λ x. K.times x (coefficient K (scaled K (term_of r.by K.one) r.member) n)) z ∙ zero-times K F (coefficient K (scaled K (term_of r.by K.one) r.member) n))) ∙
-                (zero-plus K F (coefficient K r.rest n) ∙ coefficient_value K F r.rest n)))))) r.under) m lead_m
+                let x = coefficient K (scaled K (term_of r.by K.one) r.member) n in
+                cc (h.sums n, r.sums n, coefficient-append K F (scaled K (term_of r.by r.front) r.member) r.rest n, coefficient-front K F r.by r.front r.member n r.value, z, zero-times K F x, zero-plus K F (coefficient K r.rest n), coefficient_value K F r.rest n)) r.under) m lead_m
 
             some : (r : IsGathered M (sum_of_steps K h.steps)) → r.front ≢ K.zero → IsLed a m
             some r nz =
@@ -265,13 +252,6 @@ module _ {E : Type 0} (K : FieldOps E) (F : IsField K) (O : MonomialOrder) (L : 
         (reduces : (r : Polynomial E) → Contains rs r → (d : ℕ) → d ≤ c → IsHomogeneous K O d r → HasStandardRepresentation K O G r) where
       abbrev pub Small : Exponents → Type 0
       Small m = O.degree m ≤ c
-
-      generator_of : (xs : List (Polynomial E)) → AreGenerators K O xs → (r : Polynomial E) → Contains xs r → IsGenerator K O r
-      generator_of [] h r k = absurd (contains_none r k)
-      generator_of (x ∷ xs) h r k = ⊎_elim (λ e. subst (IsGenerator K O) e h.0) (λ i. generator_of xs h.1 r i) (contains_cases x xs r k)
-
-      at_most_degree : (M m : Exponents) → AtMost O M m → O.degree m ≤ O.degree M
-      at_most_degree M m h = ⊎_elim (λ e. let q : O.degree m ≡ O.degree M = ap O.degree e in omega arith) (λ lt. less_degree O L m M lt) h
 
       -- the part of degree d of a term times a generator
       term_part : (d : ℕ) → d ≤ c → (t : Term E) (r : Polynomial E) → IsTerm K O.places t → IsGenerator K O r → Contains rs r → Combines K O G Small (component O d (scaled K t r))
@@ -308,7 +288,7 @@ module _ {E : Type 0} (K : FieldOps E) (F : IsField K) (O : MonomialOrder) (L : 
                   combines_same K F O L G Small (scaled K t r) (component O d (scaled K t r))
                   (λ m. sym (graded_component K F O L d (scaled K t r) poly (subst (λ x. IsGraded K F O L x (scaled K t r)) e graded) m))
                   (combines_scaled K F O L G monomials (AtMost O M.0) Small t r ht
-                  (λ m hm b. let p = L.degree_product t.at m in let q = at_most_degree M.0 m b in omega arith)
+                  (λ m hm b. let p = L.degree_product t.at m in let q = at_most_degree O L M.0 m b in omega arith)
                   (reduces r k h.0 (omega arith) h.2 M.0 M.1))
 
       times_part : (d : ℕ) → d ≤ c → (q r : Polynomial E) → IsPoly K O.places q → IsGenerator K O r → Contains rs r → Combines K O G Small (component O d (times K q r))
@@ -327,7 +307,7 @@ module _ {E : Type 0} (K : FieldOps E) (F : IsField K) (O : MonomialOrder) (L : 
           all (w ∷ ws) k =
               subst (Combines K O G Small) (sym (component-append O d (times K w.by w.of) (sum_of K ws)))
               (combines_plus K F O L G Small (component O d (times K w.by w.of)) (component O d (sum_of K ws))
-              (times_part d l w.by w.of k.0 (generator_of rs HR w.of k.1) k.1) (all ws k.2))
+              (times_part d l w.by w.of k.0 (generator_of K O rs HR w.of k.1) k.1) (all ws k.2))
 
       -- the lead of a member of the ideal, of a degree at most c
       pub lead_divided : (a : Polynomial E) (m : Exponents) → InIdeal K O.places rs a → IsLead K O a m → O.degree m ≤ c → HasLeadDivisor G m
@@ -337,21 +317,11 @@ module _ {E : Type 0} (K : FieldOps E) (F : IsField K) (O : MonomialOrder) (L : 
           (λ r. (led r.0 (record { monomial = r.1.monomial; degree = r.1.bound }) (component O (O.degree m) a) r.1.combines m part_lead).divisor)
           (top K F O L G monomials Small (component O (O.degree m) a) (member_part (O.degree m) l a h))
         where
-          at_m : coefficient K (component O (O.degree m) a) m ≡ coefficient K a m
-          at_m = coefficient-component K F O L (O.degree m) a m ∙ ap (λ b. cond b (coefficient K a m) K.zero) (eq-eqb (O.degree m) (O.degree m) refl)
-
-          if_zero : (b : Bool) → cond b K.zero K.zero ≡ K.zero
-          if_zero true = refl
-          if_zero false = refl
-
           part_lead : IsLead K O (component O (O.degree m) a) m
-          part_lead = record {
-            nonzero = λ z. lm.nonzero (sym at_m ∙ z);
-            greatest = λ n k ne. lm.greatest n (λ z. k (coefficient-component K F O L (O.degree m) a n ∙ (ap (λ x. cond (nat_eq (O.degree n) (O.degree m)) x K.zero) z ∙ if_zero (nat_eq (O.degree n) (O.degree m))))) ne;
-          }
+          part_lead = (component_leads K F O L a m lm).0
 
--- a monic member serves to reduce
-pub reducer : {E : Type 0} (P : Presented E) → IsPresentation P → (G : List (Polynomial E)) → ((g : Polynomial E) → Contains G g → IsMonicMember P g) → (g : Polynomial E) → Contains G g → IsReducer P.field P.order g
+-- a monic member is a reducer
+pub reducer : {E : Type 0} (P : Presented E) → IsPresentation P → (G : List (Polynomial E)) → AreMonicMembers P G → AreReducers P.field P.order G
 reducer P H G members g h = let m = members g h in record { decreasing = m.decreasing; monic = m.monic }
 
 module _ {E : Type 0} (P : Presented E) (H : IsPresentation P) (c : ℕ) (G : List (Polynomial E)) (HG : ReducesGenerators P c G) (HP : RepresentsPairs P c G) where

@@ -1,9 +1,9 @@
 -- A finished step: each lead of the ideal up to its degree is a multiple, and the quotient goes on to that degree.
-use Rattle.std.proofs.Common.{◌≡◌, ℕ, ◌+◌, ◌<◌, refl, sym, ◌∙◌, ap, subst, List, [], ◌∷◌, ◌++◌, length, length-append, arith, inl, inr, ⊎_elim, get_or, Bool, true, false, cond}
-use Rattle.std.proofs.lemmas.List.{length-map}
+use Rattle.std.proofs.Common.{◌≡◌, ℕ, ◌+◌, ◌<◌, ◌≤◌, refl, sym, ◌∙◌, ap, subst, List, [], ◌∷◌, ◌++◌, length, length-append, arith, inl, inr, ⊎_elim, get_or, Bool, true, false, cond}
+use Rattle.std.proofs.lemmas.List.{length-map, map-append, get_or_append_left}
 use Rattle.std.specs.Prelude.{Contains, map, filter, nat_lt}
 use Rattle.std.proofs.lemmas.Bool.{ltb-false}
-use Rattle.monomial_order.specs.Monomial.{least_common_multiple, IsMultiple, AreCoprime, Exponents}
+use Rattle.monomial_order.specs.Monomial.{least_common_multiple, AreCoprime, Exponents}
 use Rattle.monomial_order.specs.MonomialOrder.{MonomialOrder}
 use Rattle.monomial_order.specs.laws.Comparing.{le_or_not}
 use Rattle.monomial_order.specs.laws.Lists.{contains_here, contains_there, contains_cases, contains_left, contains_right, contains_either}
@@ -15,10 +15,10 @@ use Rattle.quotient_gb.specs.declared.degree_step.DegreeStep.{DegreeStep}
 use Rattle.quotient_gb.specs.IdealBasis.{HasStandardTail, IsIdealBasis, AreIdealLeads}
 use Rattle.quotient_gb.specs.CriticalPairs.{pair_degree, pair_at, IsCriticalPair, IsCoprimeOrListed, HasPairs, HasPairsAbove}
 use Rattle.quotient_gb.specs.DegreeStep.{all_members, IsBasisTo, IsLaterStep, IsFinishedStep, ReducesGeneratorsAt, ReducesPair, DividesLeads}
-use Rattle.quotient_gb.specs.Quotient.{QuotientState, IsQuotientOf}
+use Rattle.quotient_gb.specs.Quotient.{QuotientState, IsQuotientOf, IsClosed}
 use Rattle.quotient_gb.proofs.Closing.{closed}
 use Rattle.quotient_gb.proofs.Listing.{listed_more}
-use Rattle.quotient_gb.proofs.Places.{at_default, append_at, map_append, lead_at, multiple_more, not_below}
+use Rattle.quotient_gb.proofs.Places.{at_default, lead_at, not_below}
 use Rattle.quotient_gb.proofs.Representations.{represented_more}
 use Rattle.quotient_gb.proofs.SPolynomials.{pair_degree_is}
 use Rattle.quotient_gb.proofs.Steps.{member, ideal_leads, part_all}
@@ -41,7 +41,7 @@ module _ (O : MonomialOrder) (ms ns : List Exponents) where
   -- a critical pair stays one when leads are appended
   pair_degree_append : (i j : ℕ) → i < length ms → j < length ms → pair_degree O (ms ++ ns) i j ≡ pair_degree O ms i j
   pair_degree_append i j li lj =
-      ap (λ m. O.degree (least_common_multiple m (get_or (ms ++ ns) j []))) (append_at ms ns i [] li) ∙ ap (λ n. O.degree (least_common_multiple (get_or ms i []) n)) (append_at ms ns j [] lj)
+      ap (λ m. O.degree (least_common_multiple m (get_or (ms ++ ns) j []))) (get_or_append_left ms ns [] i li) ∙ ap (λ n. O.degree (least_common_multiple (get_or ms i []) n)) (get_or_append_left ms ns [] j lj)
 
   pair_append : (w : CriticalPair) → IsCriticalPair O ms w → IsCriticalPair O (ms ++ ns) w
   pair_append w h =
@@ -51,8 +51,15 @@ module _ (O : MonomialOrder) (ms ns : List Exponents) where
 
   listed_append : (pairs : List CriticalPair) (i j : ℕ) → i < length ms → j < length ms → IsCoprimeOrListed O ms pairs i j → IsCoprimeOrListed O (ms ++ ns) pairs i j
   listed_append pairs i j li lj h = ⊎_elim
-      (λ co. inl (subst (λ m. AreCoprime m (get_or (ms ++ ns) j [])) (sym (append_at ms ns i [] li)) (subst (AreCoprime (get_or ms i [])) (sym (append_at ms ns j [] lj)) co)))
+      (λ co. inl (subst (λ m. AreCoprime m (get_or (ms ++ ns) j [])) (sym (get_or_append_left ms ns [] i li)) (subst (AreCoprime (get_or ms i [])) (sym (get_or_append_left ms ns [] j lj)) co)))
       (λ k. inr (subst (λ d. Contains pairs (record { first = i; second = j; degree = d })) (sym (pair_degree_append i j li lj)) k)) h
+
+-- closed at a greater degree, by more leads
+pub closed_more : {E : Type 0} (P : Presented E) (c c' : ℕ) (ms ms' : List Exponents) → c ≤ c' → ((m : Exponents) → Contains ms m → Contains ms' m) → IsClosed P c ms → IsClosed P c' ms'
+closed_more P c c' ms ms' l part h = record {
+  generators = λ r k d hd. let q = h.generators r k d hd in omega arith;
+  divides = λ m k. let (n, i, d) = h.divides m k in (n, part n i, d);
+}
 
 -- the quotient with the members of a finished step, and their critical pairs
 module _ {F E : Type 0} (P : Presented E) (H : IsPresentation P) (b : Basis F E) (q : QuotientState E) (hq : IsQuotientOf P q) (is_members : b.members.items ≡ q.members) (is_leads : b.leads.items ≡ q.leads)
@@ -68,16 +75,15 @@ module _ {F E : Type 0} (P : Presented E) (H : IsPresentation P) (b : Basis F E)
     });
     leads = leads_are;
     pairs = subst (λ ls. HasPairsAbove P.order ls q'.degree q'.pairs) (sym el) (subst (HasPairsAbove P.order (q.leads ++ s.found.leads.items) q'.degree) (sym ep) pairs_are);
-    closed = λ t m k. subst (λ ls. IsMultiple ls m) (sym leads_are) (subst (λ G. IsMultiple (map lead_monomial G) m) (sym all)
-        (multiple_more b.members.items (all_members b s) m (λ x i. contains_left b.members.items s.found.members.items x i)
-        (subst (λ G. IsMultiple (map lead_monomial G) m) (sym is_members) (subst (λ ls. IsMultiple ls m) hq.leads (hq.closed (sym ec ∙ t) m k)))));
+    closed = λ t. closed_more P q.degree q'.degree q.leads q'.leads (omega arith)
+        (λ m k. subst (λ ls. Contains ls m) (sym el) (contains_left q.leads s.found.leads.items m k)) (hq.closed (sym ec ∙ t));
   }
     where
       all : q'.members ≡ all_members b s
       all = em ∙ ap (λ xs. xs ++ s.found.members.items) (sym is_members)
 
       leads_are : q'.leads ≡ map lead_monomial q'.members
-      leads_are = el ∙ (ap (λ ls. ls ++ s.found.leads.items) hq.leads ∙ (ap (λ ls. map lead_monomial q.members ++ ls) hs.step.leads ∙ (sym (map_append lead_monomial q.members s.found.members.items) ∙ ap (map lead_monomial) (sym em))))
+      leads_are = el ∙ (ap (λ ls. ls ++ s.found.leads.items) hq.leads ∙ (ap (λ ls. map lead_monomial q.members ++ ls) hs.step.leads ∙ (sym (map-append lead_monomial q.members s.found.members.items) ∙ ap (map lead_monomial) (sym em))))
 
       pairs_are : HasPairsAbove P.order (q.leads ++ s.found.leads.items) q'.degree (q.pairs ++ vs)
       pairs_are = record {
@@ -127,5 +133,5 @@ quotient_above P q q' h d em el ec e = record {
         let w = pair_at P.order q.leads i j in
         ⊎_elim (λ co. inl co) (λ k. inr (subst (λ xs. Contains xs w) (sym e) (filter_has (λ w. nat_lt q.degree w.degree) q.pairs w (above q.degree w.degree (omega arith)) k))) (h.pairs.listed i j lt l (omega arith));
   });
-  closed = λ t m k. subst (λ ls. IsMultiple ls m) (sym el) (h.closed (sym ec ∙ t) m k);
+  closed = λ t. closed_more P q.degree q'.degree q.leads q'.leads (omega arith) (λ m k. subst (λ ls. Contains ls m) (sym el) k) (h.closed (sym ec ∙ t));
 }

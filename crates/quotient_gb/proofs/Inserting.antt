@@ -1,80 +1,51 @@
 -- A list with a member inserted at an index, or with a member replaced.
-use Rattle.std.proofs.Common.{◌≡◌, ℕ, zero, suc, ◌<◌, ◌≤◌, refl, ap, subst, List, [], ◌∷◌, ◌++◌, length, arith, ◌⊎◌, inl, inr, ⊎_elim, get_or, slice_set}
+use Rattle.std.proofs.Common.{◌≡◌, ℕ, zero, suc, ◌<◌, ◌≤◌, subst, List, [], ◌∷◌, ◌++◌, length, arith, ◌⊎◌, inl, inr, ⊎_elim, get_or, slice_set}
 use Rattle.monomial_order.specs.Monomial.{Exponents}
 use Rattle.std.specs.Prelude.{Contains, map}
 use Rattle.std.specs.List.{insert}
 use Rattle.std.specs.declared.cmp.Ordering.TheVariants.{Less}
-use Rattle.monomial_order.specs.laws.Lists.{contains_here, contains_there, contains_none, contains_cases}
+use Rattle.monomial_order.specs.laws.Lists.{contains_here, contains_there, contains_cases}
 use Rattle.polynomials.specs.Subalgebra.{Presented}
 use Rattle.monomial_order.specs.MonomialOrder.{IsIncreasing}
+use Rattle.std.proofs.lemmas.List.Sorted.{Contains-permutation, IsPermutation-insert, IsPermutation-sym}
+use Rattle.std.proofs.lemmas.List.{map-append, take-map, drop-map}
+
+module _ {A : Type 0} (xs : List A) (k : ℕ) (x : A) where
+  pub insert_here : Contains (insert xs k x) x
+  insert_here = Contains-permutation (x ∷ xs) (insert xs k x) x (IsPermutation-insert xs k x) (contains_here x xs)
+
+  pub insert_there : (y : A) → Contains xs y → Contains (insert xs k x) y
+  insert_there y h = Contains-permutation (x ∷ xs) (insert xs k x) y (IsPermutation-insert xs k x) (contains_there x xs y h)
+
+  pub insert_cases : (y : A) → Contains (insert xs k x) y → (x ≡ y) ⊎ Contains xs y
+  insert_cases y h = contains_cases x xs y (Contains-permutation (insert xs k x) (x ∷ xs) y (IsPermutation-sym (x ∷ xs) (insert xs k x) (IsPermutation-insert xs k x)) h)
 
 module _ {A : Type 0} where
-  pub insert_here : (xs : List A) (k : ℕ) (x : A) → Contains (insert xs k x) x
-  insert_here xs zero x = contains_here x xs
-  insert_here [] (suc k) x = contains_here x []
-  insert_here (y ∷ xs) (suc k) x = contains_there y (insert xs k x) x (insert_here xs k x)
-
-  pub insert_there : (xs : List A) (k : ℕ) (x y : A) → Contains xs y → Contains (insert xs k x) y
-  insert_there xs zero x y h = contains_there x xs y h
-  insert_there [] (suc k) x y h = absurd (contains_none y h)
-  insert_there (z ∷ xs) (suc k) x y h =
-      ⊎_elim (λ e. subst (Contains (z ∷ insert xs k x)) e (contains_here z (insert xs k x))) (λ i. contains_there z (insert xs k x) y (insert_there xs k x y i)) (contains_cases z xs y h)
-
-  pub insert_cases : (xs : List A) (k : ℕ) (x y : A) → Contains (insert xs k x) y → (x ≡ y) ⊎ Contains xs y
-  insert_cases xs zero x y h = contains_cases x xs y h
-  insert_cases [] (suc k) x y h = contains_cases x [] y h
-  insert_cases (z ∷ xs) (suc k) x y h =
-      ⊎_elim (λ e. inr (subst (Contains (z ∷ xs)) e (contains_here z xs)))
-      (λ i. ⊎_elim (λ e. inl e) (λ j. inr (contains_there z xs y j)) (insert_cases xs k x y i)) (contains_cases z (insert xs k x) y h)
-
   pub set_cases : (xs : List A) (i : ℕ) (x y : A) → Contains (slice_set xs i x) y → (x ≡ y) ⊎ Contains xs y
   set_cases [] i x y h = inr h
   set_cases (z ∷ xs) zero x y h = ⊎_elim (λ e. inl e) (λ k. inr (contains_there z xs y k)) (contains_cases x xs y h)
   set_cases (z ∷ xs) (suc i) x y h = ⊎_elim (λ e. inr (subst (Contains (z ∷ xs)) e (contains_here z xs)))
       (λ k. ⊎_elim (λ e. inl e) (λ j. inr (contains_there z xs y j)) (set_cases xs i x y k)) (contains_cases z (slice_set xs i x) y h)
 
-  pub set_length : (xs : List A) (i : ℕ) (x : A) → length (slice_set xs i x) ≡ length xs
-  set_length [] i x = refl
-  set_length (y ∷ xs) zero x = refl
-  set_length (y ∷ xs) (suc i) x = let e = set_length xs i x in omega arith
-
-  pub set_here : (xs : List A) (i : ℕ) (x d : A) → i < length xs → get_or (slice_set xs i x) i d ≡ x
-  set_here [] i x d l = absurd (omega arith)
-  set_here (y ∷ xs) zero x d l = refl
-  set_here (y ∷ xs) (suc i) x d l = set_here xs i x d (omega arith)
-
-  pub set_before : (xs : List A) (i k : ℕ) (x d : A) → k < i → get_or (slice_set xs i x) k d ≡ get_or xs k d
-  set_before [] i k x d l = refl
-  set_before (y ∷ xs) zero k x d l = absurd (omega arith)
-  set_before (y ∷ xs) (suc i) zero x d l = refl
-  set_before (y ∷ xs) (suc i) (suc k) x d l = set_before xs i k x d (omega arith)
-
 pub map_insert : {A B : Type 0} (f : A → B) (xs : List A) (k : ℕ) (x : A) → map f (insert xs k x) ≡ insert (map f xs) k (f x)
-map_insert f xs zero x = refl
-map_insert f [] (suc k) x = refl
-map_insert f (y ∷ xs) (suc k) x = ap (λ ys. f y ∷ ys) (map_insert f xs k x)
-
-pub map_set : {A B : Type 0} (f : A → B) (xs : List A) (i : ℕ) (x d : A) → i < length xs → f x ≡ f (get_or xs i d) → map f (slice_set xs i x) ≡ map f xs
-map_set f [] i x d l e = refl
-map_set f (y ∷ xs) zero x d l e = ap (λ z. z ∷ map f xs) e
-map_set f (y ∷ xs) (suc i) x d l e = ap (λ ys. f y ∷ ys) (map_set f xs i x d (omega arith) e)
+map_insert f xs k x = simp (map-append, take-map, drop-map)
 
 module _ {E : Type 0} (P : Presented E) where
-  -- a rising list with a member put between the smaller and the greater ones
-  pub rise_insert : (ms : List Exponents) (k : ℕ) (m : Exponents) → IsIncreasing P.order ms → k ≤ length ms →
+  -- an increasing list with a member put between the smaller and the greater ones
+  pub increasing_insert : (ms : List Exponents) (k : ℕ) (m : Exponents) → IsIncreasing P.order ms → k ≤ length ms →
       ((i : ℕ) → i < k → P.order.compare (get_or ms i []) m ≡ Less) → (k < length ms → P.order.compare m (get_or ms k []) ≡ Less) → IsIncreasing P.order (insert ms k m)
-  rise_insert [] zero m h l before after = tt
-  rise_insert (n ∷ ms) zero m h l before after = (after (omega arith), h)
-  rise_insert [] (suc k) m h l before after = tt
-  rise_insert (n ∷ []) (suc zero) m h l before after = (before 0 (omega arith), tt)
-  rise_insert (n ∷ []) (suc (suc k)) m h l before after = absurd (omega arith)
-  rise_insert (n ∷ (n' ∷ ms)) (suc zero) m h l before after = (before 0 (omega arith), (after (omega arith), h.1))
-  rise_insert (n ∷ (n' ∷ ms)) (suc (suc k)) m h l before after =
-      (h.0, rise_insert (n' ∷ ms) (suc k) m h.1 (omega arith) (λ i q. before (suc i) (omega arith)) (λ q. after (omega arith)))
+  increasing_insert [] zero m h l before after = tt
+  increasing_insert (n ∷ ms) zero m h l before after = (after (omega arith), h)
+  increasing_insert [] (suc k) m h l before after = tt
+  increasing_insert (n ∷ []) (suc zero) m h l before after = (before 0 (omega arith), tt)
+  increasing_insert (n ∷ []) (suc (suc k)) m h l before after = absurd (omega arith)
+  increasing_insert (n ∷ (n' ∷ ms)) (suc zero) m h l before after = (before 0 (omega arith), (after (omega arith), h.1))
+  increasing_insert (n ∷ (n' ∷ ms)) (suc (suc k)) m h l before after =
+      (h.0, increasing_insert (n' ∷ ms) (suc k) m h.1 (omega arith) (λ i q. before (suc i) (omega arith)) (λ q. after (omega arith)))
 
   -- increasing lists of which the one is below the other
-  pub rise_append : (ms ns : List Exponents) → IsIncreasing P.order ms → IsIncreasing P.order ns → ((m n : Exponents) → Contains ms m → Contains ns n → P.order.compare m n ≡ Less) → IsIncreasing P.order (ms ++ ns)
-  rise_append [] ns h k b = k
-  rise_append (m ∷ []) [] h k b = tt
-  rise_append (m ∷ []) (n ∷ ns) h k b = (b m n (contains_here m []) (contains_here n ns), k)
-  rise_append (m ∷ (m' ∷ ms)) ns h k b = (h.0, rise_append (m' ∷ ms) ns h.1 k (λ x y i j. b x y (contains_there m (m' ∷ ms) x i) j))
+  pub increasing_append : (ms ns : List Exponents) → IsIncreasing P.order ms → IsIncreasing P.order ns → ((m n : Exponents) → Contains ms m → Contains ns n → P.order.compare m n ≡ Less) → IsIncreasing P.order (ms ++ ns)
+  increasing_append [] ns h k b = k
+  increasing_append (m ∷ []) [] h k b = tt
+  increasing_append (m ∷ []) (n ∷ ns) h k b = (b m n (contains_here m []) (contains_here n ns), k)
+  increasing_append (m ∷ (m' ∷ ms)) ns h k b = (h.0, increasing_append (m' ∷ ms) ns h.1 k (λ x y i j. b x y (contains_there m (m' ∷ ms) x i) j))

@@ -18,3 +18,4 @@ pub mod Finishing
 pub mod Listing
 pub mod Knowing
 pub mod Extending
+pub mod EveryDegree

@@ -16,7 +16,7 @@ use Rattle.polynomials.specs.laws.Congruence.{congruent_sym, congruent_trans, co
 use Rattle.polynomials.specs.laws.Ideal.{InIdeal_same, InIdeal_times}
 use Rattle.quotient_gb.specs.Combinations.{AtMost, Combines, HasStandardRepresentation}
 use Rattle.quotient_gb.specs.Remainder.{IsRemainderBy}
-use Rattle.quotient_gb.specs.IdealBasis.{IsMonicMember}
+use Rattle.quotient_gb.specs.IdealBasis.{IsMonicMember, AreMonicMembers}
 use Rattle.quotient_gb.proofs.Combinations.{IsTerm_constant, combines_same, combines_plus, combines_one, combines_more, combines_inside}
 use Rattle.quotient_gb.proofs.Places.{has_divisor}
 
@@ -27,9 +27,9 @@ pub record IsInsertable {E : Type 0} (P : Presented E) (G : List (Polynomial E))
   pub fresh : ¬ IsMultiple (map lead_monomial G) (lead_monomial n)
   pub reduces : (G' : List (Polynomial E)) → ((g : Polynomial E) → Contains G g → Contains G' g) → Contains G' n → HasStandardRepresentation P.field P.order G' a
 
-module _ {E : Type 0} (P : Presented E) (H : IsPresentation P) (G : List (Polynomial E)) (members : (g : Polynomial E) → Contains G g → IsMonicMember P g)
+module _ {E : Type 0} (P : Presented E) (H : IsPresentation P) (G : List (Polynomial E)) (members : AreMonicMembers P G)
     (a rest : Polynomial E) (fa : IsDecreasing P.field P.order a) (ha : InIdeal P.field P.order.places P.ideal a) (rem : IsRemainderBy P.field P.order G (AtMost P.order (lead_monomial a)) a rest) where
-  rest_inside : InIdeal P.field P.order.places P.ideal rest
+  pub rest_inside : InIdeal P.field P.order.places P.ideal rest
   rest_inside = member_congruent P.field H.field P.order.places P.ideal rest
       (congruent_trans P.field H.field P.order.places P.ideal rest a []
       (congruent_sym P.field H.field P.order.places P.ideal a rest (combines_inside P.field H.field P.order H.order G P.ideal (λ g h. (members g h).inside) (AtMost P.order (lead_monomial a)) (minus P.field a rest) rem.combines))
@@ -47,7 +47,7 @@ module _ {E : Type 0} (P : Presented E) (H : IsPresentation P) (G : List (Polyno
     rest_degree : (d : ℕ) → degree_of P.order a ≤ d → P.order.degree (lead_monomial rest) ≤ d
     rest_degree d l = ⊎_elim (λ e. subst (λ m. P.order.degree m ≤ d) (sym e) l) (λ lt. let q = degree_falls P.order H.order (lead_monomial rest) (lead_monomial a) lt in omega arith) rest_at_most
 
-    rest_fresh : IsMultiple (map lead_monomial G) (lead_monomial rest) → ⊥
+    pub rest_fresh : IsMultiple (map lead_monomial G) (lead_monomial rest) → ⊥
     rest_fresh h = rem.reduced (lead_monomial rest) (decreasing_leads P.field H.field P.order H.order rest fr some).nonzero (has_divisor G (lead_monomial rest) h)
 
     front_value : (q : Polynomial E) → IsDecreasing P.field P.order q → q ≢ [] → IsValue P.field (first_coefficient P.field q)
@@ -73,12 +73,7 @@ module _ {E : Type 0} (P : Presented E) (H : IsPresentation P) (G : List (Polyno
           (λ m.
           let x = coefficient P.field n m in
           let f = first_coefficient P.field rest in
-          coefficient-constant_times P.field H.field (P.field.reduce c) rest m ∙
-          (reduce-times P.field H.field c (coefficient P.field rest m) ∙
-          (ap (P.field.times c) (multiple m) ∙
-          (sym (H.field.times_assoc c f x) ∙
-          (ap (λ y. P.field.times y x) (H.field.times_comm c f ∙ e) ∙
-          (one-times P.field H.field x ∙ coefficient_value P.field H.field n m))))))
+          cc (coefficient-constant_times P.field H.field (P.field.reduce c) rest m, reduce-times P.field H.field c (coefficient P.field rest m), multiple m, H.field.times_assoc c f x, H.field.times_comm c f, e, one-times P.field H.field x, coefficient_value P.field H.field n m))
           (InIdeal_times P.field H.field P.order.places P.ideal (constant P.field (P.field.reduce c)) rest (IsTerm_constant P.field H.field P.order.places (P.field.reduce c) reduced, tt) rest_inside)
         where
           reduced : IsValue P.field (P.field.reduce c)

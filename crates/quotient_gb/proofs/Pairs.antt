@@ -1,11 +1,11 @@
 -- S-polynomials with representations below: in both orders of a pair, of a member with itself, with a standard representation,
 -- and with coprime leads.
 use Rattle.std.proofs.Common.{◌≡◌, ◌≢◌, sym, ◌∙◌, ap, subst, List, [], ◌∷◌, ⊎_elim}
-use Rattle.polynomials.specs.laws.Coefficients.{nothing_at}
+use Rattle.polynomials.specs.laws.Coefficients.{nothing_at, minus_nonzero, minus_poly}
 use Rattle.std.specs.Prelude.{Contains}
 use Rattle.std.specs.declared.cmp.Ordering.TheVariants.{Less}
 use Rattle.word_field.specs.Field.{FieldOps, IsField}
-use Rattle.word_field.specs.laws.Field.{reduce-plus, zero-plus-zero, negate-zero}
+use Rattle.word_field.specs.laws.Field.{reduce-plus}
 use Rattle.monomial_order.specs.Monomial.{product, least_common_multiple as lcm, IsMonomial, AreCoprime, Exponents}
 use Rattle.monomial_order.specs.MonomialOrder.{MonomialOrder, IsMonomialOrder}
 use Rattle.monomial_order.specs.laws.Monomial.{product_comm, IsMonomial-least_common_multiple as IsMonomial-lcm, least_common_multiple_comm as lcm_comm}
@@ -15,24 +15,19 @@ use Rattle.polynomials.specs.laws.Same.{minus_self}
 use Rattle.polynomials.specs.laws.Decreasing.{IsDecreasing_IsPoly, coefficient_first}
 use Rattle.polynomials.specs.laws.Canonical.{zero_or_lead}
 use Rattle.polynomials.specs.laws.Congruence.{coefficient-minus, negated-minus}
-use Rattle.polynomials.specs.laws.Ideal.{IsPoly-append, IsPoly-scaled, IsPoly-negated}
+use Rattle.polynomials.specs.laws.Ideal.{IsPoly-scaled}
 use Rattle.polynomials.specs.laws.Terms.{IsDecreasing-scaled}
 use Rattle.quotient_gb.specs.Combinations.{AtMost, Under, Combines}
 use Rattle.quotient_gb.specs.Criterion.{AreCofactors, s_polynomial, HasStandardSPolynomial, HasRepresentationBelow}
 use Rattle.quotient_gb.proofs.Multiples.{product_cancel, divides_left, lcm_coprime}
 use Rattle.quotient_gb.proofs.Combinations.{combines_same, combines_zero, combines_plus, combines_one, combines_weaken, combines_negated, combines_minus}
-use Rattle.quotient_gb.proofs.Criterion.{IsReducer, monomials, scaled_leads}
+use Rattle.quotient_gb.proofs.Criterion.{IsReducer, monomials, scaled_leads, AreReducers}
 
 module _ {E : Type 0} (K : FieldOps E) (F : IsField K) where
-  -- if a + b = c + d, then a - c = d - b
   exchange : (a b c d : E) → K.plus a b ≡ K.plus c d → K.plus a (K.negate c) ≡ K.plus d (K.negate b)
   exchange a b c d h =
-      sym (reduce-plus K F a (K.negate c)) ∙
-      (ap (λ x. K.plus x (K.negate c))
-      (sym (F.plus_zero a) ∙ (ap (K.plus a) (sym (F.plus_negate b)) ∙ (sym (F.plus_assoc a b (K.negate b)) ∙ (ap (λ x. K.plus x (K.negate b)) h ∙
-      (F.plus_assoc c d (K.negate b) ∙ F.plus_comm c (K.plus d (K.negate b))))))) ∙
-      (F.plus_assoc (K.plus d (K.negate b)) c (K.negate c) ∙ (ap (K.plus (K.plus d (K.negate b))) (F.plus_negate c) ∙
-      (F.plus_zero (K.plus d (K.negate b)) ∙ F.plus_value d (K.negate b)))))
+      let n = K.negate b in
+      cc (F.plus_assoc a b n, F.plus_negate b, F.plus_zero a, reduce-plus K F a (K.negate c), F.plus_assoc c d n, F.plus_comm c (K.plus d n), F.plus_assoc (K.plus d n) c (K.negate c), F.plus_negate c, F.plus_zero (K.plus d n), F.plus_value d n)
 
   -- a member in two parts
   pub record IsParted (O : MonomialOrder) (g : Polynomial E) : Type 0 where
@@ -42,6 +37,14 @@ module _ {E : Type 0} (K : FieldOps E) (F : IsField K) where
     pub is : g ≡ term_of (lead_monomial g) K.one ∷ rest
 
   module _ (O : MonomialOrder) (L : IsMonomialOrder O) where
+    -- two polynomials with one lead and one coefficient there differ by something below
+    pub difference_below : (a s : Polynomial E) (M : Exponents) → IsLead K O a M → IsLead K O s M → coefficient K a M ≡ coefficient K s M →
+        (n : Exponents) → coefficient K (minus K a s) n ≢ K.zero → O.compare n M ≡ Less
+    difference_below a s M la ls e n k = ⊎_elim (λ na. la.greatest n na other) (λ ns. ls.greatest n ns other) (minus_nonzero K F a s n k)
+      where
+        other : n ≢ M
+        other q = k (ap (coefficient K (minus K a s)) q ∙ (coefficient-minus K F a s M ∙ (ap (λ x. K.plus x (K.negate (coefficient K s M))) e ∙ F.plus_negate (coefficient K s M))))
+
     pub parted : (g : Polynomial E) → IsReducer K O g → IsParted O g
     parted g h = cases g h.decreasing h.monic
       where
@@ -66,7 +69,7 @@ module _ {E : Type 0} (K : FieldOps E) (F : IsField K) where
             (ap (K.times K.one) (sym (coefficient_first K F O L x p f.0) ∙ e) ∙ (F.times_one K.one ∙ F.one_value))
 
 module _ {E : Type 0} (K : FieldOps E) (F : IsField K) (O : MonomialOrder) (L : IsMonomialOrder O)
-    (G : List (Polynomial E)) (HG : (g : Polynomial E) → Contains G g → IsReducer K O g) where
+    (G : List (Polynomial E)) (HG : AreReducers K O G) where
   pub below_sym : (g h : Polynomial E) → HasRepresentationBelow K O G g h → HasRepresentationBelow K O G h g
   below_sym g h j u v k =
       let e = lcm_comm (lead_monomial h) (lead_monomial g) in
@@ -102,19 +105,14 @@ module _ {E : Type 0} (K : FieldOps E) (F : IsField K) (O : MonomialOrder) (L : 
         let b : coefficient K B M ≡ K.one = ap (coefficient K B) (sym ev) ∙ scaled_monic K F O L v h mv rh in
         let la : IsLead K O A M = subst (IsLead K O A) eu (scaled_leads K F O L (term_of u K.one) g (record { monomial = mu; value = F.one_value }) F.one_not_zero rg.decreasing rg.monic) in
         let lb : IsLead K O B M = subst (IsLead K O B) ev (scaled_leads K F O L (term_of v K.one) h (record { monomial = mv; value = F.one_value }) F.one_not_zero rh.decreasing rh.monic) in
-        let ne : n ≢ M = λ e. k (ap (coefficient K (s_polynomial K u g v h)) e ∙ (coefficient-minus K F A B M ∙ (ap (λ x. K.plus x (K.negate (coefficient K B M))) a ∙ (ap (λ x. K.plus K.one (K.negate x)) b ∙ F.plus_negate K.one)))) in
-        ⊎_elim
-        (λ z. lb.greatest n (λ y. k (coefficient-minus K F A B n ∙ (ap (λ x. K.plus x (K.negate (coefficient K B n))) z ∙ (ap (λ x. K.plus K.zero (K.negate x)) y ∙ (ap (K.plus K.zero) (negate-zero K F) ∙ zero-plus-zero K F))))) ne)
-        (λ nz. la.greatest n nz ne)
-        (F.equal_or_not (coefficient K A n) K.zero)
+        difference_below K F O L A B M la lb (a ∙ sym b) n k
 
     pub s_polynomial_poly : (u v : Exponents) → AreCofactors u (lead_monomial g) v (lead_monomial h) → IsPoly K O.places (s_polynomial K u g v h)
     s_polynomial_poly u v w =
         let mM = IsMonomial-lcm O.places (lead_monomial g) (lead_monomial h) (monomials K F O L G HG g hg) (monomials K F O L G HG h hh) in
-        IsPoly-append K F O.places (scaled K (term_of u K.one) g) (negated K (scaled K (term_of v K.one) h))
+        minus_poly K F O.places (scaled K (term_of u K.one) g) (scaled K (term_of v K.one) h)
         (IsPoly-scaled K F O.places (term_of u K.one) g (record { monomial = divides_left u (lead_monomial g) O.places (subst (IsMonomial O.places) (sym w.left) mM) w.left_trimmed; value = F.one_value }) (IsDecreasing_IsPoly K O g (HG g hg).decreasing))
-        (IsPoly-negated K F O.places (scaled K (term_of v K.one) h)
-        (IsPoly-scaled K F O.places (term_of v K.one) h (record { monomial = divides_left v (lead_monomial h) O.places (subst (IsMonomial O.places) (sym w.right) mM) w.right_trimmed; value = F.one_value }) (IsDecreasing_IsPoly K O h (HG h hh).decreasing)))
+        (IsPoly-scaled K F O.places (term_of v K.one) h (record { monomial = divides_left v (lead_monomial h) O.places (subst (IsMonomial O.places) (sym w.right) mM) w.right_trimmed; value = F.one_value }) (IsDecreasing_IsPoly K O h (HG h hh).decreasing))
 
     -- a standard representation is one below
     pub below_standard : HasStandardSPolynomial K O G g h → HasRepresentationBelow K O G g h

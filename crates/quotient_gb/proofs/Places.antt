@@ -1,6 +1,6 @@
 -- Members of lists by their indices.
 use Rattle.std.proofs.Common.{◌≡◌, ◌≢◌, ℕ, zero, suc, ◌<◌, ◌≤◌, refl, sym, ◌∙◌, ap, subst, List, [], ◌∷◌, ◌++◌, ⊎_elim, length, arith, get_or, Bool, true, false}
-use Rattle.std.proofs.lemmas.List.{length-map}
+use Rattle.std.proofs.lemmas.List.{length-map, get_or_default, nil_from_length}
 use Rattle.std.proofs.lemmas.Bool.{eqb-true, eq-eqb, true≢false}
 use Rattle.std.specs.Prelude.{map, nat_eq}
 use Rattle.monomial_order.specs.Monomial.{Divides, IsMultiple, Exponents}
@@ -13,31 +13,19 @@ use Rattle.quotient_gb.specs.DegreeStep.{IsPart}
 pub below_stop : (k n i : ℕ) → k < n → n ≤ i → k < i
 below_stop k n i h l = omega arith
 
+pub not_below_zero : (k : ℕ) → k < 0 → ⊥
+not_below_zero k l = omega arith
+
 pub not_below : (n k : ℕ) → (n ≤ k → ⊥) → k < n
 not_below n k h = omega arith
 
 -- a member by its index
 pub at_default : {A : Type 0} (xs : List A) (i : ℕ) (x d : A) → i < length xs → get_or xs i x ≡ x → get_or xs i d ≡ x
-at_default [] i x d l e = absurd (omega arith)
-at_default (y ∷ xs) zero x d l e = e
-at_default (y ∷ xs) (suc i) x d l e = at_default xs i x d (omega arith) e
-
-pub append_at : {A : Type 0} (xs ys : List A) (i : ℕ) (d : A) → i < length xs → get_or (xs ++ ys) i d ≡ get_or xs i d
-append_at [] ys i d l = absurd (omega arith)
-append_at (x ∷ xs) ys zero d l = refl
-append_at (x ∷ xs) ys (suc i) d l = append_at xs ys i d (omega arith)
-
-pub map_append : {A B : Type 0} (f : A → B) (xs ys : List A) → map f (xs ++ ys) ≡ map f xs ++ map f ys
-map_append f [] ys = refl
-map_append f (x ∷ xs) ys = ap (λ zs. f x ∷ zs) (map_append f xs ys)
-
-no_length : {A : Type 0} (xs : List A) → length xs ≡ 0 → xs ≡ []
-no_length [] e = refl
-no_length (x ∷ xs) e = absurd (omega arith)
+at_default xs i x d l e = get_or_default xs i d x l ∙ e
 
 -- what the test for an empty list says
 pub empty_is : {A : Type 0} (xs : List A) (b : Bool) → b ≡ nat_eq (length xs) 0 → b ≡ true → xs ≡ []
-empty_is xs b e t = no_length xs (eqb-true (length xs) 0 (sym e ∙ t))
+empty_is xs b e t = nil_from_length xs (eqb-true (length xs) 0 (sym e ∙ t))
 
 pub not_empty_is : {A : Type 0} (xs : List A) (b : Bool) → b ≡ nat_eq (length xs) 0 → b ≡ false → xs ≢ []
 not_empty_is xs b e f n = true≢false (sym (eq-eqb (length xs) 0 (ap length n)) ∙ (sym e ∙ f))

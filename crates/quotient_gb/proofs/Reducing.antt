@@ -1,27 +1,27 @@
 -- The steps of reducing a polynomial by a list.
-use Rattle.std.proofs.Common.{◌≡◌, ◌≢◌, ℕ, suc, ◌<◌, refl, sym, ◌∙◌, ap, subst, List, [], ◌∷◌, ◌++◌, ◌⊎◌, inl, inr, ⊎_elim, arith, append-nil, append_assoc, cond}
-use Rattle.polynomials.specs.laws.Coefficients.{single_term, scaled_small}
+use Rattle.std.proofs.Common.{◌≡◌, ◌≢◌, ℕ, suc, ◌<◌, refl, sym, ◌∙◌, ap, subst, List, [], ◌∷◌, ◌++◌, ◌⊎◌, inl, inr, ⊎_elim, arith, append-nil, cond}
+use Rattle.polynomials.specs.laws.Coefficients.{nothing_at, single_term, scaled_small, append_nonzero}
 use Rattle.std.specs.Prelude.{Contains}
-use Rattle.std.specs.declared.cmp.Ordering.TheVariants.{Less, Equal, Greater}
+use Rattle.std.specs.declared.cmp.Ordering.TheVariants.{Less}
 use Rattle.word_field.specs.Field.{FieldOps, IsField, IsValue}
-use Rattle.word_field.specs.laws.Field.{zero-plus-zero, negate-zero, plus_four, negate-negate}
+use Rattle.word_field.specs.laws.Field.{negate-plus, negate-zero, plus_four, negate-negate}
 use Rattle.monomial_order.specs.declared.terms.Term.{Term}
 use Rattle.monomial_order.specs.Monomial.{product, IsMonomial, IsTrimmed, Exponents}
 use Rattle.monomial_order.specs.MonomialOrder.{MonomialOrder, IsMonomialOrder}
 use Rattle.monomial_order.specs.laws.Monomial.{product_comm}
 use Rattle.polynomials.specs.Polynomial.{Polynomial, coefficient, Same, term_of, scaled, negated, minus, IsTerm, IsBelow, IsDecreasing, IsLead, IsSmall, IsCanonical, AllAt, lead_monomial}
 use Rattle.polynomials.specs.laws.Ring.{coefficient-append}
-use Rattle.polynomials.specs.laws.Same.{same_refl, append_same, append_comm, coefficient-negated, minus_self}
+use Rattle.polynomials.specs.laws.Same.{same_refl, coefficient-negated, minus_self}
 use Rattle.polynomials.specs.laws.Decreasing.{IsDecreasing_IsPoly, IsLead_first, coefficient_first}
-use Rattle.monomial_order.specs.laws.Comparing.{not_below_self, greater_less}
-use Rattle.polynomials.specs.laws.Congruence.{minus_same, minus-append}
+use Rattle.monomial_order.specs.laws.Comparing.{equal_or_not}
+use Rattle.polynomials.specs.laws.Congruence.{minus_same}
 use Rattle.monomial_order.specs.laws.Rank.{rank, rank_falls}
 use Rattle.polynomials.specs.laws.Degrees.{decreasing_all}
 use Rattle.quotient_gb.specs.Combinations.{HasLeadDivisor, AtMost, Combines}
 use Rattle.quotient_gb.specs.Remainder.{IsRemainderBy}
 use Rattle.quotient_gb.proofs.Multiples.{divides_left}
 use Rattle.quotient_gb.proofs.Combinations.{combines_same, combines_zero, combines_plus, combines_one, combines_negated}
-use Rattle.quotient_gb.proofs.Criterion.{IsReducer, monomials, coefficient-front, scaled_leads}
+use Rattle.quotient_gb.proofs.Criterion.{monomials, coefficient-front, scaled_leads, AreReducers}
 use Rattle.quotient_gb.proofs.Pairs.{scaled_monic}
 
 -- what the loop maintains: p is a combination, the work, which is at most the lead of p, and what is done, which is irreducible
@@ -47,10 +47,7 @@ module _ {E : Type 0} (K : FieldOps E) (F : IsField K) (O : MonomialOrder) (L : 
   two_below A B M ha hb z r fr s =
       below_all M r (decreasing_all K F O L (λ n. O.compare n M ≡ Less) r fr (λ n k.
       let ne : n ≢ M = λ e. k (ap (coefficient K r) e ∙ (s M ∙ (coefficient-append K F A B M ∙ z))) in
-      ⊎_elim
-      (λ za. hb n (λ zb. k (s n ∙ (coefficient-append K F A B n ∙ (ap (λ x. K.plus x (coefficient K B n)) za ∙ (ap (K.plus K.zero) zb ∙ zero-plus-zero K F))))) ne)
-      (λ na. ha n na ne)
-      (F.equal_or_not (coefficient K A n) K.zero)))
+      ⊎_elim (λ na. ha n na ne) (λ nb. hb n nb ne) (append_nonzero K F A B n (λ z. k (s n ∙ z)))))
 
   module _ (p : Polynomial E) (t : Term E) (w : Polynomial E) (is : p ≡ t ∷ w) (kp : IsCanonical K O p) where
     parts : IsCanonical K O (t ∷ w)
@@ -78,26 +75,14 @@ module _ {E : Type 0} (K : FieldOps E) (F : IsField K) (O : MonomialOrder) (L : 
 
     -- the first term is moved to what is done
     pub moved_sum : (rest more done : Polynomial E) → Same K rest (p ++ (term_of t.at (K.negate t.by) ∷ [])) → Same K more (done ++ (t ∷ [])) → Same K (rest ++ more) (p ++ done)
-    unfolding coefficient
     moved_sum rest more done hr hm m =
         let A = term_of t.at (K.negate t.by) ∷ [] in
         let B = t ∷ [] in
-        let zero_sum : K.plus (coefficient K A m) (coefficient K B m) ≡ K.zero =
-        ap (λ x. K.plus x (coefficient K B m)) (coefficient-negated K F B m) ∙ (F.plus_comm (K.negate (coefficient K B m)) (coefficient K B m) ∙ F.plus_negate (coefficient K B m)) in
-        append_same K F rest (p ++ A) more (done ++ B) hr hm m ∙
-        (coefficient-append K F (p ++ A) (done ++ B) m ∙
-        (ap (λ x. K.plus x (coefficient K (done ++ B) m)) (coefficient-append K F p A m) ∙
-        (ap (K.plus (K.plus (coefficient K p m) (coefficient K A m))) (coefficient-append K F done B m) ∙
-        (plus_four K F (coefficient K p m) (coefficient K A m) (coefficient K done m) (coefficient K B m) ∙
-        (ap (K.plus (K.plus (coefficient K p m) (coefficient K done m))) zero_sum ∙
-        (F.plus_zero (K.plus (coefficient K p m) (coefficient K done m)) ∙ (F.plus_value (coefficient K p m) (coefficient K done m) ∙ sym (coefficient-append K F p done m))))))))
+        let zero_sum : K.plus (coefficient K A m) (coefficient K B m) ≡ K.zero = simp (coefficient-negated K F B, F.plus_comm (K.negate (coefficient K B m)) (coefficient K B m), F.plus_negate) in
+        simp (coefficient-append K F, hr, hm, plus_four K F, zero_sum, F.plus_zero, F.plus_value)
 
     pub moved_monomials : (more done : Polynomial E) → Same K more (done ++ (t ∷ [])) → (m : Exponents) → coefficient K more m ≢ K.zero → (m ≡ t.at) ⊎ (coefficient K done m ≢ K.zero)
-    moved_monomials more done h m k =
-        ⊎_elim
-        (λ z. inl (sym (single_term K F t.at t.by m (λ y. k (h m ∙ (coefficient-append K F done (t ∷ []) m ∙ (ap (λ x. K.plus x (coefficient K (t ∷ []) m)) z ∙ (ap (K.plus K.zero) y ∙ zero-plus-zero K F))))))))
-        (λ n. inr n)
-        (F.equal_or_not (coefficient K done m) K.zero)
+    moved_monomials more done h m k = ⊎_elim inr (λ s. inl (sym (single_term K F t.at t.by m s))) (append_nonzero K F done (t ∷ []) m (λ z. k (h m ∙ z)))
 
     module _ (g : Polynomial E) (u : Exponents) (kg : IsCanonical K O g) (monic : coefficient K g (lead_monomial g) ≡ K.one) (tu : IsTrimmed u) (at : product (lead_monomial g) u ≡ t.at) where
       whole : product u (lead_monomial g) ≡ t.at
@@ -139,14 +124,8 @@ module _ {E : Type 0} (K : FieldOps E) (F : IsField K) (O : MonomialOrder) (L : 
       let l = rank_falls O L s.at t.at kr.decreasing.0.term.monomial b.0 in omega arith
 
   at_most_lead : (p : Polynomial E) → IsDecreasing K O p → (n : Exponents) → coefficient K p n ≢ K.zero → AtMost O (lead_monomial p) n
-  unfolding coefficient
-  at_most_lead [] h n k = absurd (k refl)
-  at_most_lead (t ∷ p) h n k =
-      elim (O.compare n t.at) as (λ o. O.compare n t.at ≡ o → AtMost O t.at n) [
-        | Less ↦ λ e. inr e
-        | Equal ↦ λ e. inl (L.equal n t.at e)
-        | Greater ↦ λ e. inr ((IsLead_first K F O L t p h).greatest n k (λ q. not_below_self O L t.at (subst (λ x. O.compare t.at x ≡ Less) q (greater_less O L n t.at e))))
-      ] refl
+  at_most_lead [] h n k = absurd (k (sym (nothing_at K n)))
+  at_most_lead (t ∷ p) h n k = ⊎_elim inl (λ ne. inr ((IsLead_first K F O L t p h).greatest n k ne)) (equal_or_not n t.at)
 
   -- a list below the lead of what is at most M is at most M
   lower : (M m : Exponents) (r : Polynomial E) → AtMost O M m → IsBelow K O m r → AllAt (AtMost O M) r
@@ -157,7 +136,7 @@ module _ {E : Type 0} (K : FieldOps E) (F : IsField K) (O : MonomialOrder) (L : 
   lead_at_most M [] l h = absurd (l refl)
   lead_at_most M (t ∷ w) l h = h.0
 
-  module _ (G : List (Polynomial E)) (HG : (g : Polynomial E) → Contains G g → IsReducer K O g) (p : Polynomial E) where
+  module _ (G : List (Polynomial E)) (HG : AreReducers K O G) (p : Polynomial E) where
     pub reducing_start : IsDecreasing K O p → IsReducing K O G p p []
     unfolding coefficient
     reducing_start fp = record {
@@ -176,10 +155,7 @@ module _ {E : Type 0} (K : FieldOps E) (F : IsField K) (O : MonomialOrder) (L : 
         let top = lead_at_most (lead_monomial p) work some h.at_most in
         record {
           combines = combines_same K F O L G (AtMost O (lead_monomial p)) (minus K p (work ++ done) ++ negated K S) (minus K p (next ++ done))
-              (λ m. sym (minus_same K F p (p ++ []) (next ++ done) ((work ++ done) ++ S) (λ n. ap (λ x. coefficient K x n) (sym (append-nil p)))
-              (λ n. append_same K F next (work ++ S) done done same (λ i. refl) n ∙
-              (ap (λ x. coefficient K x n) (append_assoc work S done) ∙ (append_same K F work work (S ++ done) (done ++ S) (λ i. refl) (append_comm K F S done) n ∙ ap (λ x. coefficient K x n) (sym (append_assoc work done S))))) m ∙
-              minus-append K F p [] (work ++ done) S m))
+              (λ m. simp (coefficient-append K F, coefficient-negated K F, same, negate-plus K F, F.plus_assoc, F.plus_comm (K.negate (coefficient K done m)) (K.negate (coefficient K S m))))
               (combines_plus K F O L G (AtMost O (lead_monomial p)) (minus K p (work ++ done)) (negated K S) h.combines
               (combines_negated K F O L G (monomials K F O L G HG) (AtMost O (lead_monomial p)) S
               (combines_one K F O L G (AtMost O (lead_monomial p)) s g ht hg (subst (AtMost O (lead_monomial p)) (sym at) top))));

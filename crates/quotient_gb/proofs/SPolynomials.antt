@@ -20,8 +20,8 @@ use Rattle.quotient_gb.specs.declared.basis.Basis.{Basis}
 use Rattle.quotient_gb.specs.declared.critical_pair.CriticalPair.{CriticalPair}
 use Rattle.quotient_gb.specs.declared.degree_step.DegreeStep.{DegreeStep}
 use Rattle.quotient_gb.specs.CriticalPairs.{pair_degree, IsCriticalPair}
-use Rattle.quotient_gb.specs.DegreeStep.{all_members, IsStepAfter, ReducesPair}
-use Rattle.quotient_gb.specs.IdealBasis.{IsMonicMember}
+use Rattle.quotient_gb.specs.DegreeStep.{HasLeads, all_members, IsStepAfter, ReducesPair}
+use Rattle.quotient_gb.specs.IdealBasis.{AreMonicMembers}
 use Rattle.quotient_gb.proofs.Bases.{lead_is, s_polynomial_inside}
 use Rattle.quotient_gb.proofs.Combinations.{combines_same}
 use Rattle.quotient_gb.proofs.Places.{lead_at, at_default}
@@ -40,7 +40,7 @@ pair_degree_is O G i j =
     ap (λ m. O.degree (least_common_multiple m (slice_index_or (map lead_monomial G) j []))) (lead_at G i) ∙
     ap (λ n. O.degree (least_common_multiple (lead_monomial (slice_index_or G i [])) n)) (lead_at G j)
 
-module _ {E : Type 0} (P : Presented E) (H : IsPresentation P) (G : List (Polynomial E)) (members : (g : Polynomial E) → Contains G g → IsMonicMember P g)
+module _ {E : Type 0} (P : Presented E) (H : IsPresentation P) (G : List (Polynomial E)) (members : AreMonicMembers P G)
     (g h : Polynomial E) (hg : Contains G g) (hh : Contains G h) (a : Polynomial E) (fa : IsDecreasing P.field P.order a)
     (D : (u v : Exponents) × AreCofactors u (lead_monomial g) v (lead_monomial h) × Same P.field a (s_polynomial P.field u g v h)) where
   top_monomial : IsMonomial P.order.places (least_common_multiple (lead_monomial g) (lead_monomial h))
@@ -71,23 +71,39 @@ module _ {E : Type 0} (P : Presented E) (H : IsPresentation P) (G : List (Polyno
           (r M (IsLead_same P.field H.field P.order H.order (s_polynomial P.field D.0 g D.1 h) a M (λ m. sym (D.3 m)) l))
 
 -- the two members of a critical pair, x and y
-module _ {F E : Type 0} (P : Presented E) (H : IsPresentation P) (b : Basis F E) (s : DegreeStep F E) (h : IsStepAfter P b s) (w : CriticalPair) (hw : IsCriticalPair P.order b.leads.items w) where
+module _ {F E : Type 0} (P : Presented E) (b : Basis F E) (leads : HasLeads b) (w : CriticalPair) (hw : IsCriticalPair P.order b.leads.items w) where
   count : length b.leads.items ≡ length b.members.items
-  count = ap length h.before.2.leads ∙ length-map b.members.items lead_monomial
+  count = ap length leads ∙ length-map b.members.items lead_monomial
 
-  pub second_within : w.second < length b.members.items
-  second_within = let e = count in let l = hw.within in omega arith
+  pub second_index : w.second < length b.members.items
+  second_index = let e = count in let l = hw.within in omega arith
 
-  pub first_within : w.first < length b.members.items
-  first_within = let e = second_within in let l = hw.order in omega arith
+  pub first_index : w.first < length b.members.items
+  first_index = let e = second_index in let l = hw.order in omega arith
 
   module _ (x y : Polynomial E) (ix : get_or b.members.items w.first x ≡ x) (iy : get_or b.members.items w.second y ≡ y) where
-    ex : get_or b.members.items w.first [] ≡ x
-    ex = at_default b.members.items w.first x [] first_within ix
+    pub first_is : get_or b.members.items w.first [] ≡ x
+    first_is = at_default b.members.items w.first x [] first_index ix
 
-    ey : get_or b.members.items w.second [] ≡ y
-    ey = at_default b.members.items w.second y [] second_within iy
+    pub second_is : get_or b.members.items w.second [] ≡ y
+    second_is = at_default b.members.items w.second y [] second_index iy
 
+    pub top_degree : w.degree ≡ P.order.degree (least_common_multiple (lead_monomial x) (lead_monomial y))
+    top_degree = hw.degree ∙ (ap (λ ms. pair_degree P.order ms w.first w.second) leads ∙ (pair_degree_is P.order b.members.items w.first w.second ∙
+        (ap (λ z. P.order.degree (least_common_multiple (lead_monomial z) (lead_monomial (get_or b.members.items w.second [])))) first_is ∙ ap (λ z. P.order.degree (least_common_multiple (lead_monomial x) (lead_monomial z))) second_is)))
+
+-- and in a step
+module _ {F E : Type 0} (P : Presented E) (H : IsPresentation P) (b : Basis F E) (s : DegreeStep F E) (h : IsStepAfter P b s) (w : CriticalPair) (hw : IsCriticalPair P.order b.leads.items w) where
+  leads_are : HasLeads b
+  leads_are = h.before.2.leads
+
+  pub second_within : w.second < length b.members.items
+  second_within = second_index P b leads_are w hw
+
+  pub first_within : w.first < length b.members.items
+  first_within = first_index P b leads_are w hw
+
+  module _ (x y : Polynomial E) (ix : get_or b.members.items w.first x ≡ x) (iy : get_or b.members.items w.second y ≡ y) where
     pub first_in : Contains (all_members b s) x
     first_in = contains_left b.members.items s.found.members.items x (w.first, first_within, ix)
 
@@ -95,8 +111,7 @@ module _ {F E : Type 0} (P : Presented E) (H : IsPresentation P) (b : Basis F E)
     second_in = contains_left b.members.items s.found.members.items y (w.second, second_within, iy)
 
     pub lcm_degree : w.degree ≡ P.order.degree (least_common_multiple (lead_monomial x) (lead_monomial y))
-    lcm_degree = hw.degree ∙ (ap (λ ms. pair_degree P.order ms w.first w.second) h.before.2.leads ∙ (pair_degree_is P.order b.members.items w.first w.second ∙
-        (ap (λ z. P.order.degree (least_common_multiple (lead_monomial z) (lead_monomial (get_or b.members.items w.second [])))) ex ∙ ap (λ z. P.order.degree (least_common_multiple (lead_monomial x) (lead_monomial z))) ey)))
+    lcm_degree = top_degree P b leads_are w hw x y ix iy
 
     module _ (a : Polynomial E) (fa : IsDecreasing P.field P.order a) (D : (u v : Exponents) × AreCofactors u (lead_monomial x) v (lead_monomial y) × Same P.field a (s_polynomial P.field u x v y)) where
       pub inside : InIdeal P.field P.order.places P.ideal a
@@ -107,5 +122,5 @@ module _ {F E : Type 0} (P : Presented E) (H : IsPresentation P) (b : Basis F E)
 
       pub reduced : (s' : DegreeStep F E) → HasStandardRepresentation P.field P.order (all_members b s') a → ReducesPair P b s' w
       reduced s' r =
-          subst (λ z. HasStandardSPolynomial P.field P.order (all_members b s') z (get_or b.members.items w.second [])) (sym ex)
-          (subst (HasStandardSPolynomial P.field P.order (all_members b s') x) (sym ey) (pair_reduced P H (all_members b s) (member P H b s h) x y first_in second_in a fa D (all_members b s') r))
+          subst (λ z. HasStandardSPolynomial P.field P.order (all_members b s') z (get_or b.members.items w.second [])) (sym (first_is P b leads_are w hw x y ix iy))
+          (subst (HasStandardSPolynomial P.field P.order (all_members b s') x) (sym (second_is P b leads_are w hw x y ix iy)) (pair_reduced P H (all_members b s) (member P H b s h) x y first_in second_in a fa D (all_members b s') r))

@@ -1,7 +1,7 @@
 -- The members of a basis with those of the step after it.
 use Rattle.std.proofs.Common.{◌≢◌, ◌≡◌, ℕ, ◌+◌, ◌<◌, ◌≤◌, refl, sym, ◌∙◌, ap, subst, List, [], ◌++◌, length, arith, ◌⊎◌, ⊎_elim, get_or, slice_set, ◌∷◌}
-use Rattle.std.proofs.lemmas.List.{length-map}
-use Rattle.polynomials.specs.laws.Coefficients.{small_lead, found_monomial}
+use Rattle.std.proofs.lemmas.List.{length-map, length-set, get_or-set_same, get_or-set_other, map-append}
+use Rattle.polynomials.specs.laws.Coefficients.{small_lead}
 use Rattle.std.specs.Prelude.{Contains, map}
 use Rattle.std.specs.List.{insert}
 use Rattle.std.specs.declared.cmp.Ordering.TheVariants.{Less}
@@ -17,19 +17,18 @@ use Rattle.monomial_order.specs.MonomialOrder.{IsIncreasing}
 use Rattle.polynomials.specs.laws.ReducedBasis.{map_contains}
 use Rattle.quotient_gb.specs.declared.basis.Basis.{Basis}
 use Rattle.quotient_gb.specs.declared.degree_step.DegreeStep.{DegreeStep}
-use Rattle.quotient_gb.specs.IdealBasis.{IsMonicMember, AreIdealLeads, HasStandardTail}
+use Rattle.quotient_gb.specs.IdealBasis.{IsMonicMember, AreIdealLeads, HasStandardTail, AreMonicMembers}
 use Rattle.quotient_gb.specs.DegreeStep.{IsPart, all_members, IsBasisTo, IsStepAfter, IsLaterStep, DividesLeads, HasReducedTail, HasTails}
 use Rattle.quotient_gb.specs.Remainder.{IsCanonicalIn, IsReducerIn, AreReducersIn}
 use Rattle.quotient_gb.proofs.Bases.{lead_is}
-use Rattle.quotient_gb.proofs.Inserting.{insert_there, insert_cases, map_insert, rise_insert, rise_append, set_cases, set_length, set_here, set_before, map_set}
-use Rattle.quotient_gb.proofs.Places.{not_below, map_append, multiple_more}
+use Rattle.quotient_gb.proofs.Inserting.{insert_there, insert_cases, map_insert, increasing_insert, increasing_append, set_cases}
+use Rattle.quotient_gb.proofs.Places.{not_below, multiple_more}
 use Rattle.quotient_gb.proofs.Remainders.{first_is_canonical}
 use Rattle.quotient_gb.proofs.Tails.{member_leads, standard_tail}
+use Rattle.polynomials.specs.laws.NormalForm.{lead_is_monomial}
+use Rattle.std.proofs.Math.Seq.{map-set_same}
 
 module _ {E : Type 0} (P : Presented E) (H : IsPresentation P) where
-  pub lead_monomial_of : (m : Exponents) → LeadsIdeal P m → IsMonomial P.order.places m
-  lead_monomial_of m h = found_monomial P.field H.field P.order H.order h.member h.poly m h.leads.nonzero
-
   pub reducer_of : (g : Polynomial E) → IsMonicMember P g → P.order.degree (lead_monomial g) ≤ 30000 → IsReducerIn P g
   reducer_of g h l = record { canonical = record { decreasing = h.decreasing; small = small_lead P.field H.field P.order H.order g h.decreasing (omega arith) }; monic = h.monic }
 
@@ -43,7 +42,7 @@ module _ {F E : Type 0} (P : Presented E) (H : IsPresentation P) (b : Basis F E)
   pub lower_degree : (g : Polynomial E) → Contains b.members.items g → P.order.degree (lead_monomial g) < s.degree
   lower_degree g k = let l = h.before.2.basis.leads.degrees (lead_monomial g) (contains_map lead_monomial b.members.items g k) in let e = h.before.1 in omega arith
 
-  pub member : (g : Polynomial E) → Contains G g → IsMonicMember P g
+  pub member : AreMonicMembers P G
   member g k = ⊎_elim (λ i. h.before.2.basis.members g i) (λ i. h.members g i) (contains_either b.members.items found g k)
 
   pub degree : (g : Polynomial E) → Contains G g → P.order.degree (lead_monomial g) ≤ s.degree
@@ -65,7 +64,7 @@ module _ {F E : Type 0} (P : Presented E) (H : IsPresentation P) (b : Basis F E)
   lower_multiple m k l = h.before.2.basis.leads.divides m k (let e = h.before.1 in omega arith)
 
   pub increasing : IsIncreasing P.order (map lead_monomial G)
-  increasing = subst (IsIncreasing P.order) (sym (map_append lead_monomial b.members.items found)) (rise_append P (map lead_monomial b.members.items) (map lead_monomial found) h.before.2.basis.leads.increasing h.increasing
+  increasing = subst (IsIncreasing P.order) (sym (map-append lead_monomial b.members.items found)) (increasing_append P (map lead_monomial b.members.items) (map lead_monomial found) h.before.2.basis.leads.increasing h.increasing
       (λ m n i j.
       let x = map_contains lead_monomial b.members.items m i in
       let y = map_contains lead_monomial found n j in
@@ -101,7 +100,7 @@ module _ {F E : Type 0} (P : Presented E) (H : IsPresentation P) (b : Basis F E)
   pub step_leads : (n : Exponents) → Contains s.found.leads.items n → IsMonomial P.order.places n × (P.order.degree n ≤ 65535)
   step_leads n k =
       let r = map_contains lead_monomial found n (subst (λ ms. Contains ms n) h.leads k) in (
-        subst (IsMonomial P.order.places) r.2 (lead_monomial_of P H (lead_monomial r.0) (member_leads P H r.0 (h.members r.0 r.1))),
+        subst (IsMonomial P.order.places) r.2 (lead_is_monomial P H (lead_monomial r.0) (member_leads P H r.0 (h.members r.0 r.1))),
         let e = h.degrees r.0 r.1 in let q = h.small in let d : P.order.degree (lead_monomial r.0) ≡ P.order.degree n = ap P.order.degree r.2 in omega arith,
       )
 
@@ -109,8 +108,8 @@ module _ {F E : Type 0} (P : Presented E) (H : IsPresentation P) (b : Basis F E)
   pub all_leads : DividesLeads P b s → (n : Exponents) → Contains (b.leads.items ++ s.found.leads.items) n → IsMonomial P.order.places n × (P.order.degree n ≤ 30000)
   all_leads v n k =
       let i = ideal_leads v in
-      let j : Contains (map lead_monomial G) n = subst (λ ms. Contains ms n) (ap (λ ms. ms ++ s.found.leads.items) h.before.2.leads ∙ (ap (λ ms. map lead_monomial b.members.items ++ ms) h.leads ∙ sym (map_append lead_monomial b.members.items found))) k in
-      (lead_monomial_of P H n (i.leads n j), let l = i.degrees n j in let q = h.small in omega arith)
+      let j : Contains (map lead_monomial G) n = subst (λ ms. Contains ms n) (ap (λ ms. ms ++ s.found.leads.items) h.before.2.leads ∙ (ap (λ ms. map lead_monomial b.members.items ++ ms) h.leads ∙ sym (map-append lead_monomial b.members.items found))) k in
+      (lead_is_monomial P H n (i.leads n j), let l = i.degrees n j in let q = h.small in omega arith)
 
   pub later_itself : IsLaterStep P b s s
   later_itself = record { degree = refl; step = h; part = λ x k. k }
@@ -135,7 +134,7 @@ module _ {F E : Type 0} (P : Presented E) (H : IsPresentation P) (b : Basis F E)
           (three_ways P.order H.order (get_or (map lead_monomial found) i []) (lead_monomial r))
         where
           more : Contains (map lead_monomial G) (get_or (map lead_monomial found) i [])
-          more = subst (λ x. Contains x (get_or (map lead_monomial found) i [])) (sym (map_append lead_monomial b.members.items found)) (contains_right (map lead_monomial b.members.items) (map lead_monomial found) (get_or (map lead_monomial found) i [])
+          more = subst (λ x. Contains x (get_or (map lead_monomial found) i [])) (sym (map-append lead_monomial b.members.items found)) (contains_right (map lead_monomial b.members.items) (map lead_monomial found) (get_or (map lead_monomial found) i [])
               (contains_at (map lead_monomial found) i [] (let e : length ls ≡ length (map lead_monomial found) = ap length ls_are in omega arith)))
 
       in_new : (g : Polynomial E) → Contains s'.found.members.items g → (r ≡ g) ⊎ Contains found g
@@ -151,7 +150,7 @@ module _ {F E : Type 0} (P : Presented E) (H : IsPresentation P) (b : Basis F E)
           leads = leads ∙ (ap (λ x. insert s.found.leads.items at x) m_is ∙ (ap (λ x. insert x at (lead_monomial r)) h.leads ∙ (sym (map_insert lead_monomial found at r) ∙ ap (map lead_monomial) (sym members))));
           members = λ g k. ⊎_elim (λ e. subst (IsMonicMember P) e hr) (λ i. h.members g i) (in_new g k);
           degrees = λ g k. ⊎_elim (λ e. subst (λ x. P.order.degree (lead_monomial x) ≡ s'.degree) e (new_degree ∙ sym same)) (λ i. h.degrees g i ∙ sym same) (in_new g k);
-          increasing = subst (λ xs. IsIncreasing P.order (map lead_monomial xs)) (sym members) (subst (IsIncreasing P.order) (sym (map_insert lead_monomial found at r)) (rise_insert P (map lead_monomial found) at (lead_monomial r) h.increasing
+          increasing = subst (λ xs. IsIncreasing P.order (map lead_monomial xs)) (sym members) (subst (IsIncreasing P.order) (sym (map_insert lead_monomial found at r)) (increasing_insert P (map lead_monomial found) at (lead_monomial r) h.increasing
               (subst (λ x. at ≤ length x) ls_are within) smaller
               (λ l. subst (λ x. P.order.compare x (get_or (map lead_monomial found) at []) ≡ Less) m_is (subst (λ x. P.order.compare m (get_or x at []) ≡ Less) ls_are (after (subst (λ x. at < length x) (sym ls_are) l))))));
           fresh = λ g k. ⊎_elim (λ e v. new (subst (IsMultiple (map lead_monomial G)) (sym (ap lead_monomial e)) (multiple_more b.members.items G (lead_monomial g) (λ x i. contains_left b.members.items found x i) v))) (λ i. h.fresh g i) (in_new g k);
@@ -161,7 +160,7 @@ module _ {F E : Type 0} (P : Presented E) (H : IsPresentation P) (b : Basis F E)
   -- with the tail of a member reduced
   module _ (i : ℕ) (l : i < length found) (x : Polynomial E) (hx : IsMonicMember P x) (same : lead_monomial x ≡ lead_monomial (get_or found i [])) where
     leads_same : map lead_monomial (slice_set found i x) ≡ map lead_monomial found
-    leads_same = map_set lead_monomial found i x [] l same
+    leads_same = map-set_same lead_monomial found i x [] same
 
     abbrev old : Polynomial E
     old = get_or found i []
@@ -185,8 +184,8 @@ module _ {F E : Type 0} (P : Presented E) (H : IsPresentation P) (b : Basis F E)
 
     pub set_tails : DividesLeads P b s → HasTails P i found → HasReducedTail P (map lead_monomial G) x → HasTails P (i + 1) (slice_set found i x)
     set_tails v t r = below_more (λ k. k < length (slice_set found i x) → HasStandardTail P (get_or (slice_set found i x) k [])) i
-        (λ k lt q. subst (HasStandardTail P) (sym (set_before found i k x [] lt)) (t k lt (let e = set_length found i x in omega arith)))
-        (λ q. subst (HasStandardTail P) (sym (set_here found i x [] l))
+        (λ k lt q. subst (HasStandardTail P) (sym (get_or-set_other found i k x [] (λ q. omega arith))) (t k lt (let e = length-set found i x in omega arith)))
+        (λ q. subst (HasStandardTail P) (sym (get_or-set_same found i x [] l))
         (standard_tail P H s.degree (map lead_monomial G) (ideal_leads v) x hx (let d : P.order.degree (lead_monomial x) ≡ s.degree = ap P.order.degree same ∙ h.degrees old old_in in omega arith) r))
 
 -- steps with the same leads have as many members
@@ -201,7 +200,7 @@ pub divides_same : {F E : Type 0} (P : Presented E) (b : Basis F E) (s s' : Degr
     DividesLeads P b s → DividesLeads P b s'
 divides_same P b s s' h k d e v m lm l =
     subst (λ ms. IsMultiple ms m)
-    (map_append lead_monomial b.members.items s.found.members.items ∙ (ap (λ ys. map lead_monomial b.members.items ++ ys) (sym h.leads ∙ (sym e ∙ k.leads)) ∙ sym (map_append lead_monomial b.members.items s'.found.members.items)))
+    (map-append lead_monomial b.members.items s.found.members.items ∙ (ap (λ ys. map lead_monomial b.members.items ++ ys) (sym h.leads ∙ (sym e ∙ k.leads)) ∙ sym (map-append lead_monomial b.members.items s'.found.members.items)))
     (v m lm (omega arith))
 
 module _ {F E : Type 0} (P : Presented E) (b : Basis F E) (s s' s'' : DegreeStep F E) where

@@ -1,7 +1,7 @@
 -- A member whose tail is reduced.
 use Rattle.std.proofs.Common.{◌≡◌, refl, ◌≢◌, ℕ, ◌≤◌, sym, ◌∙◌, ap, subst, List, [], ◌∷◌, ◌++◌, ⊎_elim, arith}
-use Rattle.polynomials.specs.laws.Coefficients.{sum_nonzero, single_term, found_monomial, decreasing_leads, monic_some}
-use Rattle.std.specs.Prelude.{Contains, map}
+use Rattle.polynomials.specs.laws.Coefficients.{single_term, found_monomial, decreasing_leads, monic_some, append_nonzero}
+use Rattle.std.specs.Prelude.{map}
 use Rattle.std.specs.declared.cmp.Ordering.TheVariants.{Less}
 use Rattle.word_field.specs.Field.{FieldOps, IsField}
 use Rattle.word_field.specs.laws.Field.{negate-plus}
@@ -13,18 +13,19 @@ use Rattle.polynomials.specs.Polynomial.{Polynomial, coefficient, Same, minus, I
 use Rattle.polynomials.specs.Subalgebra.{Presented, IsPresentation, IsGenerator, LeadsIdeal}
 use Rattle.polynomials.specs.laws.Ring.{coefficient-append}
 use Rattle.polynomials.specs.laws.Decreasing.{IsDecreasing_unique, IsLead_first, coefficient_first, IsDecreasing_IsPoly}
-use Rattle.polynomials.specs.laws.Degrees.{decreasing_all}
-use Rattle.polynomials.specs.laws.Congruence.{coefficient-minus, congruent_sym, congruent_trans, congruent_member, member_congruent}
+use Rattle.polynomials.specs.laws.Degrees.{decreasing_all, generator_of}
+use Rattle.polynomials.specs.laws.Congruence.{congruent_sym, congruent_trans, congruent_member, member_congruent}
 use Rattle.polynomials.specs.laws.Ideal.{InIdeal_same}
 use Rattle.quotient_gb.specs.Combinations.{AtMost}
 use Rattle.quotient_gb.specs.Remainder.{IsRemainderBy, IsCanonicalIn, IsRemainderIn}
-use Rattle.quotient_gb.specs.IdealBasis.{IsMonicMember, HasStandardTail, AreIdealLeads}
+use Rattle.quotient_gb.specs.IdealBasis.{IsMonicMember, HasStandardTail, AreIdealLeads, AreMonicMembers}
 use Rattle.quotient_gb.specs.DegreeStep.{HasReducedTail}
 use Rattle.quotient_gb.proofs.Combinations.{combines_inside}
-use Rattle.quotient_gb.proofs.Complete.{difference_below, generator_of}
 use Rattle.quotient_gb.proofs.Criterion.{criterion}
 use Rattle.quotient_gb.proofs.Reducing.{below_all}
 use Rattle.quotient_gb.proofs.Places.{has_divisor}
+use Rattle.quotient_gb.proofs.Pairs.{difference_below}
+use Rattle.polynomials.specs.laws.Same.{coefficient-negated}
 
 -- y has the lead of x and a reduced tail
 pub record HasReplacement {E : Type 0} (P : Presented E) (G : List (Polynomial E)) (x y : Polynomial E) : Type 0 where
@@ -35,12 +36,7 @@ pub record HasReplacement {E : Type 0} (P : Presented E) (G : List (Polynomial E
 module _ {E : Type 0} (K : FieldOps E) (F : IsField K) where
   -- (x - f) - r = x - (f + r)
   pub minus_twice : (x f r tail member : Polynomial E) → Same K tail (minus K x f) → Same K member (f ++ r) → Same K (minus K tail r) (minus K x member)
-  minus_twice x f r tail member ht hm m =
-      coefficient-minus K F tail r m ∙
-      (ap (λ z. K.plus z (K.negate (coefficient K r m))) (ht m ∙ coefficient-minus K F x f m) ∙
-      (F.plus_assoc (coefficient K x m) (K.negate (coefficient K f m)) (K.negate (coefficient K r m)) ∙
-      (ap (K.plus (coefficient K x m)) (sym (ap K.negate (hm m ∙ coefficient-append K F f r m) ∙ negate-plus K F (coefficient K f m) (coefficient K r m))) ∙
-      sym (coefficient-minus K F x member m))))
+  minus_twice x f r tail member ht hm m = simp (coefficient-append K F, coefficient-negated K F, ht, hm, negate-plus K F, F.plus_assoc)
 
 module _ {E : Type 0} (P : Presented E) (H : IsPresentation P) where
   pub member_leads : (r : Polynomial E) → IsMonicMember P r → LeadsIdeal P (lead_monomial r)
@@ -58,7 +54,7 @@ module _ {E : Type 0} (P : Presented E) (H : IsPresentation P) where
       none : (r : Polynomial E) (e : ℕ) → e ≤ 0 → IsHomogeneous P.field P.order e r → IsGenerator P.field P.order r → ⊥
       none r e le hr k = ⊎_elim (λ z. hr.some.1 (z hr.some.0)) (λ s. let a = hr.each hr.some.0 hr.some.1 in let b = s.2.each hr.some.0 hr.some.1 in let l = s.1 in omega arith) k.homogeneous
 
-  module _ (G : List (Polynomial E)) (members : (g : Polynomial E) → Contains G g → IsMonicMember P g)
+  module _ (G : List (Polynomial E)) (members : AreMonicMembers P G)
       (x : Polynomial E) (hx : IsMonicMember P x) (t : Term E) (w : Polynomial E) (is : x ≡ t ∷ w)
       (tail rest member : Polynomial E) (f_tail : IsDecreasing P.field P.order tail) (f_rest : IsDecreasing P.field P.order rest) (f_member : IsDecreasing P.field P.order member)
       (tail_is : Same P.field tail (minus P.field x (t ∷ []))) (rem : IsRemainderBy P.field P.order G (AtMost P.order (lead_monomial tail)) tail rest)
@@ -120,7 +116,7 @@ module _ {E : Type 0} (P : Presented E) (H : IsPresentation P) where
     reduced_tail ms e m k ne h =
         ⊎_elim (λ a. ne (sym (single_term P.field H.field t.at t.by m a) ∙ sym (ap lead_monomial member_form)))
         (λ b. rem.reduced m b (has_divisor G m (subst (λ ns. IsMultiple ns m) e h)))
-        (sum_nonzero P.field H.field (coefficient P.field (t ∷ []) m) (coefficient P.field rest m) (λ z. k (member_is m ∙ (coefficient-append P.field H.field (t ∷ []) rest m ∙ z))))
+        (append_nonzero P.field H.field (t ∷ []) rest m (λ z. k (member_is m ∙ z)))
 
   -- a reduced tail is standard
   pub standard_tail : (d : ℕ) (ms : List Exponents) → AreIdealLeads P d ms → (g : Polynomial E) → IsMonicMember P g → P.order.degree (lead_monomial g) ≤ d → HasReducedTail P ms g → HasStandardTail P g
@@ -133,7 +129,7 @@ module _ {E : Type 0} (P : Presented E) (H : IsPresentation P) where
       some = monic_some P.field H.field P.order H.order g hg.monic
 
 -- what replaces x: its first term and the remainder of its tail
-module _ {E : Type 0} (P : Presented E) (H : IsPresentation P) (G : List (Polynomial E)) (members : (g : Polynomial E) → Contains G g → IsMonicMember P g)
+module _ {E : Type 0} (P : Presented E) (H : IsPresentation P) (G : List (Polynomial E)) (members : AreMonicMembers P G)
     (x : Polynomial E) (hx : IsMonicMember P x) (t : Term E) (w : Polynomial E) (is : x ≡ t ∷ w) (front tail rest y : Polynomial E) (front_is : front ≡ t ∷ [])
     (k_tail : IsCanonicalIn P tail) (tail_is : Same P.field tail (minus P.field x front)) (rem : IsRemainderIn P G tail rest)
     (k_y : IsCanonicalIn P y) (y_is : Same P.field y (front ++ rest)) where

@@ -6,7 +6,7 @@ use Rattle.monomial_order.specs.MonomialOrder.{MonomialOrder}
 use Rattle.polynomials.specs.Polynomial.{Polynomial, term_of, scaled, minus, IsHomogeneous, lead_monomial}
 use Rattle.polynomials.specs.Subalgebra.{Presented}
 use Rattle.quotient_gb.specs.Combinations.{Under, Combines, HasStandardRepresentation}
-use Rattle.quotient_gb.specs.IdealBasis.{IsMonicMember}
+use Rattle.quotient_gb.specs.IdealBasis.{AreMonicMembers}
 
 -- u and v take m and n to their least common multiple
 pub record AreCofactors (u m v n : Exponents) : Type 0 where
@@ -36,7 +36,7 @@ module _ {E : Type 0} (K : FieldOps E) where
 module _ {E : Type 0} (P : Presented E) where
   -- G has monic members of the ideal, and each generator of the ideal of degree at most c has a standard representation by G
   pub record ReducesGenerators (c : ℕ) (G : List (Polynomial E)) : Type 0 where
-    pub members : (g : Polynomial E) → Contains G g → IsMonicMember P g
+    pub members : AreMonicMembers P G
     pub generators : (r : Polynomial E) → Contains P.ideal r → (d : ℕ) → d ≤ c → IsHomogeneous P.field P.order d r →
         HasStandardRepresentation P.field P.order G r
 

@@ -10,7 +10,7 @@ use Rattle.quotient_gb.specs.declared.critical_pair.CriticalPair.{CriticalPair}
 use Rattle.quotient_gb.specs.declared.degree_step.DegreeStep.{DegreeStep}
 use Rattle.quotient_gb.specs.Combinations.{HasStandardRepresentation}
 use Rattle.quotient_gb.specs.Criterion.{HasStandardSPolynomial}
-use Rattle.quotient_gb.specs.IdealBasis.{IsMonicMember, IsIdealBasis, HasStandardTail}
+use Rattle.quotient_gb.specs.IdealBasis.{AreMonicMembers, IsIdealBasis, HasStandardTail}
 
 -- each member of xs is one of ys
 abbrev pub IsPart : {A : Type 0} → List A → List A → Type 0
@@ -30,6 +30,10 @@ module _ {E : Type 0} (P : Presented E) where
   abbrev pub HasReducedTail : List Exponents → Polynomial E → Type 0
   HasReducedTail ms g = (m : Exponents) → coefficient P.field g m ≢ P.field.zero → m ≢ lead_monomial g → ¬ IsMultiple ms m
 
+  -- the S-polynomial of the members of G at a critical pair has a standard representation by G
+  abbrev pub ReducesPairOf : List (Polynomial E) → CriticalPair → Type 0
+  ReducesPairOf G w = HasStandardSPolynomial P.field P.order G (slice_index_or G w.first []) (slice_index_or G w.second [])
+
   -- the members at the first n indices have standard tails
   abbrev pub HasTails : ℕ → List (Polynomial E) → Type 0
   HasTails n G = (i : ℕ) → i < n → i < length G → HasStandardTail P (slice_index_or G i [])
@@ -46,7 +50,7 @@ module _ {F E : Type 0} (P : Presented E) where
     pub before : (c : ℕ) × (s.degree ≡ c + 1) × IsBasisTo c b
     pub small : s.degree ≤ degree_max
     pub leads : HasLeads s.found
-    pub members : (g : Polynomial E) → Contains s.found.members.items g → IsMonicMember P g
+    pub members : AreMonicMembers P s.found.members.items
     pub degrees : (g : Polynomial E) → Contains s.found.members.items g → P.order.degree (lead_monomial g) ≡ s.degree
     pub increasing : IsIncreasing P.order (map lead_monomial s.found.members.items)
     pub fresh : (g : Polynomial E) → Contains s.found.members.items g →

@@ -7,18 +7,21 @@ use Rattle.polynomials.specs.Subalgebra.{Presented, LeadsIdeal, IsStandard}
 use Rattle.monomial_order.specs.MonomialOrder.{IsIncreasing}
 
 module _ {E : Type 0} (P : Presented E) where
-  -- a monic falling member of the ideal
+  -- a monic member of the ideal in decreasing form
   pub record IsMonicMember (g : Polynomial E) : Type 0 where
     pub decreasing : IsDecreasing P.field P.order g
     pub monic : coefficient P.field g (lead_monomial g) ≡ P.field.one
     pub inside : InIdeal P.field P.order.places P.ideal g
 
+  abbrev pub AreMonicMembers : List (Polynomial E) → Type 0
+  AreMonicMembers G = (g : Polynomial E) → Contains G g → IsMonicMember g
+
   -- every monomial of g but its lead is standard
   abbrev pub HasStandardTail : Polynomial E → Type 0
   HasStandardTail g = (m : Exponents) → coefficient P.field g m ≢ P.field.zero → m ≢ lead_monomial g → IsStandard P m
 
-  -- leads of the ideal of degree at most c that rise, of which none divides another, such that each lead of the ideal of degree
-  -- at most c is a multiple of one of them
+  -- increasing leads of the ideal of degree at most c, of which none divides another, and each lead of the ideal of
+  -- degree at most c is a multiple of one of them
   pub record AreIdealLeads (c : ℕ) (ms : List Exponents) : Type 0 where
     pub increasing : IsIncreasing P.order ms
     pub leads : (m : Exponents) → Contains ms m → LeadsIdeal P m
@@ -28,7 +31,7 @@ module _ {E : Type 0} (P : Presented E) where
 
   -- the reduced basis of the ideal to the degree c
   pub record IsIdealBasis (c : ℕ) (G : List (Polynomial E)) : Type 0 where
-    pub members : (g : Polynomial E) → Contains G g → IsMonicMember g
+    pub members : AreMonicMembers G
     pub tails : (g : Polynomial E) → Contains G g → HasStandardTail g
     pub leads : AreIdealLeads c (map lead_monomial G)
 

@@ -4,6 +4,7 @@
 mod basis;
 mod critical_pair;
 mod degree_step;
+mod later_degrees;
 pub mod laws;
 mod quotient;
 mod remainder;

@@ -1,19 +1,20 @@
 //! The ideal of a presentation to a degree.
-ghost use Rattle.std.specs.Prelude.{◌≡◌, ◌≤◌, ◌<◌, ◌+◌, ◌↔◌, max, true, false, IsTrue, IfOk, OnOk, OnErr, Contains};
+ghost use Rattle.std.specs.Prelude.{◌≡◌, ℕ, ◌≤◌, ◌<◌, ◌+◌, ◌↔◌, ◌⊎◌, [], max, true, false, IsTrue, IsOk, IfOk, OnOk, OnErr, Contains};
 ghost use Rattle.monomial_order.specs.Limits.{degree_max};
-ghost use Rattle.monomial_order.specs.Monomial.{IsMonomial, IsMultiple, Exponents};
-ghost use Rattle.polynomials.specs.Polynomial.{degree_of};
+ghost use Rattle.monomial_order.specs.Monomial.{IsMonomial, Exponents};
+ghost use Rattle.polynomials.specs.Polynomial.{IsHomogeneous, degree_of};
 ghost use Rattle.poly_core.specs.Presentation.{presented, AreCanonicalGenerators};
 ghost use Rattle.polynomials.specs.Subalgebra.{Presented, IsPresentation, LeadsIdeal, IsStandard, IsNormalForm};
 ghost use Rattle.monomial_order.specs.MonomialOrder.{IsIncreasing};
 ghost use Rattle.quotient_gb.specs.IdealBasis.{IsMinimalLead};
-ghost use Rattle.quotient_gb.specs.Quotient.{IsQuotientOf, IsExtension};
+ghost use Rattle.quotient_gb.specs.Quotient.{IsQuotientOf, IsExtension, IsClosed, HasGeneratorAbove, HasOtherLead, with_degree, with_closed};
 ghost use Rattle.quotient_gb.specs.Remainder.{IsCanonicalIn};
 
 use crate::basis::Basis;
 use crate::critical_pair::{CriticalPair, critical_pairs, retain_above};
 use crate::degree_step::DegreeStep;
-use crate::remainder::remainder;
+use crate::later_degrees::{all_reduce_to_zero, has_generator_above};
+use crate::remainder::remainder_by;
 use monomial_order::{Memory, Monomial, Order};
 use poly_core::{Poly, Presentation};
 use std::alloc::Global;
@@ -31,7 +32,6 @@ pub struct Quotient<F: Field, O: Order> {
 }
 
 impl<F: Field, O: Order> Model for Quotient<F, O> {
-    ghost use Rattle.std.specs.Prelude.{◌≡◌, false};
     ghost use Rattle.quotient_gb.specs.Quotient.{QuotientState};
 
     ghost Value = { QuotientState F.Elem };
@@ -43,9 +43,6 @@ impl<F: Field, O: Order> Model for Quotient<F, O> {
       pairs = q.pairs.items;
       closed = q.closed;
     } };
-
-    // Nothing finds out so far that a quotient is closed.
-    ghost invariant = { λ q. q.closed ≡ false };
 }
 
 impl<F: Field, O: Order> Quotient<F, O> {
@@ -54,6 +51,8 @@ impl<F: Field, O: Order> Quotient<F, O> {
         requires { IsPresentation (presented F.ops O.order _p.now) }
         ensures quotient { IfOk result (IsQuotientOf (presented F.ops O.order _p.now)) }
         ensures degree { IfOk result (λ q. q.degree ≡ 0) }
+        ensures closed { IfOk result (λ q. q.closed ≡ false) }
+        ensures ok { IsOk result }
     {
         Ok(Quotient {
             degree: 0,
@@ -64,7 +63,8 @@ impl<F: Field, O: Order> Quotient<F, O> {
         })
     }
 
-    /// Goes on to the degree c, one degree after the other.
+    /// Goes on to the degree c, one degree after the other. If the degree is c or more already, nothing changes. If
+    /// the quotient is known to be closed, only the degree changes.
     pub fn extend_to(&mut self, alloc: Global, p: &Presentation<F, O>, c: u32) -> Result<(), Memory>
         requires presentation { IsPresentation (presented F.ops O.order p.now) }
         requires ideal { AreCanonicalGenerators (F.ops p.now.field) (O.order p.now.order) p.now.ideal.items }
@@ -72,9 +72,20 @@ impl<F: Field, O: Order> Quotient<F, O> {
         requires small { c ≤ degree_max }
         ensures quotient { IsQuotientOf (presented F.ops O.order p.now) self.new }
         ensures degree { OnOk result (self.new.degree ≡ max self.old.degree c) }
+        ensures reached { c ≤ self.old.degree → IsOk result }
+        ensures unchanged { c ≤ self.old.degree → self.new ≡ self.old }
+        ensures closed { self.new.closed ≡ self.old.closed }
+        ensures known { self.old.closed ≡ true → IsOk result × (self.new ≡ with_degree (max self.old.degree c) self.old) }
         ensures memory { OnErr result (self.new ≡ self.old) }
     {
         let degree = self.degree;
+        if c <= degree {
+            return Ok(());
+        }
+        if self.closed {
+            self.degree = c;
+            return Ok(());
+        }
         let members = self.basis.members.as_slice().len();
         let pairs = self.pairs.as_slice().len();
         match self.add_degrees(alloc, p, c) {
@@ -143,7 +154,8 @@ impl<F: Field, O: Order> Quotient<F, O> {
         self.basis.leads.as_slice()
     }
 
-    /// The normal form of a polynomial of degree at most that of the quotient.
+    /// The normal form of a polynomial of degree at most that of the quotient, or of any polynomial if the quotient is
+    /// known to be closed.
     pub fn normal_form(
         &self,
         alloc: Global,
@@ -153,19 +165,23 @@ impl<F: Field, O: Order> Quotient<F, O> {
         requires presentation { IsPresentation (presented F.ops O.order p.now) }
         requires quotient { IsQuotientOf (presented F.ops O.order p.now) self.now }
         requires canonical { IsCanonicalIn (presented F.ops O.order p.now) a.now }
-        requires degree { degree_of (O.order p.now.order) a.now ≤ self.now.degree }
+        requires degree { (degree_of (O.order p.now.order) a.now ≤ self.now.degree) ⊎ (self.now.closed ≡ true) }
         ensures canonical { IfOk result (IsCanonicalIn (presented F.ops O.order p.now)) }
         ensures normal { IfOk result (IsNormalForm (presented F.ops O.order p.now) a.now) }
+        ensures degree { IfOk result (λ b. degree_of (O.order p.now.order) b ≤ degree_of (O.order p.now.order) a.now) }
+        ensures homogeneous { let K = F.ops p.now.field in let order = O.order p.now.order in
+            IfOk result (λ b. (d : ℕ) → IsHomogeneous K order d a.now → (b ≡ []) ⊎ IsHomogeneous K order d b) }
     {
-        let none = Basis::new(alloc);
-        let rest = remainder(alloc, p, &self.basis, &none, a)?;
+        let rest = remainder_by(alloc, p, &self.basis, a)?;
         Ok(rest)
     }
 
-    /// Whether a monomial of degree at most that of the quotient is standard.
+    /// Whether a monomial of degree at most that of the quotient is standard, or any monomial if the quotient is known
+    /// to be closed.
     pub fn is_standard(&self, m: &Monomial) -> bool
         ensures yes { result ≡ true → (P : Presented F.Elem) → IsPresentation P → IsQuotientOf P self.now →
-            IsMonomial P.order.places m.now → P.order.degree m.now ≤ self.now.degree → IsStandard P m.now }
+            IsMonomial P.order.places m.now → (P.order.degree m.now ≤ self.now.degree) ⊎ (self.now.closed ≡ true) →
+            IsStandard P m.now }
         ensures no { result ≡ false → (P : Presented F.Elem) → IsPresentation P → IsQuotientOf P self.now →
             IsMonomial P.order.places m.now → LeadsIdeal P m.now }
     {
@@ -177,13 +193,39 @@ impl<F: Field, O: Order> Quotient<F, O> {
         true
     }
 
-    /// Whether all leads of the ideal are known to be multiples of `leads`. Nothing finds that out so far, so the
-    /// answer is always false.
+    /// Whether no generator of the ideal has a degree above that of the quotient and each lead of the ideal is a
+    /// multiple of one of `leads`. It reduces the S-polynomials of the critical pairs above the degree, and ends at the
+    /// first that does not reduce to zero.
+    pub fn closed(&mut self, alloc: Global, p: &Presentation<F, O>) -> Result<bool, Memory>
+        requires presentation { IsPresentation (presented F.ops O.order p.now) }
+        requires ideal { AreCanonicalGenerators (F.ops p.now.field) (O.order p.now.order) p.now.ideal.items }
+        requires quotient { IsQuotientOf (presented F.ops O.order p.now) self.old }
+        requires small { self.old.degree ≤ 15000 }
+        ensures quotient { IsQuotientOf (presented F.ops O.order p.now) self.new }
+        ensures yes { IfOk result (λ r. r ≡ true →
+            IsClosed (presented F.ops O.order p.now) self.old.degree self.old.leads) }
+        ensures no { IfOk result (λ r. r ≡ false → HasGeneratorAbove (presented F.ops O.order p.now) self.old.degree ⊎
+            HasOtherLead (presented F.ops O.order p.now) self.old.leads) }
+        ensures state { IfOk result (λ r. self.new ≡ with_closed r self.old) }
+        ensures known { self.old.closed ≡ true → IsOk result }
+        ensures memory { OnErr result (self.new ≡ self.old) }
+    {
+        if self.closed {
+            return Ok(true);
+        }
+        if has_generator_above(p, self.degree) {
+            return Ok(false);
+        }
+        let closed = all_reduce_to_zero(alloc, p, &self.basis, self.pairs.as_slice())?;
+        self.closed = closed;
+        Ok(closed)
+    }
+
+    /// Whether `closed` has answered true.
     pub fn known_closed(&self) -> bool
         ensures state { IsTrue result ↔ IsTrue self.now.closed }
         ensures closed { result ≡ true → (P : Presented F.Elem) → IsPresentation P → IsQuotientOf P self.now →
-            (m : Exponents) → LeadsIdeal P m → IsMultiple self.now.leads m }
-        ensures never_so_far { result ≡ false }
+            IsClosed P self.now.degree self.now.leads }
     {
         self.closed
     }

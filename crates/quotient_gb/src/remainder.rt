@@ -121,3 +121,21 @@ pub(crate) fn remainder<F: Field, O: Order>(
     }
     Ok(done)
 }
+
+/// What is left of a when no multiple of a lead of the basis remains.
+pub(crate) fn remainder_by<F: Field, O: Order>(
+    alloc: Global,
+    p: &Presentation<F, O>,
+    basis: &Basis<F>,
+    a: &Poly<F>,
+) -> Result<Poly<F>, Memory>
+    requires presentation { IsPresentation (presented F.ops O.order p.now) }
+    requires a { IsCanonicalIn (presented F.ops O.order p.now) a.now }
+    requires basis { HasLeads basis.now }
+    requires reducers { AreReducersIn (presented F.ops O.order p.now) basis.now.members.items }
+    ensures { IfOk result (IsRemainderIn (presented F.ops O.order p.now) basis.now.members.items a.now) }
+{
+    let none = Basis::new(alloc);
+    let rest = remainder(alloc, p, basis, &none, a)?;
+    Ok(rest)
+}

@@ -8,7 +8,7 @@ use Rattle.monomial_order.specs.laws.Comparing.{not_below_self, three_ways, equa
 use Rattle.polynomials.specs.Polynomial.{Polynomial, share, coefficient, Same, term_of, times, scaled, negated, minus, constant, AllAt, IsPoly, IsDecreasing, IsLead}
 use Rattle.polynomials.specs.Ideal.{InIdeal, Congruent}
 use Rattle.polynomials.specs.Value.{value, monomial_value, term_value}
-use Rattle.polynomials.specs.Subalgebra.{Presented, IsPresentation, LeadsIdeal, IsNormalForm}
+use Rattle.polynomials.specs.Subalgebra.{Presented, IsPresentation, LeadsIdeal, IsNormalForm, HasDegreesTo}
 use Rattle.polynomials.specs.laws.Ring.{coefficient_value, coefficient-append}
 use Rattle.polynomials.specs.laws.Same.{same_refl, append_same, times_same_left}
 use Rattle.polynomials.specs.laws.Value.{value_same, value-append, value-scaled, one_times, coefficient-constant_times, coefficient-scaled}
@@ -20,10 +20,10 @@ use Rattle.polynomials.specs.laws.Ideal.{IsPoly-append, IsPoly-scaled, InIdeal_s
 use Rattle.polynomials.specs.laws.Congruence.{congruent_same, congruent_refl, congruent_sym, congruent_trans, congruent_plus, congruent_times_left, minus_zero}
 use Rattle.polynomials.specs.laws.Membership.{IsPoly-value, ArePolys, value-negated}
 use Rattle.subalgebra_laws.specs.Words.{letters, letter_values, word_value, IsReducibleWord, IsIrreducibleSum, IsTopWord, IsCombination}
-use Rattle.subalgebra_laws.specs.Bases.{AreMonicElements, HasDegreesTo}
+use Rattle.subalgebra_laws.specs.Bases.{AreMonicElements}
 use Rattle.subalgebra_laws.specs.Statements.{SumsHaveTopWords, SumsAreUnique, SumsAreCombinations, MultiplesAreCombinations, CongruentAreCombinations, IrreducibleWordsAreCombinations}
-use Rattle.polynomials.specs.laws.Coefficients.{nothing_at, single_term, times_one, constant_poly, minus_poly, minus_nonzero, minus_back, lead_sum_right}
-use Rattle.subalgebra_laws.proofs.Nonzero.{same_false, AllAt-map, no_coefficient, append_nonzero, multiple_nonzero, lead_negated, below_lead, above_lead}
+use Rattle.polynomials.specs.laws.Coefficients.{nothing_at, single_term, times_one, constant_poly, minus_poly, minus_nonzero, minus_back, lead_sum_right, no_coefficient, append_nonzero}
+use Rattle.subalgebra_laws.proofs.Nonzero.{same_false, AllAt-map, multiple_nonzero, lead_negated, below_lead, above_lead}
 use Rattle.subalgebra_laws.proofs.MonicProducts.{AreMonic, monic_lead}
 use Rattle.subalgebra_laws.proofs.Letters.{letter_images, values_monic, word_monic, letter_laws, word_degree}
 
@@ -93,9 +93,7 @@ module _ {E : Type 0} (P : Presented E) (H : IsPresentation P) (S : List (Polyno
   unfolding coefficient
   value_at w [] hp u = refl
   value_at w (t ∷ e) hp u =
-      coefficient-append K F (term_value K values t) (value K e values) (im w) ∙
-      (ap (λ x. K.plus x (coefficient K (value K e values) (im w))) (coefficient-constant_times K F t.by (word_value P S t.at) (im w) ∙ ⊎_elim same less u.0) ∙
-      ap (K.plus (share K w t)) (value_at w e hp.1 u.1))
+      simp (coefficient-append K F (term_value K values t) (value K e values) (im w), coefficient-constant_times K F t.by (word_value P S t.at) (im w), ⊎_elim same less u.0, value_at w e hp.1 u.1)
     where
       same : t.at ≡ w → K.times t.by (coefficient K (word_value P S t.at) (im w)) ≡ share K w t
       same e = subst (λ x. K.times t.by (coefficient K (word_value P S t.at) (im x)) ≡ share K x t) e
@@ -176,9 +174,7 @@ module _ {E : Type 0} (P : Presented E) (H : IsPresentation P) (S : List (Polyno
       pub top_leads_normal_form : IsLead K O b (im w) × (coefficient K b (im w) ≡ coefficient K e w)
       top_leads_normal_form = (
         IsLead_same K F O L (rest ++ value K e values) b (im w) (minus_back K F b (value K e values)) (lead_sum_right K F O L rest (value K e values) (im w) top_leads.0 below),
-        sym (minus_back K F b (value K e values) (im w)) ∙ (coefficient-append K F rest (value K e values) (im w) ∙
-            (ap (λ x. K.plus x (coefficient K (value K e values) (im w))) (no_coefficient K F rest (im w) (λ c. not_below_self O L (im w) (below (im w) c))) ∙
-            (zero-plus K F (coefficient K (value K e values) (im w)) ∙ (coefficient_value K F (value K e values) (im w) ∙ top_leads.1)))),
+        cc (minus_back K F b (value K e values) (im w), coefficient-append K F rest (value K e values) (im w), no_coefficient K F rest (im w) (λ c. not_below_self O L (im w) (below (im w) c)), zero-plus K F (coefficient K (value K e values) (im w)), coefficient_value K F (value K e values) (im w), top_leads.1),
       )
 
   -- sums of irreducible s-words with congruent values are equal

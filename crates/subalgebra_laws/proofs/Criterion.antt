@@ -16,21 +16,21 @@ use Rattle.word_laws.specs.laws.Words.{image_times, s_divisor}
 use Rattle.polynomials.specs.Polynomial.{Polynomial, coefficient, term_of, times, scaled, negated, minus, constant, component, AllAt, IsTerm, IsPoly, lead_monomial}
 use Rattle.polynomials.specs.Ideal.{InIdeal, Congruent}
 use Rattle.polynomials.specs.Value.{power, value, monomial_value, term_value}
-use Rattle.polynomials.specs.Subalgebra.{Presented, IsPresentation, AreGenerators, IsGenerated}
+use Rattle.polynomials.specs.Subalgebra.{Presented, IsPresentation, AreGenerators, IsGenerated, IsDecidedTo}
 use Rattle.polynomials.specs.laws.Same.{times_same_left}
 use Rattle.polynomials.specs.laws.Value.{value-scaled, value-times, value-constant, one_times, monomial_value-product}
 use Rattle.polynomials.specs.laws.Decreasing.{IsDecreasing_IsPoly}
 use Rattle.polynomials.specs.laws.Ideal.{IsPoly-times, IsPoly-scaled}
 use Rattle.polynomials.specs.laws.Congruence.{congruent_same, congruent_trans, congruent_times_left, congruent_times}
 use Rattle.polynomials.specs.laws.Membership.{IsPoly-power, IsPoly-monomial_value}
-use Rattle.polynomials.specs.laws.Degrees.{component-append, IsGraded, graded_component, graded_no_component, ideal_component, AreGraded, polys_graded, graded_value, decreasing_all}
+use Rattle.polynomials.specs.laws.Degrees.{component-minus, component-append, IsGraded, graded_component, graded_no_component, ideal_component, AreGraded, polys_graded, graded_value, decreasing_all, component_leads}
 use Rattle.polynomials.specs.laws.NormalForm.{IsPoly-component}
 use Rattle.polynomials.specs.laws.Components.{sub_component}
 use Rattle.subalgebra_laws.specs.Words.{letters, letter_values, word_value, IsReducibleWord, IsTopWord, IsCombination}
-use Rattle.subalgebra_laws.specs.Bases.{AreMonicElements, IsDecidedTo, HasCombinationsTo}
+use Rattle.subalgebra_laws.specs.Bases.{AreMonicElements, HasCombinationsTo}
 use Rattle.subalgebra_laws.specs.Statements.{CombinationsHaveGeneratedLeads, MembersAreCombinations, LeadsAreGenerated}
 use Rattle.polynomials.specs.laws.Coefficients.{nothing_at, constant_poly, minus_poly, lead_sum}
-use Rattle.subalgebra_laws.proofs.Nonzero.{AllAt-map, AllAt-scaled, AllAt-times, component-minus, multiple_nonzero, lead_negated, below_lead, component_leads}
+use Rattle.subalgebra_laws.proofs.Nonzero.{AllAt-map, AllAt-scaled, AllAt-times, multiple_nonzero, lead_negated, below_lead}
 use Rattle.subalgebra_laws.proofs.Letters.{order_over, s_one, s_product, word_monic, letter_laws, are_letters, word_degree}
 use Rattle.subalgebra_laws.proofs.Combinations.{have_top_words, top_leads, top_least, sum_poly, value_poly, combination_congruent, combination_same, combination_zero, combination_plus, combination_multiple, combination_word, combination_linear, sum_low, IsBefore, words_before}
 use Rattle.subalgebra_laws.proofs.Decisions.{words_decided, minimal_divisor}

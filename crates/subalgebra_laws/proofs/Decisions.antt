@@ -1,19 +1,18 @@
 -- What is decided of the ideal decides the words.
-use Rattle.std.proofs.Common.{◌≡◌, ℕ, ◌≤◌, ◌↔◌, sym, ◌∙◌, ap, subst, List, [], ◌∷◌, ◌⊎◌, inl, inr, ⊎_elim, length, arith}
+use Rattle.std.proofs.Common.{ℕ, ◌≤◌, ◌↔◌, sym, subst, List, [], ◌∷◌, ◌⊎◌, inl, inr, ⊎_elim, length, arith}
 use Rattle.std.specs.Prelude.{Contains}
-use Rattle.monomial_order.specs.Monomial.{product, IsMonomial, Divides, IsMultiple}
+use Rattle.monomial_order.specs.Monomial.{Divides, IsMultiple}
 use Rattle.monomial_order.specs.Ranks.{lists}
 use Rattle.monomial_order.specs.laws.Lists.{contains_here, contains_there, contains_none, contains_cases}
-use Rattle.monomial_order.specs.laws.Monomial.{product_comm}
-use Rattle.monomial_order.specs.laws.Cofactors.{cofactor, length-product_right, Divides-trans}
+use Rattle.monomial_order.specs.laws.Cofactors.{Divides-trans}
 use Rattle.monomial_order.specs.laws.Comparing.{le_or_not, monomial_or_not, divisor_degree}
 use Rattle.monomial_order.specs.laws.Rank.{within_listed}
 use Rattle.word_laws.specs.Words.{word_order_of, image_of, IsWord, IsReducible, IsMinimalReducible}
 use Rattle.word_laws.specs.laws.Reducible.{multiple_closed, multiple_decided, reducible_zeros, find_smaller, within_own, reducible_exactly}
-use Rattle.polynomials.specs.Subalgebra.{Presented, IsPresentation, LeadsIdeal}
-use Rattle.polynomials.specs.laws.NormalForm.{lead_times}
+use Rattle.polynomials.specs.Subalgebra.{Presented, IsPresentation, LeadsIdeal, IsDecidedTo, AreZerosTo}
+use Rattle.polynomials.specs.laws.NormalForm.{multiple_leads, zeros_decide}
 use Rattle.subalgebra_laws.specs.Words.{letters, IsReducibleWord}
-use Rattle.subalgebra_laws.specs.Bases.{AreMonicElements, IsDecidedTo, AreZerosTo, IsIdealClosedAt}
+use Rattle.subalgebra_laws.specs.Bases.{AreMonicElements, IsIdealClosedAt}
 use Rattle.polynomials.specs.laws.Coefficients.{found_monomial}
 use Rattle.subalgebra_laws.proofs.Letters.{letter_degrees, word_monic, letter_laws, word_degree, are_letters}
 use Rattle.polynomials.specs.Polynomial.{Polynomial}
@@ -36,18 +35,6 @@ decided_members {A} D dec (x ∷ ks) = more (decided_members D dec ks)
         (dec x)
 
 module _ {E : Type 0} (P : Presented E) (H : IsPresentation P) where
-  -- a monomial that a lead of the ideal divides is one
-  pub lead_multiple : (n m : List ℕ) → LeadsIdeal P n → IsMonomial P.order.places m → Divides n m → LeadsIdeal P m
-  lead_multiple n m l hm d =
-      let k = cofactor n m (found_monomial P.field H.field P.order H.order l.member l.poly n l.leads.nonzero).trimmed hm.trimmed d in
-      subst (LeadsIdeal P) (product_comm k.0 n ∙ k.2)
-      (lead_times P H k.0 n
-      (record {
-        trimmed = k.1;
-        within = let a = length-product_right n k.0 in let e : length (product n k.0) ≡ length m = ap length k.2 in let b = hm.within in omega arith;
-      })
-      l)
-
   -- a decided ideal has a list of zeros
   pub decided_zeros : (c : ℕ) → IsDecidedTo P c → (zs : List (List ℕ)) × AreZerosTo P c zs
   decided_zeros c dec =
@@ -68,16 +55,9 @@ module _ {E : Type 0} (P : Presented E) (H : IsPresentation P) where
           (λ n. inr (λ h. n h.1)) (le_or_not (P.order.degree m) c)
 
   module _ (c : ℕ) (zeros : List (List ℕ)) (Z : AreZerosTo P c zeros) where
-    multiple_leads : (m : List ℕ) → IsMonomial P.order.places m → IsMultiple zeros m → LeadsIdeal P m
-    multiple_leads m hm h = lead_multiple h.0 m (Z.lead h.0 h.1) hm h.2
-
-    pub zeros_decide : IsDecidedTo P c
-    zeros_decide m hm d =
-        ⊎_elim (λ h. inl (multiple_leads m hm h)) (λ n. inr (λ l. let z = Z.divide m l d in n (z.0, z.1, z.2))) (multiple_decided P.order.places zeros m hm)
-
     module _ (S : List (Polynomial E)) (HS : AreMonicElements P S) where
       image_leads : (w : List ℕ) → IsMultiple zeros (image_of (letters P S) w) → LeadsIdeal P (image_of (letters P S) w)
-      image_leads w h = multiple_leads (image_of (letters P S) w) (word_monic P H S HS w).monomial h
+      image_leads w h = multiple_leads P H c zeros Z (image_of (letters P S) w) (word_monic P H S HS w).monomial h
 
       leads_image : (w : List ℕ) → (word_order_of (letters P S)).degree w ≤ c → LeadsIdeal P (image_of (letters P S) w) → IsMultiple zeros (image_of (letters P S) w)
       leads_image w d l = let e = word_degree P H S HS w in Z.divide (image_of (letters P S) w) l (omega arith)
@@ -143,4 +123,4 @@ module _ {E : Type 0} (P : Presented E) (H : IsPresentation P) where
     }
 
     pub closed_decided : IsDecidedTo P D → IsDecidedTo P c
-    closed_decided dec = let z = decided_zeros D dec in zeros_decide c z.0 (closed_zeros z.0 z.1)
+    closed_decided dec = let z = decided_zeros D dec in zeros_decide P H c z.0 (closed_zeros z.0 z.1)

@@ -1,20 +1,21 @@
 -- The subalgebra that x + y, xy and xy^2 generate, to the degree 4.
+use Rattle.monomial_order.specs.laws.Monomial.{weighted_nil}
 use Rattle.std.proofs.Common.{◌≡◌, ◌≢◌, ℕ, ◌≤◌, refl, sym, ◌∙◌, ap, subst, List, [], ◌∷◌, ◌++◌, ◌⊎◌, inl, inr, ⊎_elim, arith, false}
 use Rattle.std.specs.Prelude.{Contains, map}
 use Rattle.std.specs.declared.cmp.Ordering.TheVariants.{Less}
 use Rattle.word_field.specs.Residues.{residues}
-use Rattle.monomial_order.specs.Monomial.{IsMonomial}
+use Rattle.monomial_order.specs.Monomial.{weighted_degree, IsMonomial}
 use Rattle.monomial_order.specs.laws.Lists.{contains_here}
 use Rattle.word_laws.specs.Words.{word_order_of, image_of, IsSWord}
 use Rattle.polynomials.specs.Polynomial.{Polynomial, coefficient, Same, term_of, lead_monomial}
 use Rattle.polynomials.specs.Ideal.{Congruent}
 use Rattle.polynomials.specs.Value.{value}
-use Rattle.polynomials.specs.Subalgebra.{IsPresentation, IsGenerator, InSubalgebra, LeadsIdeal, IsStandard, IsGenerated}
+use Rattle.polynomials.specs.Subalgebra.{IsPresentation, IsGenerator, InSubalgebra, LeadsIdeal, IsStandard, IsGenerated, IsDecidedTo}
 use Rattle.polynomials.specs.laws.Decreasing.{coefficient_first}
 use Rattle.polynomials.specs.laws.Degrees.{all_found}
 use Rattle.polynomials.specs.laws.Congruence.{congruent_same}
 use Rattle.subalgebra_laws.specs.Words.{letters, word_value, combination_value, IsReducibleWord, IsIrreducibleSum, IsTopWord, IsCombination}
-use Rattle.subalgebra_laws.specs.Bases.{IsMonicElement, AreMonicElements, IsDecidedTo, AreNextTo, HasCombinationsTo, HasCombinationsAt, IsCheckedElement, IsCheckedBasis}
+use Rattle.subalgebra_laws.specs.Bases.{IsMonicElement, AreMonicElements, AreNextTo, HasCombinationsTo, HasCombinationsAt, IsCheckedElement, IsCheckedBasis}
 use Rattle.subalgebra_laws.specs.Samples.{sum_xy, x_times_y, endless, endless_basis, endless_word, right_side}
 use Rattle.subalgebra_laws.proofs.Plane.{field, plane, plane_laws, term_in, sum_decreasing, product_decreasing}
 use Rattle.subalgebra_laws.proofs.Letters.{letter_laws}
@@ -108,40 +109,36 @@ pub relation : Congruent (residues 101) 2 [] (word_value endless endless_basis e
 relation = congruent_same (residues 101) field 2 [] (word_value endless endless_basis endless_word) (combination_value endless endless_basis right_side) (λ m. refl)
 
 -- each generator is the value of its letter
-pub combinations : HasCombinationsTo endless 4 endless_basis
-combinations = record {
-  generators = λ f d k h le. each_of (IsCombination endless endless_basis) endless.generators (
+module _ (T : List (Polynomial ℕ)) (HS : AreMonicElements endless (endless.generators ++ T))
+    (only : (u : List ℕ) → IsSWord (letters endless (endless.generators ++ T)) u → (word_order_of (letters endless (endless.generators ++ T))).degree u ≤ 4 → IsReducibleWord endless (endless.generators ++ T) u → u ≡ endless_word) where
+  abbrev S : List (Polynomial ℕ)
+  S = endless.generators ++ T
+
+  letter : (f : Polynomial ℕ) (w : List ℕ) → IsSWord (letters endless S) w → (word_order_of (letters endless S)).degree w ≤ 4 → w ≢ endless_word → Same (residues 101) f (word_value endless S w) → IsCombination endless S f
+  letter f w h le ne same = combination_same endless presentation S HS (word_value endless S w) f same (combination_word endless presentation S HS w h (λ r. ne (only w h le r)))
+
+  generator_combinations : (f : Polynomial ℕ) → Contains endless.generators f → IsCombination endless S f
+  generator_combinations = each_of (IsCombination endless S) endless.generators (
     letter sum_xy (0 ∷ (0 ∷ (1 ∷ []))) (record { trimmed = λ e. cc; within = omega arith }, refl) (omega arith) (λ e. cc) (λ m. refl),
     (
       letter (x_times_y 1) (0 ∷ (0 ∷ (0 ∷ (1 ∷ [])))) (record { trimmed = λ e. cc; within = omega arith }, refl) (omega arith) (λ e. cc) (λ m. refl),
-      (letter (x_times_y 2) (0 ∷ (0 ∷ (0 ∷ (0 ∷ (1 ∷ []))))) (record { trimmed = λ e. cc; within = omega arith }, refl) (omega arith) (λ e. cc) (λ m. refl), tt),
+      (letter (x_times_y 2) (0 ∷ (0 ∷ (0 ∷ (0 ∷ (1 ∷ []))))) (record { trimmed = λ e. cc; within = omega arith }, refl) (omega (arith, weighted_nil (map (weighted_degree (letters endless S).degrees) (map lead_monomial T)))) (λ e. cc) (λ m. refl), tt),
     ),
-  ) f k;
+  )
+
+pub combinations : HasCombinationsTo endless 4 endless_basis
+combinations = record {
+  generators = λ f d k h le. generator_combinations (x_times_y 3 ∷ []) monic reducible_is f k;
   words = λ u h le. subst (λ w. IsCombination endless endless_basis (word_value endless endless_basis w)) (sym (reducible_is u h.1 le h.0.reducible)) (record { sum = right_side; irreducible = right_side_sum; equal = relation });
 }
-  where
-    letter : (f : Polynomial ℕ) (w : List ℕ) → IsSWord (letters endless endless_basis) w → (word_order_of (letters endless endless_basis)).degree w ≤ 4 → w ≢ endless_word → Same (residues 101) f (word_value endless endless_basis w) →
-        IsCombination endless endless_basis f
-    letter f w h le ne same = combination_same endless presentation endless_basis monic (word_value endless endless_basis w) f same (combination_word endless presentation endless_basis monic w h (irreducible w h le ne).1)
 
 start_combinations : HasCombinationsTo endless 3 endless.generators
 start_combinations = record {
-  generators = λ f d k h le. each_of (IsCombination endless endless.generators) endless.generators (
-    letter sum_xy (0 ∷ (0 ∷ (1 ∷ []))) (record { trimmed = λ e. cc; within = omega arith }, refl) (omega arith) (λ e. cc) (λ m. refl),
-    (
-      letter (x_times_y 1) (0 ∷ (0 ∷ (0 ∷ (1 ∷ [])))) (record { trimmed = λ e. cc; within = omega arith }, refl) (omega arith) (λ e. cc) (λ m. refl),
-      (letter (x_times_y 2) (0 ∷ (0 ∷ (0 ∷ (0 ∷ (1 ∷ []))))) (record { trimmed = λ e. cc; within = omega arith }, refl) (omega arith) (λ e. cc) (λ m. refl), tt),
-    ),
-  ) f k;
+  generators = λ f d k h le. generator_combinations [] start_monic start_reducible_is f k;
   words = λ u h le.
       let four : (word_order_of (letters endless endless.generators)).degree u ≡ 4 = ap (word_order_of (letters endless endless.generators)).degree (start_reducible_is u h.1 (omega arith) h.0.reducible) in
       absurd (omega arith);
 }
-  where
-    letter : (f : Polynomial ℕ) (w : List ℕ) → IsSWord (letters endless endless.generators) w → (word_order_of (letters endless endless.generators)).degree w ≤ 4 → w ≢ endless_word → Same (residues 101) f (word_value endless endless.generators w) →
-        IsCombination endless endless.generators f
-    letter f w h le ne same = combination_same endless presentation endless.generators start_monic (word_value endless endless.generators w) f same
-        (combination_word endless presentation endless.generators start_monic w h (λ r. ne (start_reducible_is w h le r)))
 
 -- x*y^3 = (x + y)*x*y^2 - (x*y)^2
 fourth_same : Same (residues 101) (x_times_y 3) (value (residues 101) (term_of (1 ∷ (0 ∷ (1 ∷ []))) 1 ∷ (term_of (0 ∷ (2 ∷ [])) 100 ∷ [])) endless.generators)

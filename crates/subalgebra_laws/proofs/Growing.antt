@@ -20,11 +20,11 @@ use Rattle.word_laws.specs.laws.Images.{weighted_front, image_front, variable_tr
 use Rattle.polynomials.specs.Polynomial.{Polynomial, coefficient, Same, term_of, times, constant, AllAt, IsPoly, IsBelow, IsDecreasing, IsHomogeneous, lead_monomial}
 use Rattle.polynomials.specs.Ideal.{Congruent}
 use Rattle.polynomials.specs.Value.{power, monomial_value, value, term_value}
-use Rattle.polynomials.specs.Subalgebra.{Presented, IsPresentation, LeadsIdeal, IsGenerated}
+use Rattle.polynomials.specs.Subalgebra.{Presented, IsPresentation, LeadsIdeal, IsGenerated, HasDegreesTo}
 use Rattle.polynomials.specs.laws.Decreasing.{IsDecreasing_IsPoly}
 use Rattle.polynomials.specs.laws.Degrees.{decreasing_all}
 use Rattle.subalgebra_laws.specs.Words.{letters, letter_values, word_value, combination_value, IsReducibleWord, IsMinimalWord, IsCombination}
-use Rattle.subalgebra_laws.specs.Bases.{AreMonicElements, HasDegreesTo, HaveLeadsFrom, AreAfter, AreStandardAfter}
+use Rattle.subalgebra_laws.specs.Bases.{AreMonicElements, HaveLeadsFrom, AreAfter, AreStandardAfter}
 use Rattle.subalgebra_laws.specs.Statements.{ValuesStay, SumsStay, SumsWithoutNewLettersStay, CombinationsStay, ElementsAreCombinations, MinimalWordsStay, OrderDoesNotMatter, NextAreCombinations}
 use Rattle.subalgebra_laws.proofs.Letters.{order_over, letter_degrees, places_letters, letter, letter_word, letter_image, letter_value, are_letters, letter_laws, word_degree, word_monic}
 use Rattle.subalgebra_laws.proofs.Combinations.{combination_same, combination_congruent, combination_word, combination_linear, sum_low}

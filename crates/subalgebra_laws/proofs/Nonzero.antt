@@ -1,7 +1,5 @@
 -- Polynomials alone: which coefficients of sums, multiples and components are nonzero, and their leads.
-use Rattle.std.proofs.Common.{◌≡◌, ◌≢◌, ℕ, refl, sym, ◌∙◌, ap, subst, List, [], ◌∷◌, ◌++◌, ◌⊎◌, ⊎_elim, cond, true, false}
-use Rattle.std.specs.Prelude.{nat_eq}
-use Rattle.std.proofs.lemmas.Bool.{eqb-true, eq-eqb}
+use Rattle.std.proofs.Common.{◌≡◌, ◌≢◌, ℕ, refl, sym, ◌∙◌, ap, subst, List, [], ◌∷◌, ⊎_elim, true, false}
 use Rattle.std.specs.declared.cmp.Ordering.TheVariants.{Less}
 use Rattle.word_field.specs.Field.{FieldOps, IsField, IsValue}
 use Rattle.word_field.specs.laws.Field.{times-zero, negate-zero, negate-negate}
@@ -9,12 +7,11 @@ use Rattle.monomial_order.specs.declared.terms.Term.{Term}
 use Rattle.monomial_order.specs.Monomial.{product}
 use Rattle.monomial_order.specs.MonomialOrder.{MonomialOrder, IsMonomialOrder}
 use Rattle.monomial_order.specs.laws.Comparing.{not_below_self, equal_or_not}
-use Rattle.polynomials.specs.Polynomial.{Polynomial, same_monomial, coefficient, term_of, scaled, times, negated, minus, constant, component, AllAt, IsLead, IsHomogeneous}
-use Rattle.polynomials.specs.laws.Ring.{coefficient_value, coefficient-append}
+use Rattle.polynomials.specs.Polynomial.{Polynomial, same_monomial, coefficient, scaled, times, negated, minus, constant, AllAt, IsLead}
+use Rattle.polynomials.specs.laws.Ring.{coefficient_value}
 use Rattle.polynomials.specs.laws.Same.{same_true, coefficient-negated}
 use Rattle.polynomials.specs.laws.Value.{coefficient-constant_times}
-use Rattle.polynomials.specs.laws.Degrees.{component-append, coefficient-component}
-use Rattle.polynomials.specs.laws.Coefficients.{sum_nonzero, minus_nonzero}
+use Rattle.polynomials.specs.laws.Coefficients.{minus_nonzero, no_coefficient}
 use Rattle.polynomials.specs.laws.Terms.{AllAt-append}
 use Rattle.polynomials.specs.laws.Congruence.{coefficient-minus}
 
@@ -37,24 +34,7 @@ module _ {E : Type 0} (K : FieldOps E) where
   AllAt-times A B Q f (t ∷ p) q h k =
       AllAt-append Q (scaled K t q) (times K p q) (AllAt-scaled Q t q (AllAt-map B (λ n. Q (product t.at n)) (λ n. f t.at n h.0) q k)) (AllAt-times A B Q f p q h.1 k)
 
-  -- the component of a difference
-  pub component-minus : (O : MonomialOrder) (d : ℕ) (p q : Polynomial E) → component O d (minus K p q) ≡ minus K (component O d p) (component O d q)
-  component-minus O d p q = component-append O d p (negated K q) ∙ ap (λ x. component O d p ++ x) (negated_part q)
-    where
-      negated_part : (q : Polynomial E) → component O d (negated K q) ≡ negated K (component O d q)
-      negated_part [] = refl
-      negated_part (t ∷ q) =
-          ap (λ x. cond (nat_eq (O.degree t.at) d) (term_of t.at (K.negate t.by) ∷ x) x) (negated_part q) ∙
-          elim (nat_eq (O.degree t.at) d) as (λ b. cond b (term_of t.at (K.negate t.by) ∷ negated K (component O d q)) (negated K (component O d q)) ≡ negated K (cond b (t ∷ component O d q) (component O d q))) [ true ↦ refl | false ↦ refl ]
-
 module _ {E : Type 0} (K : FieldOps E) (F : IsField K) where
-  -- a coefficient that is not nonzero is zero
-  pub no_coefficient : (p : Polynomial E) (m : List ℕ) → (coefficient K p m ≢ K.zero → ⊥) → coefficient K p m ≡ K.zero
-  no_coefficient p m h = ⊎_elim (λ z. z) (λ n. absurd (h n)) (F.equal_or_not (coefficient K p m) K.zero)
-
-  pub append_nonzero : (p q : Polynomial E) (m : List ℕ) → coefficient K (p ++ q) m ≢ K.zero → (coefficient K p m ≢ K.zero) ⊎ (coefficient K q m ≢ K.zero)
-  append_nonzero p q m h = sum_nonzero K F (coefficient K p m) (coefficient K q m) (λ z. h (coefficient-append K F p q m ∙ z))
-
   pub negated_nonzero : (p : Polynomial E) (m : List ℕ) → coefficient K (negated K p) m ≢ K.zero → coefficient K p m ≢ K.zero
   negated_nonzero p m h z = h (coefficient-negated K F p m ∙ (ap K.negate z ∙ negate-zero K F))
 
@@ -87,25 +67,6 @@ module _ {E : Type 0} (K : FieldOps E) (F : IsField K) (O : MonomialOrder) (L : 
       (n : List ℕ) → coefficient K (minus K a (times K (constant K f) b)) n ≢ K.zero → O.compare n m ≡ Less
   lowered a b m f la lb e n k =
       ⊎_elim
-      (λ same. absurd (k (ap (coefficient K (minus K a (times K (constant K f) b))) same ∙
-      (coefficient-minus K F a (times K (constant K f) b) m ∙ (ap (λ x. K.plus (coefficient K a m) (K.negate x)) (coefficient-constant_times K F f b m ∙ e) ∙ F.plus_negate (coefficient K a m))))))
+      (λ same. absurd (k (ap (coefficient K (minus K a (times K (constant K f) b))) same ∙ simp (coefficient-minus K F, coefficient-constant_times K F f b m, e, F.plus_negate))))
       (λ ne. ⊎_elim (λ na. la.greatest n na ne) (λ nb. lb.greatest n (multiple_nonzero K F f b n nb) ne) (minus_nonzero K F a (times K (constant K f) b) n k))
       (equal_or_not n m)
-
-  -- the component of the degree of a lead has that lead, and is homogeneous
-  at_degree : (d : ℕ) (p : Polynomial E) (m : List ℕ) → O.degree m ≡ d → coefficient K (component O d p) m ≡ coefficient K p m
-  at_degree d p m e = coefficient-component K F O L d p m ∙ ap (λ b. cond b (coefficient K p m) K.zero) (eq-eqb (O.degree m) d e)
-
-  component_nonzero : (d : ℕ) (p : Polynomial E) (n : List ℕ) → coefficient K (component O d p) n ≢ K.zero → (O.degree n ≡ d) × (coefficient K p n ≢ K.zero)
-  component_nonzero d p n k =
-      elim (nat_eq (O.degree n) d) as (λ b. nat_eq (O.degree n) d ≡ b → (O.degree n ≡ d) × (coefficient K p n ≢ K.zero)) [
-        | true ↦ λ e. (eqb-true (O.degree n) d e, λ z. k (coefficient-component K F O L d p n ∙ (ap (λ b. cond b (coefficient K p n) K.zero) e ∙ z)))
-        | false ↦ λ e. absurd (k (coefficient-component K F O L d p n ∙ ap (λ b. cond b (coefficient K p n) K.zero) e))
-      ] refl
-
-  pub component_leads : (p : Polynomial E) (m : List ℕ) → IsLead K O p m → IsLead K O (component O (O.degree m) p) m × IsHomogeneous K O (O.degree m) (component O (O.degree m) p)
-  component_leads p m h =
-      let nonzero : coefficient K (component O (O.degree m) p) m ≢ K.zero = λ z. h.nonzero (sym (at_degree (O.degree m) p m refl) ∙ z) in (
-        record { nonzero = nonzero; greatest = λ n k ne. h.greatest n (component_nonzero (O.degree m) p n k).1 ne },
-        record { some = (m, nonzero); each = λ n k. (component_nonzero (O.degree m) p n k).0 },
-      )

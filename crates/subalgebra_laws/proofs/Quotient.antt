@@ -11,17 +11,17 @@ use Rattle.word_laws.specs.Words.{word_order_of, IsSWord}
 use Rattle.polynomials.specs.Polynomial.{Polynomial, coefficient, Same, term_of, times, minus, constant, IsDecreasing, IsPoly, lead_monomial}
 use Rattle.polynomials.specs.Ideal.{Congruent}
 use Rattle.polynomials.specs.Value.{value}
-use Rattle.polynomials.specs.Subalgebra.{IsPresentation, InSubalgebra, LeadsIdeal, IsStandard, IsGenerated}
+use Rattle.polynomials.specs.Subalgebra.{IsPresentation, InSubalgebra, LeadsIdeal, IsStandard, IsGenerated, IsDecidedTo, AreZerosTo}
 use Rattle.polynomials.specs.laws.Decreasing.{IsLead_first}
 use Rattle.subalgebra_laws.specs.Words.{letters, word_value, IsReducibleWord, IsMinimalWord, IsCombination}
-use Rattle.subalgebra_laws.specs.Bases.{IsMonicElement, AreMonicElements, IsDecidedTo, AreZerosTo, HasCombinationsTo, IsCheckedElement, IsCheckedBasis}
+use Rattle.subalgebra_laws.specs.Bases.{IsMonicElement, AreMonicElements, HasCombinationsTo, IsCheckedElement, IsCheckedBasis}
 use Rattle.subalgebra_laws.specs.Samples.{sum_xy, sum_times_y, difference_of_squares, quotient, quotient_basis}
 use Rattle.subalgebra_laws.proofs.Plane.{field, plane, plane_laws, term_in, sum_decreasing, sum_times_decreasing}
 use Rattle.subalgebra_laws.proofs.Combinations.{combination_same, combination_congruent, combination_multiple, combination_word}
 use Rattle.subalgebra_laws.proofs.Generated.{generator_sub}
-use Rattle.subalgebra_laws.proofs.Decisions.{lead_multiple}
 use Rattle.subalgebra_laws.proofs.Principal.{generator_leads, leads_are_multiples}
 use Rattle.subalgebra_laws.proofs.SampleTools.{EachOf, each_of, each_part, reducible_listed, same_checked, first_homogeneous, first_monic, first_checked, not_generated}
+use Rattle.polynomials.specs.laws.NormalForm.{lead_multiple}
 
 difference_decreasing : IsDecreasing (residues 101) plane difference_of_squares
 difference_decreasing = (

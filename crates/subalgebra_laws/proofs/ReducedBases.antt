@@ -8,14 +8,14 @@ use Rattle.monomial_order.specs.laws.Rank.{IsWithin, below_induction}
 use Rattle.word_laws.specs.Words.{word_order_of, image_of}
 use Rattle.word_laws.specs.laws.Reducible.{least_word, least_s_word}
 use Rattle.polynomials.specs.Polynomial.{Polynomial, coefficient, times, minus, constant, IsPoly, IsLead, lead_monomial}
-use Rattle.polynomials.specs.Subalgebra.{Presented, IsPresentation, InSubalgebra, LeadsIdeal, LeadsSubalgebra, IsStandard, IsElement, IsGenerated, IsReducedBasis}
+use Rattle.polynomials.specs.Subalgebra.{Presented, IsPresentation, InSubalgebra, LeadsIdeal, LeadsSubalgebra, IsStandard, IsElement, IsGenerated, IsReducedBasis, HasDegreesTo, IsDecidedTo}
 use Rattle.polynomials.specs.laws.Ring.{coefficient_value}
 use Rattle.polynomials.specs.laws.Canonical.{zero_or_lead}
 use Rattle.polynomials.specs.laws.Ideal.{IsPoly-times}
 use Rattle.polynomials.specs.laws.Congruence.{congruent_member}
 use Rattle.polynomials.specs.laws.Membership.{sub_times, sub_congruent, sub_minus}
 use Rattle.subalgebra_laws.specs.Words.{letters, word_value, IsMinimalWord, IsCombination}
-use Rattle.subalgebra_laws.specs.Bases.{AreMonicElements, HasDegreesTo, IsDecidedTo, HasCombinationsTo, IsClosedAt, IsStandardElement, IsCheckedElement, IsCheckedBasis}
+use Rattle.subalgebra_laws.specs.Bases.{AreMonicElements, HasCombinationsTo, IsClosedAt, IsStandardElement, IsCheckedElement, IsCheckedBasis}
 use Rattle.subalgebra_laws.specs.Statements.{LowMembersAreCombinations}
 use Rattle.polynomials.specs.laws.Coefficients.{constant_poly, minus_poly, minus_back, found_monomial}
 use Rattle.subalgebra_laws.proofs.Nonzero.{lowered, cancelling}

@@ -11,14 +11,14 @@ use Rattle.polynomials.specs.laws.Membership.{sub_congruent, sub_minus}
 use Rattle.subalgebra_laws.specs.Words.{combination_value, IsIrreducibleSum, IsCombination, HasSumAndRest, linear_sum, IsSubductionRemainder}
 use Rattle.subalgebra_laws.specs.Bases.{AreMonicElements}
 use Rattle.subalgebra_laws.specs.Statements.{RestsDecideCombinations, LeadsDetermineLinearSums}
-use Rattle.subalgebra_laws.proofs.Nonzero.{no_coefficient, append_nonzero, multiple_nonzero}
+use Rattle.subalgebra_laws.proofs.Nonzero.{multiple_nonzero}
 use Rattle.polynomials.specs.laws.Ring.{coefficient_value, coefficient-append}
 use Rattle.polynomials.specs.laws.Value.{coefficient-constant_times}
 use Rattle.word_field.specs.laws.Field.{zero-plus}
 use Rattle.std.proofs.lemmas.List.Elements.{Contains-get_or}
 use Rattle.subalgebra_laws.proofs.Combinations.{sums_unique, combination_congruent, combination_same, combination_plus, combination_multiple}
 use Rattle.subalgebra_laws.proofs.Criterion.{lead_generated}
-use Rattle.polynomials.specs.laws.Coefficients.{minus_poly, minus_nonzero, nothing_at}
+use Rattle.polynomials.specs.laws.Coefficients.{minus_poly, minus_nonzero, nothing_at, no_coefficient, append_nonzero}
 
 -- r - q is the difference of a - q and a - r
 difference : {E : Type 0} (K : FieldOps E) (F : IsField K) (a r q : Polynomial E) → Same K (minus K r q) (minus K (minus K a q) (minus K a r))
@@ -147,14 +147,11 @@ module _ {E : Type 0} (P : Presented E) (H : IsPresentation P) where
   linear_at m [] S i lc l v one h = absurd (omega arith)
   linear_at m (c ∷ cs) [] i lc l v one h = absurd (omega arith)
   linear_at m (c ∷ cs) (s ∷ S) zero lc l v one h =
-      coefficient-append K F (times K (constant K c) s) (linear_sum P cs S) m ∙
-      (ap (λ x. K.plus x (coefficient K (linear_sum P cs S) m)) (coefficient-constant_times K F c s m ∙ (ap (K.times c) one ∙ (F.times_one c ∙ v))) ∙
-      (ap (K.plus c) (linear_zero m cs S (λ j k. h (suc j) (omega arith) (λ e. cc))) ∙ (F.plus_zero c ∙ v)))
+      simp (coefficient-append K F (times K (constant K c) s) (linear_sum P cs S) m, coefficient-constant_times K F c s m, one, F.times_one, v, linear_zero m cs S (λ j k. h (suc j) (omega arith) (λ e. cc)), F.plus_zero)
   linear_at m (c ∷ cs) (s ∷ S) (suc i) lc l v one h =
-      coefficient-append K F (times K (constant K c) s) (linear_sum P cs S) m ∙
-      (ap (λ x. K.plus x (coefficient K (linear_sum P cs S) m)) (no_coefficient K F (times K (constant K c) s) m (λ k. multiple_nonzero K F c s m k (h 0 (omega arith) (λ e. cc)))) ∙
-      (zero-plus K F (coefficient K (linear_sum P cs S) m) ∙ (coefficient_value K F (linear_sum P cs S) m ∙
-      linear_at m cs S i (omega arith) (omega arith) v one (λ j k n. h (suc j) (omega arith) (λ e. n (let z : j ≡ i = cc in z))))))
+      let none = no_coefficient K F (times K (constant K c) s) m (λ k. multiple_nonzero K F c s m k (h 0 (omega arith) (λ e. cc))) in
+      let rest = linear_at m cs S i (omega arith) (omega arith) v one (λ j k n. h (suc j) (omega arith) (λ e. n (let z : j ≡ i = cc in z))) in
+      simp (coefficient-append K F (times K (constant K c) s) (linear_sum P cs S) m, none, zero-plus K F, coefficient_value K F) rest
 
   pub leads_determine : (S : List (Polynomial E)) → AreMonicElements P S → LeadsDetermineLinearSums P S
   leads_determine S HS reduced cs i lc l v =

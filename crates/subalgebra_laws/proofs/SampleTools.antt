@@ -14,7 +14,7 @@ use Rattle.monomial_order.specs.Monomial.{exponent, IsTrimmed, weighted_degree}
 use Rattle.monomial_order.specs.MonomialOrder.{MonomialOrder, IsMonomialOrder}
 use Rattle.monomial_order.specs.laws.Comparing.{le_or_not}
 use Rattle.monomial_order.specs.laws.Lists.{contains_none, contains_cases, contains_here, contains_there, contains_map, contains_left, contains_right}
-use Rattle.monomial_order.specs.laws.Monomial.{exponent-product, product-one, trimmed_tail}
+use Rattle.monomial_order.specs.laws.Monomial.{weighted_nil, exponent-product, product-one, trimmed_tail}
 use Rattle.word_laws.specs.Words.{word_order_of, image_of, lead_degrees, IsSWord, IsSmaller}
 use Rattle.word_laws.specs.laws.Words.{degree_same, s_smaller}
 use Rattle.polynomials.specs.Polynomial.{Polynomial, same_monomial, coefficient, Same, AllAt, IsDecreasing, IsHomogeneous, lead_monomial}
@@ -60,6 +60,10 @@ module _ {A : Type 0} (Q : List A → A → List A → Type 0) where
   pub each_part : (xs : List A) → EachPart [] xs → (before after : List A) (s : A) → xs ≡ before ++ (s ∷ after) → Q before s after
   each_part xs h before after s e = part before [] xs s after h e
 
+or_true : (b : Bool) → b || true ≡ true
+or_true true = refl
+or_true false = refl
+
 -- tests of a list
 module _ {A : Type 0} (p : A → Bool) where
   abbrev any : List A → Bool
@@ -69,10 +73,6 @@ module _ {A : Type 0} (p : A → Bool) where
   any_true : (xs : List A) (x : A) → Contains xs x → p x ≡ true → any xs ≡ true
   any_true [] x k h = absurd (contains_none x k)
   any_true (y ∷ xs) x k h = ⊎_elim (λ e. ap (λ b. b || any xs) (ap p e ∙ h)) (λ i. ap (λ b. p y || b) (any_true xs x i h) ∙ or_true (p y)) (contains_cases y xs x k)
-    where
-      or_true : (b : Bool) → b || true ≡ true
-      or_true true = refl
-      or_true false = refl
 
   abbrev passing : List A → List A
   passing [] = []
@@ -133,11 +133,7 @@ at_exponent rest d c (suc e) n w l b h =
 words_all : (ds : List ℕ) (c : ℕ) (w : List ℕ) → EachOf (λ d. 1 ≤ d) ds → length w ≤ length ds → IsTrimmed w → weighted_degree ds w ≤ c → Contains (words_to ds c) w
 words_all [] c [] p l t le = contains_here [] []
 words_all [] c (e ∷ w) p l t le = absurd (omega arith)
-words_all (d ∷ ds) c [] p l t le = at_exponent (λ b. words_to ds b) d c c 0 [] (omega arith) (omega arith) (words_all ds (c - d * 0) [] p.1 (omega arith) tt (none ds))
-  where
-    none : (ds : List ℕ) → weighted_degree ds [] ≤ c - d * 0
-    none [] = omega arith
-    none (x ∷ ds) = omega arith
+words_all (d ∷ ds) c [] p l t le = at_exponent (λ b. words_to ds b) d c c 0 [] (omega arith) (omega arith) (words_all ds (c - d * 0) [] p.1 (omega arith) tt (omega (arith, weighted_nil ds)))
 words_all (d ∷ ds) c (e ∷ w) p l t le =
     let q = mul-le-mul_left e p.0 in
     subst (Contains (words_to (d ∷ ds) c)) (cons_is e w t)
@@ -146,11 +142,7 @@ words_all (d ∷ ds) c (e ∷ w) p l t le =
 s_words_all : (xs ds : List ℕ) (c : ℕ) (w : List ℕ) → EachOf (λ d. 1 ≤ d) ds → length w ≤ length xs + length ds → IsTrimmed w → sum (take (length xs) w) ≡ 0 → weighted_degree (xs ++ ds) w ≤ c →
     Contains (s_words_to (length xs) ds c) w
 s_words_all [] ds c w p l t z le = words_all ds c w p (omega arith) t le
-s_words_all (x ∷ xs) ds c [] p l t z le = contains_map (trimmed_cons 0) (s_words_to (length xs) ds c) [] (s_words_all xs ds c [] p (omega arith) tt (ap sum (take-nil (length xs))) (low (xs ++ ds)))
-  where
-    low : (ds : List ℕ) → weighted_degree ds [] ≤ c
-    low [] = omega arith
-    low (d ∷ ds) = omega arith
+s_words_all (x ∷ xs) ds c [] p l t z le = contains_map (trimmed_cons 0) (s_words_to (length xs) ds c) [] (s_words_all xs ds c [] p (omega arith) tt (ap sum (take-nil (length xs))) (omega (arith, weighted_nil (xs ++ ds))))
 s_words_all (x ∷ xs) ds c (e ∷ w) p l t z le =
     let a = sum_by-cons (λ (y : ℕ). y) e (take (length xs) w) in
     let zero : 0 ≡ e = omega arith in
@@ -181,10 +173,6 @@ module _ {E : Type 0} (P : Presented E) (H : IsPresentation P) (S : List (Polyno
 
       smaller : List ℕ → Bool
       smaller v = same_monomial (image_of (letters P S) v) (image_of (letters P S) u) && is_less ((word_order_of (letters P S)).compare v u)
-
-      or_true : (b : Bool) → b || true ≡ true
-      or_true true = refl
-      or_true false = refl
 
       listed : (w : List ℕ) → IsSWord (letters P S) w → (word_order_of (letters P S)).degree w ≤ c → Contains words w
       listed w hw l = s_words_all (letter_degrees P S) (lead_degrees (letters P S)) c w pos (let a = hw.0.within in let b = length-append (letter_degrees P S) (lead_degrees (letters P S)) in omega arith) hw.0.trimmed hw.1 l

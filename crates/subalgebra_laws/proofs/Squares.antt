@@ -18,10 +18,10 @@ use Rattle.word_laws.specs.Words.{word_order_of, image_of, IsWord, IsSmaller}
 use Rattle.word_laws.specs.laws.Images.{image_sum}
 use Rattle.word_laws.specs.laws.Words.{degree_same, x_falls}
 use Rattle.polynomials.specs.Polynomial.{Polynomial, term_of, AllAt, IsDecreasing, lead_monomial}
-use Rattle.polynomials.specs.Subalgebra.{IsPresentation, LeadsIdeal, IsGenerated, AllIn, product_of}
+use Rattle.polynomials.specs.Subalgebra.{IsPresentation, LeadsIdeal, IsGenerated, AllIn, product_of, IsDecidedTo}
 use Rattle.polynomials.specs.laws.Degrees.{all_found}
 use Rattle.subalgebra_laws.specs.Words.{letters, word_value, IsReducibleWord, IsCombination}
-use Rattle.subalgebra_laws.specs.Bases.{IsMonicElement, AreMonicElements, IsDecidedTo, HasCombinationsTo, IsClosedAt, IsCheckedElement, IsCheckedBasis}
+use Rattle.subalgebra_laws.specs.Bases.{IsMonicElement, AreMonicElements, HasCombinationsTo, IsClosedAt, IsCheckedElement, IsCheckedBasis}
 use Rattle.subalgebra_laws.specs.Samples.{square, squares}
 use Rattle.subalgebra_laws.proofs.Letters.{are_letters, letter_laws}
 use Rattle.subalgebra_laws.proofs.Combinations.{combination_same, combination_word}

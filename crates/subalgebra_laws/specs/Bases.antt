@@ -1,10 +1,10 @@
 -- Lists of elements: what is asked of them, what can be checked of them, and when no later degree brings anything new.
-use Rattle.std.specs.Prelude.{◌≡◌, ◌≢◌, ℕ, ◌<◌, ◌≤◌, ◌⊎◌, List, [], ◌∷◌, ◌++◌, length, get_or, map, Contains}
-use Rattle.monomial_order.specs.Monomial.{Exponents, IsMonomial, Divides}
+use Rattle.std.specs.Prelude.{◌≡◌, ◌≢◌, ℕ, ◌<◌, ◌≤◌, List, [], ◌∷◌, ◌++◌, length, get_or, map, Contains}
+use Rattle.monomial_order.specs.Monomial.{Exponents, Divides}
 use Rattle.word_laws.specs.Words.{word_order_of, IsWord}
 use Rattle.polynomials.specs.Polynomial.{Polynomial, coefficient, IsPoly, IsDecreasing, IsHomogeneous, lead_monomial}
 use Rattle.polynomials.specs.Ideal.{Congruent}
-use Rattle.polynomials.specs.Subalgebra.{Presented, InSubalgebra, LeadsIdeal, IsStandard, IsGenerated}
+use Rattle.polynomials.specs.Subalgebra.{Presented, InSubalgebra, LeadsIdeal, IsStandard, IsGenerated, HasDegreesTo}
 use Rattle.monomial_order.specs.MonomialOrder.{IsIncreasing}
 use Rattle.subalgebra_laws.specs.Words.{letters, word_value, IsReducibleWord, IsMinimalWord, IsCombination}
 
@@ -33,24 +33,9 @@ module _ {E : Type 0} (P : Presented E) where
   AreReducedByEachOther S = (i j : ℕ) → i < length S → j < length S → i ≢ j →
       coefficient P.field (get_or S i []) (lead_monomial (get_or S j [])) ≡ P.field.zero
 
-  -- each monomial of a has a degree of at most d
-  abbrev pub HasDegreesTo : ℕ → Polynomial E → Type 0
-  HasDegreesTo d a = (m : Exponents) → coefficient P.field a m ≢ P.field.zero → P.order.degree m ≤ d
-
   -- the leads of T have degrees of at least d
   abbrev pub HaveLeadsFrom : ℕ → List (Polynomial E) → Type 0
   HaveLeadsFrom d T = (t : Polynomial E) → Contains T t → d ≤ P.order.degree (lead_monomial t)
-
-  -- of each monomial of degree at most c it is known that it leads a member of the ideal, or that it leads none
-  abbrev pub IsDecidedTo : ℕ → Type 0
-  IsDecidedTo c = (m : Exponents) →
-      IsMonomial P.order.places m → P.order.degree m ≤ c → LeadsIdeal P m ⊎ (LeadsIdeal P m → ⊥)
-
-  -- zeros are leads of members of the ideal, and divide each such lead of degree at most c
-  pub record AreZerosTo (c : ℕ) (zeros : List Exponents) : Type 0 where
-    pub lead : (n : Exponents) → Contains zeros n → LeadsIdeal P n
-    pub divide : (m : Exponents) → LeadsIdeal P m → P.order.degree m ≤ c →
-        (n : Exponents) × Contains zeros n × Divides n m
 
   -- to the degree c the nonzero generators and the values of the minimal reducible s-words are combinations
   pub record HasCombinationsTo (c : ℕ) (S : List (Polynomial E)) : Type 0 where
@@ -79,8 +64,8 @@ module _ {E : Type 0} (P : Presented E) where
 
   -- nothing new comes after the degree D
   pub record IsClosedAt (D : ℕ) (S : List (Polynomial E)) : Type 0 where
-    pub generators : (f : Polynomial E) → Contains P.generators f → HasDegreesTo D f
-    pub ideal : (r : Polynomial E) → Contains P.ideal r → HasDegreesTo D r
+    pub generators : (f : Polynomial E) → Contains P.generators f → HasDegreesTo P D f
+    pub ideal : (r : Polynomial E) → Contains P.ideal r → HasDegreesTo P D r
     pub leads : IsIdealClosedAt D
     pub words : AreReducibleWordsClosedAt D S
 

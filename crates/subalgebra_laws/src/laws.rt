@@ -2,8 +2,8 @@
 ghost use Rattle.std.specs.Prelude.{[], ◌++◌, ◌≤◌, List, ℕ};
 ghost use Rattle.monomial_order.specs.declared.terms.Term.{Term};
 ghost use Rattle.monomial_order.specs.Monomial.{Exponents};
-ghost use Rattle.polynomials.specs.Subalgebra.{IsPresentation, IsReducedBasis, Presented};
-ghost use Rattle.subalgebra_laws.specs.Bases.{AreMonicElements, AreStandardAfter, AreZerosTo, HasCombinationsTo, HaveLeadsFrom, IsDecidedTo, IsIdealClosedAt};
+ghost use Rattle.polynomials.specs.Subalgebra.{IsPresentation, IsReducedBasis, Presented, AreZerosTo, IsDecidedTo};
+ghost use Rattle.subalgebra_laws.specs.Bases.{AreMonicElements, AreStandardAfter, HasCombinationsTo, HaveLeadsFrom, IsIdealClosedAt};
 ghost use Rattle.subalgebra_laws.specs.Statements.{CheckingIsExact, ClosedIdealsAreDecided, ClosedIdealsKeepZeros, CombinationsHaveGeneratedLeads, CombinationsStay, CongruentAreCombinations, ElementsAreCombinations, EndsCanBeExchanged, ForClosedBases, ForDecidedIdeals, ForMonicElements, ForMonicMembers, ForNewElements, ForNextElements, ForPresentations, ForStandardElements, FrontsAreReduced, IncreasingListsAreEqual, IrreducibleWordsAreCombinations, LeadsAreExactly, LeadsAreGenerated, LeadsDetermineLinearSums, LeastWordsAreIrreducible, LowMembersAreCombinations, MembersAreCombinations, MinimalWordsStay, MultiplesAreCombinations, NextAreCombinations, NextBasisIsReduced, OrderDoesNotMatter, ProductsAreImages, ProductsSplit, RemaindersAreUnique, RemaindersDecideMembership, RestsDecideCombinations, StandardProductsLead, SumsAndRestsAreUnique, SumsAreCombinations, SumsAreUnique, SumsHaveTopWords, SumsOfSWordsAreMembers, SumsStay, SumsWithoutNewLettersStay, SWordsAreMembers, TopImagesAreLeast, TopImagesLead, TopImagesLeadNormalForms, ValuesAreCongruent, ValuesCompose, ValuesStay, WordsAreDecided, ZerosDecide, ZerosRepresentTheIdeal};
 ghost use Rattle.polynomials.specs.Polynomial.{Polynomial};
 

@@ -1,4 +1,4 @@
--- Lists whose members stand in a relation to each later one.
+-- Lists in which a relation holds between each member and each later one.
 use Rattle.std.proofs.Common.{◌≡◌, ◌≢◌, ℕ, zero, suc, sym, subst, List, [], ◌∷◌, ◌++◌, take, drop, get_or, arith, ⊎_elim}
 use Rattle.std.specs.Prelude.{Contains, AllPairs}
 use Rattle.std.specs.declared.cmp.Ordering.TheVariants.{Less}

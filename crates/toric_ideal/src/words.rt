@@ -1,5 +1,5 @@
 //! Words to a degree.
-ghost use Rattle.std.specs.Prelude.{◌≡◌, ◌≤◌, ◌<◌, ◌≢◌, ◌++◌, ◌∷◌, [], ℕ, List, length, max, true, false, IfOk, OnOk, OnErr, IfSome, IsSome, IsNone, IsTrue};
+ghost use Rattle.std.specs.Prelude.{◌≡◌, ◌≤◌, ◌<◌, ◌≢◌, ◌++◌, ◌∷◌, [], ℕ, List, length, max, true, false, IsOk, IfOk, OnOk, OnErr, IfSome, IsSome, IsNone, IsTrue};
 ghost use Rattle.monomial_order.specs.Limits.{degree_max};
 ghost use Rattle.monomial_order.specs.Monomial.{Exponents, weighted_degree, IsMonomial, IsMultiple};
 ghost use Rattle.monomial_order.specs.MonomialOrder.{MonomialOrder};
@@ -62,6 +62,7 @@ impl Words {
         ensures degree { OnOk result (self.new.degree ≡ max self.old.degree c) }
         ensures new_zeros { OnOk result (self.old.degree < c → self.new.zeros ≡ zero.now) }
         ensures old_zeros { c ≤ self.old.degree → self.new ≡ self.old }
+        ensures reached { c ≤ self.old.degree → IsOk result }
         ensures err { OnErr result (self.new ≡ self.old) }
     {
         if c <= self.table.degree {

@@ -18,6 +18,9 @@ use worked_cases::monomials::monomial;
 use worked_cases::rings::{Ring, polynomial, ring, text_of};
 use worked_cases::rows::{ensure, judge, number, part};
 
+/// The greatest degree at which a quotient may be asked whether it is closed.
+const CLOSING_MAX: u32 = 15_000;
+
 /// The ring modulo the ideal of a row: its size, names, weights, order, and the generators of the ideal.
 fn ring_of(alloc: Global, row: &str) -> Result<Ring, Fail>
     ensures { IfOk result IsRing }
@@ -101,22 +104,26 @@ fn leads_of_small_ideals(rt: HostRuntime) -> Result<(), Fail> {
     Ok(())
 }
 
-/// The normal form of a polynomial of degree at most that of the quotient.
+/// The normal form of a polynomial. If its degree is above that of the quotient, this finds the quotient closed first.
 fn normal_form(
     alloc: Global,
     p: &Ring,
-    quotient: &Quotient<WordField, WeightOrder>,
+    quotient: &mut Quotient<WordField, WeightOrder>,
     degree: u32,
     a: &Poly<WordField>,
 ) -> Result<Poly<WordField>, Fail>
     requires valid { IsRing p.now }
-    requires quotient { IsQuotientOf (presented (λ f. residues f.modulus) weight_order_of p.now) quotient.now }
-    requires degree { quotient.now.degree ≡ degree }
+    requires quotient { IsQuotientOf (presented (λ f. residues f.modulus) weight_order_of p.now) quotient.old }
+    requires degree { quotient.old.degree ≡ degree }
     requires canonical { IsIn p.now a.now }
     ensures { IfOk result (IsIn p.now) }
 {
     let first = a.lead().ok_or("zero")?;
-    ensure(p.order.degree(&first.at) <= degree, "a great degree")?;
+    if p.order.degree(&first.at) <= degree {
+        return Ok(quotient.normal_form(alloc, p, a)?);
+    }
+    ensure(degree <= CLOSING_MAX, "a great degree")?;
+    ensure(quotient.closed(alloc, p)?, "not closed")?;
     Ok(quotient.normal_form(alloc, p, a)?)
 }
 
@@ -125,9 +132,9 @@ fn answer(alloc: Global, row: &str) -> Result<String, Fail> {
     let p = ring_of(alloc, row)?;
     let degree = number(part(row, 5))?;
     ensure(degree <= DEGREE_MAX, row)?;
-    let quotient = quotient_to(alloc, &p, degree)?;
+    let mut quotient = quotient_to(alloc, &p, degree)?;
     let a = polynomial(alloc, &p, part(row, 6))?;
-    let found = normal_form(alloc, &p, &quotient, degree, &a)?;
+    let found = normal_form(alloc, &p, &mut quotient, degree, &a)?;
     let text = text_of(alloc, &p, &found)?;
     let is_standard = quotient.is_standard(&monomial(alloc, part(row, 7))?);
     let is_other_standard = quotient.is_standard(&monomial(alloc, part(row, 8))?);
@@ -140,8 +147,56 @@ fn normal_forms(rt: HostRuntime) -> Result<(), Fail> {
     for row in [
         "101 | x y | 1 1 | lex | x^2 - y^2 | 3 | x^3 | x*y^2 | x^2*y | x*y^2, true, false",
         "101 | x y | 1 1 | lex | x^2 - y^2 | 3 | x^2 - y^2 | 1 | x^2 | 0, true, false",
+        // of degrees above that of the quotient
+        "101 | x y | 1 1 | lex | x^2 - y^2 | 2 | x^5 + x^3 | x*y^9 | x^2*y^8 | x*y^4 + x*y^2, true, false",
+        "101 | x y | 1 1 | lex | x^2, y^3 | 3 | x^2*y + x*y^2 | x*y^2 | x*y^3 | x*y^2, true, false",
     ] {
         judge(row, answer(rt.alloc(), row)?.as_str())?;
+    }
+    Ok(())
+}
+
+/// Compares whether the quotient to a degree is closed, and its leads to a greater degree.
+fn see_closed(alloc: Global, row: &str) -> Result<(), Fail> {
+    let p = ring_of(alloc, row)?;
+    let degree = number(part(row, 5))?;
+    ensure(degree <= CLOSING_MAX, row)?;
+    let mut quotient = quotient_to(alloc, &p, degree)?;
+    let closed = quotient.closed(alloc, &p)?;
+    ensure(closed == (part(row, 6) == "closed"), row)?;
+    let greater = number(part(row, 7))?;
+    ensure(greater <= DEGREE_MAX, row)?;
+    quotient.extend_to(alloc, &p, greater)?;
+    ensure(quotient.known_closed() == closed, row)?;
+    ensure(are_monomials(alloc, quotient.leads(), part(row, 8))?, row)
+}
+
+#[test]
+fn closed_quotients(rt: HostRuntime) -> Result<(), Fail> {
+    // a ring, a degree, whether the quotient is closed, and the leads to a greater degree
+    for row in [
+        "101 | x y | 1 1 | lex | x^2 - y^2 | 2 | closed | 30000 | x^2",
+        "101 | x y | 1 1 | lex | x^2 - y^2 | 3 | closed | 30000 | x^2",
+        // a generator of twice the degree; a lead has x for the first variable and y for the second
+        "101 | y x | 1 1 | lex | x^2 | 1 | open | 2 | y^2",
+        // monomials
+        "101 | x y | 1 1 | lex | x^2, x*y, y^3 | 2 | open | 3 | x*y, x^2, y^3",
+        "101 | x y | 1 1 | lex | x^2, x*y, y^3 | 3 | closed | 30000 | x*y, x^2, y^3",
+        // x*z^2 - y^2*z comes in at degree 3, and y^3*z - z^4 at degree 4, which is twice the degree 2
+        "101 | x y z | 1 1 1 | lex | x^2 - y*z, x*y - z^2 | 2 | open | 4 | x*y, x^2, x*z^2, y^3*z",
+        "101 | x y z | 1 1 1 | lex | x^2 - y*z, x*y - z^2 | 3 | open | 4 | x*y, x^2, x*z^2, y^3*z",
+        "101 | x y z | 1 1 1 | lex | x^2 - y*z, x*y - z^2 | 4 | closed | 30000 | x*y, x^2, x*z^2, y^3*z",
+        // the twisted cubic
+        "101 | x y z w | 1 1 1 1 | revlex | x*z - y^2, y*w - z^2, x*w - y*z | 2 | closed | 30000 | z^2, y*z, y^2",
+        // no ideal
+        "101 | x y | 1 1 | lex | 0 | 0 | closed | 30000 | -",
+        // x has the degree 2 and y the degree 3: y^3 comes in at degree 9
+        "7 | x y | 2 3 | lex | x^3 + y^2 | 5 | open | 6 | x^3",
+        "7 | x y | 2 3 | lex | x^3 + y^2 | 6 | closed | 30000 | x^3",
+        "7 | x y | 2 3 | lex | x^3 + y^2, x*y | 6 | open | 9 | x*y, x^3, y^3",
+        "7 | x y | 2 3 | lex | x^3 + y^2, x*y | 9 | closed | 30000 | x*y, x^3, y^3",
+    ] {
+        see_closed(rt.alloc(), row)?;
     }
     Ok(())
 }

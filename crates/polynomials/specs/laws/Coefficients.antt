@@ -1,7 +1,7 @@
 -- Coefficients and leads of single terms, sums and differences, and what a decreasing list says of them.
 use Rattle.std.proofs.Common.{◌≡◌, ◌≢◌, ℕ, ◌≤◌, refl, sym, ◌∙◌, ap, [], ◌∷◌, ◌++◌, ◌⊎◌, inl, inr, ⊎_elim, cond, true, false, arith}
 use Rattle.std.specs.declared.cmp.Ordering.TheVariants.{Less}
-use Rattle.word_field.specs.Field.{FieldOps, IsField, IsValue}
+use Rattle.word_field.specs.Field.{FieldOps, IsField}
 use Rattle.word_field.specs.laws.Field.{zero-plus-zero, negate-zero}
 use Rattle.monomial_order.specs.declared.terms.Term.{Term}
 use Rattle.monomial_order.specs.Monomial.{Exponents, product, IsMonomial}
@@ -9,7 +9,7 @@ use Rattle.monomial_order.specs.MonomialOrder.{MonomialOrder, IsMonomialOrder}
 use Rattle.monomial_order.specs.laws.Comparing.{not_below_self, degree_falls}
 use Rattle.polynomials.specs.Polynomial.{Polynomial, same_monomial, coefficient, Same, term_of, scaled, times, negated, minus, constant, IsTerm, IsPoly, IsBelow, IsLead, IsSmall, IsDecreasing, AllAt, lead_monomial}
 use Rattle.polynomials.specs.laws.Ring.{coefficient_value, coefficient-append, times_comm}
-use Rattle.polynomials.specs.laws.Same.{same_true, append_comm}
+use Rattle.polynomials.specs.laws.Same.{same_true, append_comm, coefficient-negated}
 use Rattle.polynomials.specs.laws.Value.{one_times}
 use Rattle.polynomials.specs.laws.Canonical.{IsLead_same}
 use Rattle.polynomials.specs.laws.Ideal.{IsPoly-append, IsPoly-negated}
@@ -24,6 +24,10 @@ unfolding coefficient
 nothing_at K m = refl
 
 module _ {E : Type 0} (K : FieldOps E) (F : IsField K) where
+  -- a coefficient that is not nonzero is zero
+  pub no_coefficient : (p : Polynomial E) (m : Exponents) → (coefficient K p m ≢ K.zero → ⊥) → coefficient K p m ≡ K.zero
+  no_coefficient p m h = ⊎_elim (λ z. z) (λ n. absurd (h n)) (F.equal_or_not (coefficient K p m) K.zero)
+
   -- a single term has a coefficient at its monomial alone
   pub single_term : (w : Exponents) (c : E) (v : Exponents) → coefficient K (term_of w c ∷ []) v ≢ K.zero → w ≡ v
   unfolding coefficient
@@ -37,6 +41,9 @@ module _ {E : Type 0} (K : FieldOps E) (F : IsField K) where
   pub sum_nonzero : (a b : E) → K.plus a b ≢ K.zero → (a ≢ K.zero) ⊎ (b ≢ K.zero)
   sum_nonzero a b h =
       ⊎_elim (λ z. inr (λ w. h (ap (λ x. K.plus x b) z ∙ (ap (K.plus K.zero) w ∙ zero-plus-zero K F)))) (λ n. inl n) (F.equal_or_not a K.zero)
+
+  pub append_nonzero : (p q : Polynomial E) (m : Exponents) → coefficient K (p ++ q) m ≢ K.zero → (coefficient K p m ≢ K.zero) ⊎ (coefficient K q m ≢ K.zero)
+  append_nonzero p q m h = sum_nonzero (coefficient K p m) (coefficient K q m) (λ z. h (coefficient-append K F p q m ∙ z))
 
   pub minus_nonzero : (p q : Polynomial E) (m : Exponents) → coefficient K (minus K p q) m ≢ K.zero → (coefficient K p m ≢ K.zero) ⊎ (coefficient K q m ≢ K.zero)
   minus_nonzero p q m h =
@@ -53,11 +60,8 @@ module _ {E : Type 0} (K : FieldOps E) (F : IsField K) where
   -- what was taken away is put back
   pub minus_back : (a x : Polynomial E) → Same K (minus K a x ++ x) a
   minus_back a x m =
-      coefficient-append K F (minus K a x) x m ∙
-      (ap (λ y. K.plus y (coefficient K x m)) (coefficient-minus K F a x m) ∙
-      (F.plus_assoc (coefficient K a m) (K.negate (coefficient K x m)) (coefficient K x m) ∙
-      (ap (K.plus (coefficient K a m)) (F.plus_comm (K.negate (coefficient K x m)) (coefficient K x m) ∙ F.plus_negate (coefficient K x m)) ∙
-      (F.plus_zero (coefficient K a m) ∙ coefficient_value K F a m))))
+      let y = coefficient K x m in
+      simp (coefficient-append K F, coefficient-negated K F, F.plus_assoc, F.plus_comm (K.negate y) y, F.plus_negate, F.plus_zero, coefficient_value K F)
 
 module _ {E : Type 0} (K : FieldOps E) (F : IsField K) (O : MonomialOrder) (L : IsMonomialOrder O) where
   -- the lead of a sum, if the second part is below it
@@ -66,7 +70,7 @@ module _ {E : Type 0} (K : FieldOps E) (F : IsField K) (O : MonomialOrder) (L : 
       let none : coefficient K q m ≡ K.zero = ⊎_elim (λ z. z) (λ n. absurd (not_below_self O L m (k m n))) (F.equal_or_not (coefficient K q m) K.zero) in
       record {
         nonzero = λ z. h.nonzero (sym (coefficient_value K F p m) ∙ (sym (F.plus_zero (coefficient K p m)) ∙ (ap (K.plus (coefficient K p m)) (sym none) ∙ (sym (coefficient-append K F p q m) ∙ z))));
-        greatest = λ n c ne. ⊎_elim (λ a. h.greatest n a ne) (λ b. k n b) (sum_nonzero K F (coefficient K p n) (coefficient K q n) (λ z. c (coefficient-append K F p q n ∙ z)));
+        greatest = λ n c ne. ⊎_elim (λ a. h.greatest n a ne) (λ b. k n b) (append_nonzero K F p q n c);
       }
 
   -- and if the first part is

@@ -3,7 +3,6 @@ use Rattle.std.proofs.Common.{◌≡◌, ℕ, ◌+◌, ◌≤◌, refl, sym, ◌
 use Rattle.std.specs.Prelude.{nat_eq}
 use Rattle.std.proofs.lemmas.Bool.{eqb-true, eq-eqb, true≢false}
 use Rattle.word_field.specs.Field.{FieldOps, IsField}
-use Rattle.word_field.specs.laws.Field.{zero-plus-zero, negate-zero}
 use Rattle.monomial_order.specs.declared.terms.Term.{Term}
 use Rattle.monomial_order.specs.Monomial.{Exponents, weighted_degree}
 use Rattle.monomial_order.specs.MonomialOrder.{MonomialOrder, IsMonomialOrder}
@@ -11,14 +10,14 @@ use Rattle.polynomials.specs.Polynomial.{Polynomial, coefficient, Same, minus, c
 use Rattle.polynomials.specs.Value.{monomial_value, term_value, value}
 use Rattle.polynomials.specs.Subalgebra.{Presented, IsPresentation, IsGenerator, AreGenerators, InSubalgebra}
 use Rattle.polynomials.specs.laws.Same.{append_same}
-use Rattle.polynomials.specs.laws.Congruence.{coefficient-minus}
+use Rattle.polynomials.specs.laws.Congruence.{minus_same}
 use Rattle.polynomials.specs.laws.Ideal.{IsPoly-times, InIdeal_same}
 use Rattle.polynomials.specs.laws.Membership.{IsPoly-monomial_value}
 use Rattle.polynomials.specs.laws.ReducedBasis.{degree_one}
-use Rattle.polynomials.specs.laws.Degrees.{IsGraded, AreGraded, polys_graded, graded_times, graded_value, graded_component, graded_no_component, all_found, component-append, coefficient-component, ideal_component}
+use Rattle.polynomials.specs.laws.Degrees.{component-minus, IsGraded, AreGraded, polys_graded, graded_times, graded_value, graded_component, graded_no_component, all_found, component-append, ideal_component}
 use Rattle.polynomials.specs.laws.NormalForm.{IsPoly-component}
 
--- the terms of h are distinguished by the degrees of their values, where ds are the degrees of the generators
+-- Terms have the degrees of their values, if ds are the degrees of the generators.
 abbrev by_value : MonomialOrder → List ℕ → MonomialOrder
 by_value O ds = record { places = O.places; degree = weighted_degree ds; compare = O.compare }
 
@@ -79,17 +78,7 @@ module _ {E : Type 0} (K : FieldOps E) (F : IsField K) (O : MonomialOrder) (L : 
   -- the part of a difference
   component_minus : (d : ℕ) (a v w : Polynomial E) → Same K (component O d v) w → Same K (component O d (minus K a v)) (minus K (component O d a) w)
   component_minus d a v w s m =
-      coefficient-component K F O L d (minus K a v) m ∙
-      (ap (λ x. cond (nat_eq (O.degree m) d) x K.zero) (coefficient-minus K F a v m) ∙
-      (by_test (nat_eq (O.degree m) d) ∙
-      (ap (λ x. K.plus x (K.negate (cond (nat_eq (O.degree m) d) (coefficient K v m) K.zero))) (sym (coefficient-component K F O L d a m)) ∙
-      (ap (λ x. K.plus (coefficient K (component O d a) m) (K.negate x)) (sym (coefficient-component K F O L d v m) ∙ s m) ∙
-      sym (coefficient-minus K F (component O d a) w m)))))
-    where
-      by_test : (b : Bool) → cond b (K.plus (coefficient K a m) (K.negate (coefficient K v m))) K.zero ≡
-          K.plus (cond b (coefficient K a m) K.zero) (K.negate (cond b (coefficient K v m) K.zero))
-      by_test true = refl
-      by_test false = sym (ap (K.plus K.zero) (negate-zero K F) ∙ zero-plus-zero K F)
+      ap (λ x. coefficient K x m) (component-minus K O d a v) ∙ minus_same K F (component O d a) (component O d a) (component O d v) w (λ i. refl) s m
 
 module _ {E : Type 0} (P : Presented E) (H : IsPresentation P) where
   -- each degree part of a member is one

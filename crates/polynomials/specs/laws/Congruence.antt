@@ -1,6 +1,6 @@
 -- Congruence modulo an ideal is an equivalence that sums and products keep.
 use Rattle.std.proofs.Common.{◌≡◌, ℕ, refl, sym, ◌∙◌, ap, List, [], ◌∷◌, ◌++◌}
-use Rattle.word_field.specs.Field.{FieldOps, IsField, IsValue}
+use Rattle.word_field.specs.Field.{FieldOps, IsField}
 use Rattle.word_field.specs.laws.Field.{negate-negate, zero-plus-zero, negate-zero, negate-plus, plus_four, negate-plus_cancel, plus_is_zero, negate-times, one-times}
 use Rattle.polynomials.specs.Polynomial.{Polynomial, coefficient, Same, times, negated, minus, constant, IsPoly}
 use Rattle.polynomials.specs.Ideal.{InIdeal, Congruent}
@@ -12,21 +12,16 @@ use Rattle.monomial_order.specs.Monomial.{Exponents}
 
 module _ {E : Type 0} (K : FieldOps E) (F : IsField K) where
   pub zero_difference : (a b : E) → a ≡ K.zero → b ≡ K.zero → K.plus a (K.negate b) ≡ K.zero
-  zero_difference a b h k =
-      ap (λ x. K.plus x (K.negate b)) h ∙ (ap (λ x. K.plus K.zero (K.negate x)) k ∙ (ap (K.plus K.zero) (negate-zero K F) ∙ zero-plus-zero K F))
+  zero_difference a b h k = simp (h, k, negate-zero K F, zero-plus-zero K F)
 
   pub coefficient-minus : (p q : Polynomial E) (m : Exponents) → coefficient K (minus K p q) m ≡ K.plus (coefficient K p m) (K.negate (coefficient K q m))
-  coefficient-minus p q m = coefficient-append K F p (negated K q) m ∙ ap (K.plus (coefficient K p m)) (coefficient-negated K F q m)
+  coefficient-minus p q m = simp (coefficient-append K F, coefficient-negated K F)
 
   pub minus_same : (p p' q q' : Polynomial E) → Same K p p' → Same K q q' → Same K (minus K p q) (minus K p' q')
-  minus_same p p' q q' h k m =
-      coefficient-minus p q m ∙ (ap (λ x. K.plus x (K.negate (coefficient K q m))) (h m) ∙ (ap (λ x. K.plus (coefficient K p' m) (K.negate x)) (k m) ∙ sym (coefficient-minus p' q' m)))
+  minus_same p p' q q' h k m = simp (coefficient-append K F, coefficient-negated K F, h, k)
 
   pub negated_is : (q : Polynomial E) → Same K (negated K q) (times K (constant K (K.negate K.one)) q)
-  negated_is q m =
-      coefficient-negated K F q m ∙
-      (ap K.negate (sym (one-times K F (coefficient K q m) ∙ coefficient_value K F q m)) ∙
-      (sym (negate-times K F K.one (coefficient K q m)) ∙ sym (coefficient-constant_times K F (K.negate K.one) q m)))
+  negated_is q m = simp (coefficient-negated K F, coefficient-constant_times K F, negate-times K F, one-times K F, coefficient_value K F)
 
   pub times-negated : (p q : Polynomial E) → Same K (times K p (negated K q)) (negated K (times K p q))
   times-negated p q m =
@@ -54,34 +49,15 @@ module _ {E : Type 0} (K : FieldOps E) (F : IsField K) where
 
   -- (p - q) + (q - r) = p - r
   pub minus_chain : (p q r : Polynomial E) → Same K (minus K p q ++ minus K q r) (minus K p r)
-  minus_chain p q r m =
-      coefficient-append K F (minus K p q) (minus K q r) m ∙
-      (ap (λ x. K.plus x (coefficient K (minus K q r) m)) (coefficient-minus p q m) ∙
-      (ap (K.plus (K.plus (coefficient K p m) (K.negate (coefficient K q m)))) (coefficient-minus q r m) ∙
-      (F.plus_assoc (coefficient K p m) (K.negate (coefficient K q m)) (K.plus (coefficient K q m) (K.negate (coefficient K r m))) ∙
-      (ap (K.plus (coefficient K p m)) (negate-plus_cancel K F (coefficient K q m) (K.negate (coefficient K r m)) ∙ F.negate_value (coefficient K r m)) ∙
-      sym (coefficient-minus p r m)))))
+  minus_chain p q r m = simp (coefficient-append K F, coefficient-negated K F, F.plus_assoc, negate-plus_cancel K F, F.negate_value)
 
   -- -(p - q) = q - p
   pub negated-minus : (p q : Polynomial E) → Same K (negated K (minus K p q)) (minus K q p)
-  negated-minus p q m =
-      coefficient-negated K F (minus K p q) m ∙
-      (ap K.negate (coefficient-minus p q m) ∙
-      (negate-plus K F (coefficient K p m) (K.negate (coefficient K q m)) ∙
-      (ap (K.plus (K.negate (coefficient K p m))) (negate-negate K F (coefficient K q m) ∙ coefficient_value K F q m) ∙
-      (F.plus_comm (K.negate (coefficient K p m)) (coefficient K q m) ∙ sym (coefficient-minus q p m)))))
+  negated-minus p q m = simp (coefficient-append K F, coefficient-negated K F, negate-plus K F, negate-negate K F, coefficient_value K F) (F.plus_comm (K.negate (coefficient K p m)) (coefficient K q m))
 
   -- (p + r) - (q + s) = (p - q) + (r - s)
   pub minus-append : (p r q s : Polynomial E) → Same K (minus K (p ++ r) (q ++ s)) (minus K p q ++ minus K r s)
-  minus-append p r q s m =
-      coefficient-minus (p ++ r) (q ++ s) m ∙
-      (ap (λ x. K.plus x (K.negate (coefficient K (q ++ s) m))) (coefficient-append K F p r m) ∙
-      (ap (λ x. K.plus (K.plus (coefficient K p m) (coefficient K r m)) (K.negate x)) (coefficient-append K F q s m) ∙
-      (ap (K.plus (K.plus (coefficient K p m) (coefficient K r m))) (negate-plus K F (coefficient K q m) (coefficient K s m)) ∙
-      (plus_four K F (coefficient K p m) (coefficient K r m) (K.negate (coefficient K q m)) (K.negate (coefficient K s m)) ∙
-      (ap (λ x. K.plus x (K.plus (coefficient K r m) (K.negate (coefficient K s m)))) (sym (coefficient-minus p q m)) ∙
-      (ap (K.plus (coefficient K (minus K p q) m)) (sym (coefficient-minus r s m)) ∙
-      sym (coefficient-append K F (minus K p q) (minus K r s) m)))))))
+  minus-append p r q s m = simp (coefficient-append K F, coefficient-negated K F, negate-plus K F) (plus_four K F (coefficient K p m) (coefficient K r m) (K.negate (coefficient K q m)) (K.negate (coefficient K s m)))
 
   module _ (n : ℕ) (rs : List (Polynomial E)) where
     pub InIdeal_negated : (a : Polynomial E) → InIdeal K n rs a → InIdeal K n rs (negated K a)

@@ -8,7 +8,7 @@ use Rattle.monomial_order.specs.declared.terms.Term.{Term}
 use Rattle.monomial_order.specs.laws.Lists.{contains_cases, contains_none}
 use Rattle.monomial_order.specs.Monomial.{Exponents, weighted_degree}
 use Rattle.monomial_order.specs.MonomialOrder.{MonomialOrder, IsMonomialOrder}
-use Rattle.polynomials.specs.Polynomial.{Polynomial, same_monomial, coefficient, Same, times, scaled, constant, IsPoly, IsDecreasing, IsHomogeneous, AllAt, component}
+use Rattle.polynomials.specs.Polynomial.{Polynomial, same_monomial, coefficient, Same, times, scaled, constant, term_of, negated, minus, IsPoly, IsDecreasing, IsLead, IsHomogeneous, IsComponent, AllAt, component}
 use Rattle.polynomials.specs.Ideal.{Multiple, AreMultiples, sum_of, InIdeal}
 use Rattle.polynomials.specs.Value.{power, monomial_value}
 use Rattle.polynomials.specs.Subalgebra.{IsGenerator, AreGenerators}
@@ -58,6 +58,21 @@ module _ {E : Type 0} where
       by_test true r = (h.0, r)
       by_test false r = r
 
+module _ {E : Type 0} (K : FieldOps E) where
+  -- the component of a difference
+  pub component-minus : (O : MonomialOrder) (d : ℕ) (p q : Polynomial E) → component O d (minus K p q) ≡ minus K (component O d p) (component O d q)
+  component-minus O d p q = component-append O d p (negated K q) ∙ ap (λ x. component O d p ++ x) (negated_part q)
+    where
+      negated_part : (q : Polynomial E) → component O d (negated K q) ≡ negated K (component O d q)
+      negated_part [] = refl
+      negated_part (t ∷ q) =
+          ap (λ x. cond (nat_eq (O.degree t.at) d) (term_of t.at (K.negate t.by) ∷ x) x) (negated_part q) ∙
+          elim (nat_eq (O.degree t.at) d) as (λ b. cond b (term_of t.at (K.negate t.by) ∷ negated K (component O d q)) (negated K (component O d q)) ≡ negated K (cond b (t ∷ component O d q) (component O d q))) [ true ↦ refl | false ↦ refl ]
+
+pub generator_of : {E : Type 0} (K : FieldOps E) (O : MonomialOrder) (rs : List (Polynomial E)) → AreGenerators K O rs → (r : Polynomial E) → Contains rs r → IsGenerator K O r
+generator_of K O [] h r k = absurd (contains_none r k)
+generator_of K O (x ∷ rs) h r k = ⊎_elim (λ e. subst (IsGenerator K O) e h.0) (λ i. generator_of K O rs h.1 r i) (contains_cases x rs r k)
+
 module _ {E : Type 0} (K : FieldOps E) (F : IsField K) (O : MonomialOrder) (L : IsMonomialOrder O) where
   -- a monomial with a nonzero coefficient is that of a term
   pub all_found : (P : List ℕ → Type 0) (p : Polynomial E) → AllAt P p → (n : Exponents) → coefficient K p n ≢ K.zero → P n
@@ -99,6 +114,27 @@ module _ {E : Type 0} (K : FieldOps E) (F : IsField K) (O : MonomialOrder) (L : 
           cond b (K.plus (cond (same_monomial t.at m) t.by K.zero) (coefficient K (component O d p) m)) (coefficient K (component O d p) m)
       pull true = refl
       pull false = refl
+
+  pub component_is : (d : ℕ) (p : Polynomial E) → IsComponent K O d p (component O d p)
+  component_is d p = record {
+    inside = λ m e. coefficient-component d p m ∙ ap (λ b. cond b (coefficient K p m) K.zero) (eq-eqb (O.degree m) d e);
+    outside = λ m n. coefficient-component d p m ∙ ap (λ b. cond b (coefficient K p m) K.zero) (differs (O.degree m) d n);
+  }
+
+  pub component_nonzero : (d : ℕ) (p : Polynomial E) (m : Exponents) → coefficient K (component O d p) m ≢ K.zero → (O.degree m ≡ d) × (coefficient K p m ≢ K.zero)
+  component_nonzero d p m k =
+      elim (nat_eq (O.degree m) d) as (λ b. nat_eq (O.degree m) d ≡ b → (O.degree m ≡ d) × (coefficient K p m ≢ K.zero)) [
+        | true ↦ λ e. (eqb-true (O.degree m) d e, λ z. k ((component_is d p).inside m (eqb-true (O.degree m) d e) ∙ z))
+        | false ↦ λ e. absurd (k (coefficient-component d p m ∙ ap (λ b. cond b (coefficient K p m) K.zero) e))
+      ] refl
+
+  -- the component of the degree of a lead has that lead, and is homogeneous
+  pub component_leads : (p : Polynomial E) (m : Exponents) → IsLead K O p m → IsLead K O (component O (O.degree m) p) m × IsHomogeneous K O (O.degree m) (component O (O.degree m) p)
+  component_leads p m h =
+      let nonzero : coefficient K (component O (O.degree m) p) m ≢ K.zero = λ z. h.nonzero (sym ((component_is (O.degree m) p).inside m refl) ∙ z) in (
+        record { nonzero = nonzero; greatest = λ n k ne. h.greatest n (component_nonzero (O.degree m) p n k).1 ne },
+        record { some = (m, nonzero); each = λ n k. (component_nonzero (O.degree m) p n k).0 },
+      )
 
   pub component_same : (d : ℕ) (p q : Polynomial E) → Same K p q → Same K (component O d p) (component O d q)
   component_same d p q h m =
@@ -168,10 +204,6 @@ module _ {E : Type 0} (K : FieldOps E) (F : IsField K) (O : MonomialOrder) (L : 
                 (ap (λ x. coefficient K x m) (component_times q f.0 h.0 d f.2) ∙ times_same K F (picked O h.0 d q) (picked O h.0 d q) f.0 r (λ j. refl) f.1 m),
           )
 
-  generator_of : (rs : List (Polynomial E)) → AreGenerators K O rs → (r : Polynomial E) → Contains rs r → IsGenerator K O r
-  generator_of [] h r k = absurd (contains_none r k)
-  generator_of (x ∷ rs) h r k = ⊎_elim (λ e. subst (IsGenerator K O) e h.0) (λ i. generator_of rs h.1 r i) (contains_cases x rs r k)
-
   -- a homogeneous ideal has each component of its members
   pub ideal_component : (rs : List (Polynomial E)) → AreGenerators K O rs → (d : ℕ) (a : Polynomial E) → InIdeal K O.places rs a → InIdeal K O.places rs (component O d a)
   ideal_component rs g d a h =
@@ -181,7 +213,7 @@ module _ {E : Type 0} (K : FieldOps E) (F : IsField K) (O : MonomialOrder) (L : 
       all : (ws : List (Multiple E)) → AreMultiples K O.places rs ws → (vs : List (Multiple E)) × AreMultiples K O.places rs vs × Same K (component O d (sum_of K ws)) (sum_of K vs)
       all [] k = ([], tt, λ m. refl)
       all (w ∷ ws) k =
-          let first = part_component d w.by w.of k.0 (generator_of rs g w.of k.1) in
+          let first = part_component d w.by w.of k.0 (generator_of K O rs g w.of k.1) in
           let rest = all ws k.2 in (
             record { by = first.0; of = w.of } ∷ rest.0,
             (first.1, k.1, rest.1),

@@ -1,14 +1,14 @@
 -- The subalgebra is closed under sums, products and congruence.
-use Rattle.std.proofs.Common.{ℕ, zero, suc, refl, sym, ◌∙◌, ap, List, [], ◌∷◌, ◌++◌, length, arith}
+use Rattle.std.proofs.Common.{ℕ, zero, suc, refl, sym, ap, List, [], ◌∷◌, ◌++◌, length, arith}
 use Rattle.word_field.specs.Field.{FieldOps, IsField}
-use Rattle.word_field.specs.laws.Field.{negate-times}
+use Rattle.word_field.specs.laws.Field.{negate-plus, negate-zero, negate-times}
 use Rattle.polynomials.specs.Polynomial.{Polynomial, coefficient, Same, times, negated, minus, constant, IsPoly}
 use Rattle.polynomials.specs.Ideal.{Congruent}
 use Rattle.polynomials.specs.Value.{power, monomial_value, value}
 use Rattle.polynomials.specs.Subalgebra.{Presented, IsPresentation, AreGenerators, InSubalgebra}
 use Rattle.polynomials.specs.laws.Ring.{coefficient-append}
 use Rattle.polynomials.specs.laws.Same.{coefficient-negated}
-use Rattle.polynomials.specs.laws.Value.{value-append, value-times, coefficient-constant_times}
+use Rattle.polynomials.specs.laws.Value.{coefficient-scaled, value-append, value-times}
 use Rattle.polynomials.specs.laws.Ideal.{IsPoly-append, IsPoly-negated, IsPoly-times}
 use Rattle.polynomials.specs.laws.Congruence.{congruent_same, congruent_trans, congruent_plus, congruent_times, congruent_negated}
 use Rattle.monomial_order.specs.Monomial.{Exponents}
@@ -43,14 +43,7 @@ module _ {E : Type 0} (K : FieldOps E) (F : IsField K) where
   pub value-negated : (h : Polynomial E) (fs : List (Polynomial E)) → Same K (value K (negated K h) fs) (negated K (value K h fs))
   unfolding coefficient
   value-negated [] fs m = refl
-  value-negated (t ∷ h) fs m =
-      coefficient-append K F (times K (constant K (K.negate t.by)) (monomial_value K t.at fs)) (value K (negated K h) fs) m ∙
-      (ap (λ x. K.plus x (coefficient K (value K (negated K h) fs) m)) (coefficient-constant_times K F (K.negate t.by) (monomial_value K t.at fs) m ∙
-      (negate-times K F t.by (coefficient K (monomial_value K t.at fs) m) ∙ ap K.negate (sym (coefficient-constant_times K F t.by (monomial_value K t.at fs) m)))) ∙
-      (ap (K.plus (K.negate (coefficient K (times K (constant K t.by) (monomial_value K t.at fs)) m))) (value-negated h fs m ∙ coefficient-negated K F (value K h fs) m) ∙
-      (sym (Rattle.word_field.specs.laws.Field.negate-plus K F (coefficient K (times K (constant K t.by) (monomial_value K t.at fs)) m) (coefficient K (value K h fs) m)) ∙
-      (ap K.negate (sym (coefficient-append K F (times K (constant K t.by) (monomial_value K t.at fs)) (value K h fs) m)) ∙
-      sym (coefficient-negated K F (value K (t ∷ h) fs) m)))))
+  value-negated (t ∷ h) fs m = simp (coefficient-append K F, coefficient-scaled K F, coefficient-negated K F, negate-times K F, negate-plus K F, negate-zero K F, value-negated h fs m)
 
 module _ {E : Type 0} (P : Presented E) (H : IsPresentation P) where
   n : ℕ

@@ -4,7 +4,7 @@ use Rattle.word_field.specs.Field.{FieldOps, IsField, IsValue}
 use Rattle.monomial_order.specs.declared.terms.Term.{Term}
 use Rattle.monomial_order.specs.Monomial.{Exponents, product}
 use Rattle.monomial_order.specs.laws.Monomial.{product_comm, product_assoc}
-use Rattle.polynomials.specs.Polynomial.{Polynomial, total, share, coefficient, Same, term_of, term_times, scaled, times}
+use Rattle.polynomials.specs.Polynomial.{Polynomial, total, share, coefficient, Same, term_of, term_times, times}
 use Rattle.polynomials.specs.laws.Sums.{total_value, total-append, total_same, total-map, total_plus, total_swap}
 
 module _ {E : Type 0} (K : FieldOps E) (F : IsField K) where
@@ -27,10 +27,7 @@ module _ {E : Type 0} (K : FieldOps E) (F : IsField K) where
   -- a sum over the terms of a product is a sum over the pairs of terms
   pub total-times : (f : Term E → E) (p q : Polynomial E) → total K f (times K p q) ≡ total K (λ t. total K (λ u. f (term_times K t u)) q) p
   total-times f [] q = refl
-  total-times f (t ∷ p) q =
-      total-append K F f (scaled K t q) (times K p q) ∙
-      (ap (λ x. K.plus x (total K f (times K p q))) (total-map K F f (term_times K t) q) ∙
-      ap (K.plus (total K (λ u. f (term_times K t u)) q)) (total-times f p q))
+  total-times f (t ∷ p) q = simp (total-append K F, total-map K F, total-times f p q)
 
   pub coefficient-times : (p q : Polynomial E) (m : Exponents) →
       coefficient K (times K p q) m ≡ total K (λ t. total K (λ u. share K m (term_times K t u)) q) p

@@ -40,16 +40,8 @@ module _ {E : Type 0} (K : FieldOps E) (F : IsField K) (g : Exponents → E) whe
       w ≡ K.plus (K.times c (g k)) r → total K (weighed K g) q ≡ r →
       K.plus (weighed K g t) w ≡ K.plus (K.times (K.plus (cond b t.by K.zero) c) (g k)) (total K (weighed K g) (cond b q (t ∷ q)))
   split_step true t k c w r p q h vc vr e eq =
-      ap (λ x. K.plus (K.times t.by (g x)) w) (h refl) ∙
-      (ap (K.plus (K.times t.by (g k))) e ∙
-      (sym (F.plus_assoc (K.times t.by (g k)) (K.times c (g k)) r) ∙
-      (ap (λ x. K.plus x r) (sym (plus-times K F t.by c (g k))) ∙
-      ap (K.plus (K.times (K.plus t.by c) (g k))) (sym eq))))
-  split_step false t k c w r p q h vc vr e eq =
-      ap (K.plus (weighed K g t)) e ∙
-      (plus_swap K F (weighed K g t) (K.times c (g k)) r ∙
-      (ap (λ x. K.plus (K.times x (g k)) (K.plus (weighed K g t) r)) (sym vc ∙ sym (zero-plus K F c)) ∙
-      ap (λ x. K.plus (K.times (K.plus K.zero c) (g k)) (K.plus (weighed K g t) x)) (sym eq)))
+      cc (h refl, e, eq, plus-times K F t.by c (g k), F.plus_assoc (K.times t.by (g k)) (K.times c (g k)) r)
+  split_step false t k c w r p q h vc vr e eq = simp (e, eq, zero-plus K F, vc) (plus_swap K F (weighed K g t) (K.times c (g k)) r)
 
   pub split : (k : Exponents) (p : Polynomial E) →
       total K (weighed K g) p ≡ K.plus (K.times (coefficient K p k) (g k)) (total K (weighed K g) (without k p))
@@ -76,11 +68,8 @@ module _ {E : Type 0} (K : FieldOps E) (F : IsField K) where
 
   pub without_zero : (k : Exponents) (p : Polynomial E) → ((m : Exponents) → coefficient K p m ≡ K.zero) → (m : Exponents) → coefficient K (without k p) m ≡ K.zero
   without_zero k p h m =
-      coefficient_weighed (without k p) m ∙
-      (sym (total_value K F (weighed K (unit_at m)) (without k p)) ∙
-      (sym (zero-plus K F (total K (weighed K (unit_at m)) (without k p))) ∙
-      (ap (λ x. K.plus x (total K (weighed K (unit_at m)) (without k p))) (sym (ap (λ c. K.times c (unit_at m k)) (h k) ∙ zero-times K F (unit_at m k))) ∙
-      (sym (split K F (unit_at m) k p) ∙ (sym (coefficient_weighed p m) ∙ h m)))))
+      let rest = total K (weighed K (unit_at m)) (without k p) in
+      cc (coefficient_weighed (without k p) m, total_value K F (weighed K (unit_at m)) (without k p), zero-plus K F rest, split K F (unit_at m) k p, h k, zero-times K F (unit_at m k), coefficient_weighed p m, h m)
 
   without_first : (t : Term E) (p : Polynomial E) → without t.at (t ∷ p) ≡ without t.at p
   without_first t p = ap (λ b. cond b (without t.at p) (t ∷ without t.at p)) (same_refl t.at)
@@ -92,11 +81,7 @@ module _ {E : Type 0} (K : FieldOps E) (F : IsField K) where
   weighs_nothing g (suc n) (t ∷ p) l h =
       let shorter : length (without t.at p) ≤ n = omega (arith, length-without t.at p) in
       let rest : (m : Exponents) → coefficient K (without t.at p) m ≡ K.zero = λ m. ap (λ q. coefficient K q m) (sym (without_first t p)) ∙ without_zero t.at (t ∷ p) h m in
-      split K F g t.at (t ∷ p) ∙
-      (ap (λ c. K.plus (K.times c (g t.at)) (total K (weighed K g) (without t.at (t ∷ p)))) (h t.at) ∙
-      (ap (λ x. K.plus x (total K (weighed K g) (without t.at (t ∷ p)))) (zero-times K F (g t.at)) ∙
-      (ap (λ q. K.plus K.zero (total K (weighed K g) q)) (without_first t p) ∙
-      (ap (K.plus K.zero) (weighs_nothing g n (without t.at p) shorter rest) ∙ zero-plus-zero K F))))
+      cc (split K F g t.at (t ∷ p), h t.at, zero-times K F (g t.at), without_first t p, weighs_nothing g n (without t.at p) shorter rest, zero-plus-zero K F)
 
   negate_share : (b : Bool) (c : E) → cond b (K.negate c) K.zero ≡ K.negate (cond b c K.zero)
   negate_share true c = refl
@@ -105,17 +90,11 @@ module _ {E : Type 0} (K : FieldOps E) (F : IsField K) where
   pub coefficient-negated : (p : Polynomial E) (m : Exponents) → coefficient K (negated K p) m ≡ K.negate (coefficient K p m)
   unfolding coefficient
   coefficient-negated [] m = sym (Rattle.word_field.specs.laws.Field.negate-zero K F)
-  coefficient-negated (t ∷ p) m =
-      ap (λ x. K.plus x (coefficient K (negated K p) m)) (negate_share (same_monomial t.at m) t.by) ∙
-      (ap (K.plus (K.negate (share K m t))) (coefficient-negated p m) ∙
-      sym (Rattle.word_field.specs.laws.Field.negate-plus K F (share K m t) (coefficient K p m)))
+  coefficient-negated (t ∷ p) m = simp (negate_share, coefficient-negated p m, Rattle.word_field.specs.laws.Field.negate-plus K F)
 
   weighed-negated : (g : Exponents → E) (p : Polynomial E) → total K (weighed K g) (negated K p) ≡ K.negate (total K (weighed K g) p)
   weighed-negated g [] = sym (Rattle.word_field.specs.laws.Field.negate-zero K F)
-  weighed-negated g (t ∷ p) =
-      ap (λ x. K.plus x (total K (weighed K g) (negated K p))) (negate-times K F t.by (g t.at)) ∙
-      (ap (K.plus (K.negate (weighed K g t))) (weighed-negated g p) ∙
-      sym (Rattle.word_field.specs.laws.Field.negate-plus K F (weighed K g t) (total K (weighed K g) p)))
+  weighed-negated g (t ∷ p) = simp (negate-times K F, weighed-negated g p, Rattle.word_field.specs.laws.Field.negate-plus K F)
 
   -- a linear sum depends on the coefficients alone
   pub weighed_same : (g : Exponents → E) (p q : Polynomial E) → Same K p q → total K (weighed K g) p ≡ total K (weighed K g) q
@@ -155,19 +134,17 @@ module _ {E : Type 0} (K : FieldOps E) (F : IsField K) where
       times_same_left p p' q h m ∙ (times_comm K F p' q m ∙ (times_same_left q q' p' k m ∙ times_comm K F q' p' m))
 
   pub append_same : (p p' q q' : Polynomial E) → Same K p p' → Same K q q' → Same K (p ++ q) (p' ++ q')
-  append_same p p' q q' h k m =
-      coefficient-append K F p q m ∙ (ap (λ x. K.plus x (coefficient K q m)) (h m) ∙ (ap (K.plus (coefficient K p' m)) (k m) ∙ sym (coefficient-append K F p' q' m)))
+  append_same p p' q q' h k m = simp (coefficient-append K F, h, k)
 
   pub append_comm : (p q : Polynomial E) → Same K (p ++ q) (q ++ p)
-  append_comm p q m = coefficient-append K F p q m ∙ (F.plus_comm (coefficient K p m) (coefficient K q m) ∙ sym (coefficient-append K F q p m))
+  append_comm p q m = simp (coefficient-append K F) (F.plus_comm (coefficient K p m) (coefficient K q m))
 
   pub negated_same : (p q : Polynomial E) → Same K p q → Same K (negated K p) (negated K q)
-  negated_same p q h m = coefficient-negated p m ∙ (ap K.negate (h m) ∙ sym (coefficient-negated q m))
+  negated_same p q h m = simp (coefficient-negated, h)
 
   pub minus_self : (p : Polynomial E) → Same K (minus K p p) []
   unfolding coefficient
-  minus_self p m =
-      coefficient-append K F p (negated K p) m ∙ (ap (K.plus (coefficient K p m)) (coefficient-negated p m) ∙ F.plus_negate (coefficient K p m))
+  minus_self p m = simp (coefficient-append K F, coefficient-negated, F.plus_negate)
 
   pub same_trans : (p q r : Polynomial E) → Same K p q → Same K q r → Same K p r
   same_trans p q r h k m = h m ∙ k m

@@ -185,7 +185,7 @@ module _ {E : Type 0} (K : FieldOps E) (F : IsField K) (O : MonomialOrder) where
       IsDecreasing-scaled s p hs n h.1,
     )
 
--- the terms of one degree fall
+-- the component of a canonical list is canonical
 module _ {E : Type 0} (K : FieldOps E) (O : MonomialOrder) (d : ℕ) where
   below_test : (b : Bool) (m : Exponents) (t : Term E) (q : Polynomial E) → (O.compare t.at m ≡ Less) → IsBelow K O m q → IsBelow K O m (cond b (t ∷ q) q)
   below_test true m t q h k = (h, k)

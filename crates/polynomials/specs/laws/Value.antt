@@ -26,7 +26,7 @@ module _ {E : Type 0} (K : FieldOps E) (F : IsField K) where
   coefficient-constant_times c p m = ap (λ q. coefficient K q m) (append-nil (scaled K (term_of [] c) p)) ∙ coefficient-scaled c p m
 
   pub one_times : (p : Polynomial E) → Same K (times K (constant K K.one) p) p
-  one_times p m = coefficient-constant_times K.one p m ∙ (one-times K F (coefficient K p m) ∙ coefficient_value K F p m)
+  one_times p m = simp (coefficient-constant_times, one-times K F, coefficient_value K F)
 
   -- (a b) (c d) = (a c) (b d)
   pub times_four : (a b c d : Polynomial E) → Same K (times K (times K a b) (times K c d)) (times K (times K a c) (times K b d))
@@ -63,10 +63,7 @@ module _ {E : Type 0} (K : FieldOps E) (F : IsField K) where
       coefficient K (value K h fs) m ≡ total K (weighed K (λ a. coefficient K (monomial_value K a fs) m)) h
   unfolding coefficient
   value_weighed [] fs m = refl
-  value_weighed (t ∷ h) fs m =
-      coefficient-append K F (term_value K fs t) (value K h fs) m ∙
-      (ap (λ x. K.plus x (coefficient K (value K h fs) m)) (coefficient-constant_times t.by (monomial_value K t.at fs) m) ∙
-      ap (K.plus (K.times t.by (coefficient K (monomial_value K t.at fs) m))) (value_weighed h fs m))
+  value_weighed (t ∷ h) fs m = simp (coefficient-append K F (term_value K fs t) (value K h fs) m, coefficient-constant_times t.by (monomial_value K t.at fs) m, value_weighed h fs m)
 
   pub value_same : (h k : Polynomial E) (fs : List (Polynomial E)) → Same K h k → Same K (value K h fs) (value K k fs)
   value_same h k fs e m =

@@ -4,10 +4,11 @@ use borrow.Author.Count.{below_more}
 use Rattle.monomial_order.specs.laws.Comparing.{le_or_not}
 use Rattle.monomial_order.specs.laws.Lists.{contains_left, contains_right, contains_here}
 use Rattle.quotient_gb.specs.CriticalPairs.{IsCriticalPair, IsCoprimeOrListed, pair_at}
-use Rattle.quotient_gb.proofs.Listing.{listed_more, push_cases}
+use Rattle.quotient_gb.proofs.Listing.{listed_more}
 use Rattle.quotient_gb.proofs.Places.{below_stop, not_below}
 use Rattle.quotient_gb.proofs.critical_pair.push_pairs.Goals as goal
 use Rattle.quotient_gb.proofs.critical_pair.push_pairs.Goals.{in-Some+in_ok-push, in_default}
+use Rattle.std.proofs.lemmas.List.Elements.{Contains-push_cases}
 
 pub firsts-preserved : goal.firsts-preserved
 firsts-preserved g c =
@@ -23,7 +24,7 @@ firsts-preserved g c =
             part = λ x k. subst (λ xs. Contains xs x) (sym items) (contains_left old (w.in-Some.w ∷ []) x (h.part x k));
             each = λ x k. ⊎_elim (λ i. h.each x i)
                 (λ e. inr (subst (IsCriticalPair O ms) (sym is ∙ e) (record { order = c.firsts-test.true; within = c.requires.second; degree = refl })))
-                (push_cases old w.in-Some.w x (subst (λ xs. Contains xs x) items k));
+                (Contains-push_cases old w.in-Some.w x (subst (λ xs. Contains xs x) items k));
             listed = subst (λ xs. (i : ℕ) → i < c.firsts.first + 1 → IsCoprimeOrListed O ms xs i c.args.second) (sym items)
                 (below_more (λ i. IsCoprimeOrListed O ms (old ++ (w.in-Some.w ∷ [])) i c.args.second) c.firsts.first
                 (λ i l. listed_more O ms old (old ++ (w.in-Some.w ∷ [])) i c.args.second (λ x k. contains_left old (w.in-Some.w ∷ []) x k) (h.listed i l))

@@ -1,5 +1,6 @@
-use Rattle.subalgebra_laws.proofs.Decisions.{words_decided, zeros_decide, decided_zeros, zeros_stand, closed_zeros, closed_decided}
+use Rattle.subalgebra_laws.proofs.Decisions.{words_decided, decided_zeros, zeros_stand, closed_zeros, closed_decided}
 use Rattle.subalgebra_laws.proofs.laws.decisions.Goals as goal
+use Rattle.polynomials.specs.laws.NormalForm.{zeros_decide}
 
 pub returns : goal.returns
 returns g c = record {

@@ -2,7 +2,7 @@ use Rattle.std.proofs.Common.{ap, sym, ◌∙◌, subst}
 use Rattle.std.specs.Prelude.{All}
 use Rattle.polynomials.specs.Polynomial.{component, IsCanonical, IsComponent, IsMeasured}
 use Rattle.polynomials.specs.laws.Terms.{canonical_measured, canonical_component}
-use Rattle.poly_core.proofs.Calls.{component_is}
+use Rattle.polynomials.specs.laws.Degrees.{component_is}
 use Rattle.poly_core.proofs.polynomial.Poly.component.Goals as goal
 
 pub terms_of_degree-requires : goal.terms_of_degree-requires

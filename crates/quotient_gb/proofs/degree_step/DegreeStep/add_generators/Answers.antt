@@ -6,7 +6,7 @@ use Rattle.poly_core.specs.Presentation.{presented}
 use Rattle.quotient_gb.specs.Combinations.{HasStandardRepresentation}
 use Rattle.quotient_gb.specs.DegreeStep.{all_members, IsLaterStep}
 use Rattle.quotient_gb.proofs.Complete.{generator_inside}
-use Rattle.quotient_gb.proofs.Places.{at_default, below_stop}
+use Rattle.quotient_gb.proofs.Places.{not_below_zero, at_default, below_stop}
 use Rattle.quotient_gb.proofs.Representations.{canonical_generator, represented_more, homogeneous_degree}
 use Rattle.quotient_gb.proofs.Steps.{later_itself, later_chain, part_all}
 use Rattle.quotient_gb.proofs.degree_step.DegreeStep.add_generators.Goals as goal
@@ -15,11 +15,8 @@ use Rattle.quotient_gb.proofs.degree_step.DegreeStep.add_generators.Goals.{then-
 pub generators-init : goal.generators-init
 generators-init g c = record {
   later = later_itself (presented g.F.Field.ops g.O.Order.order c.args.p.now) c.requires.presentation c.args.before.now c.args.self.now c.requires.step;
-  reduces = λ k l. absurd (none k l);
+  reduces = λ k l. absurd (not_below_zero k l);
 }
-  where
-    none : (k : ℕ) → k < 0 → ⊥
-    none k l = omega arith
 
 pub has_degree-requires : goal.has_degree-requires
 has_degree-requires g c =

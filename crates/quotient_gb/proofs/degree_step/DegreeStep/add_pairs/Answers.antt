@@ -1,9 +1,9 @@
-use Rattle.std.proofs.Common.{◌≡◌, ◌<◌, ◌+◌, sym, ◌∙◌, ap, subst, ℕ, length, arith, get_or}
+use Rattle.std.proofs.Common.{◌≡◌, ◌<◌, ◌+◌, sym, ◌∙◌, ap, subst, ℕ, length, get_or}
 use borrow.Author.Count.{below_more}
 use Rattle.monomial_order.specs.laws.Lists.{contains_at}
 use Rattle.poly_core.specs.Presentation.{presented}
 use Rattle.quotient_gb.specs.DegreeStep.{all_members, IsLaterStep, ReducesPair}
-use Rattle.quotient_gb.proofs.Places.{at_default, below_stop}
+use Rattle.quotient_gb.proofs.Places.{not_below_zero, at_default, below_stop}
 use Rattle.quotient_gb.proofs.Representations.{s_polynomial_more}
 use Rattle.quotient_gb.proofs.SPolynomials.{no_pair}
 use Rattle.quotient_gb.proofs.Steps.{later_itself, later_chain, part_all}
@@ -13,11 +13,8 @@ use Rattle.quotient_gb.proofs.degree_step.DegreeStep.add_pairs.Goals.{then-w-sel
 pub pairs-init : goal.pairs-init
 pairs-init g c = record {
   later = later_itself (presented g.F.Field.ops g.O.Order.order c.args.p.now) c.requires.presentation c.args.before.now c.args.self.now c.requires.step;
-  reduces = λ k l. absurd (none k l);
+  reduces = λ k l. absurd (not_below_zero k l);
 }
-  where
-    none : (k : ℕ) → k < 0 → ⊥
-    none k l = omega arith
 
 pub add_s_polynomial-requires : goal.add_s_polynomial-requires
 add_s_polynomial-requires g c = record {

@@ -1,6 +1,7 @@
 use Rattle.std.proofs.Common.{◌∙◌, sym, ap, subst, length, [], rules}
 use Rattle.monomial_order.specs.Monomial.{Divides}
 use Rattle.quotient_gb.specs.IdealBasis.{AreIdealLeads}
+use Rattle.quotient_gb.proofs.EveryDegree.{known_to}
 use Rattle.quotient_gb.proofs.Knowing.{standard, not_standard, quotient_leads}
 use Rattle.quotient_gb.proofs.Places.{at_default, below_stop}
 use Rattle.quotient_gb.proofs.quotient.Quotient.is_standard.Goals as goal
@@ -16,5 +17,6 @@ pub returns-clause-yes : goal.returns-clause-yes
 returns-clause-yes g c = λ t P H h hm l.
     let q = c.args.self.now in
     let ls = c.deref-lead-items.result.now in
-    standard P H q.degree ls (subst (AreIdealLeads P q.degree) (sym (c.deref-lead-items.ensures.value ∙ ap (λ q. q.leads) c.self.view_is)) (quotient_leads P H q h)) c.args.m.now
-    (λ n k d. c.search.invariant k.0 (below_stop k.0 (length ls) c.search.lead-index k.1 c.search-test.false) (subst (λ z. Divides z c.args.m.now) (sym (at_default ls k.0 n [] k.1 k.2)) d)) hm l
+    let k = known_to P q h (P.order.degree c.args.m.now) l in
+    standard P H k.0 ls (subst (AreIdealLeads P k.0) (sym (c.deref-lead-items.ensures.value ∙ (ap (λ q. q.leads) c.self.view_is ∙ h.leads))) k.2.leads) c.args.m.now
+    (λ n k d. c.search.invariant k.0 (below_stop k.0 (length ls) c.search.lead-index k.1 c.search-test.false) (subst (λ z. Divides z c.args.m.now) (sym (at_default ls k.0 n [] k.1 k.2)) d)) hm k.1
