@@ -7,11 +7,10 @@ use Rattle.std.proofs.lemmas.List.Sums.{sum_by-cons}
 use Rattle.word_field.specs.Field.{IsValue}
 use Rattle.monomial_order.specs.Monomial.{product, exponent, variable, Divides}
 use Rattle.monomial_order.specs.laws.Lists.{contains_cases, contains_none, contains_map}
-use Rattle.monomial_order.specs.laws.Monomial.{product_comm, product-one, variable_divides}
+use Rattle.monomial_order.specs.laws.Monomial.{product_comm, product-one, variable_divides, variable_trimmed, variable_length}
 use Rattle.monomial_order.specs.laws.Cofactors.{cofactor, Divides-product, length-product_right}
 use Rattle.monomial_order.specs.laws.Comparing.{le_or_not, equal_or_not, some_exponent}
 use Rattle.word_laws.specs.Words.{word_order_of, image_of, IsSWord}
-use Rattle.word_laws.specs.laws.Images.{variable_trimmed, variable_length}
 use Rattle.word_laws.specs.laws.Words.{image_times, s_divisor}
 use Rattle.polynomials.specs.Polynomial.{Polynomial, coefficient, term_of, times, constant, AllAt, IsPoly, IsLead, lead_monomial}
 use Rattle.polynomials.specs.Value.{value, monomial_value, term_value}

@@ -8,10 +8,10 @@ use Rattle.word_field.specs.Field.{FieldOps, IsField}
 use Rattle.monomial_order.specs.Monomial.{product, variable, IsMonomial, weighted_degree}
 use Rattle.monomial_order.specs.MonomialOrder.{MonomialOrder, IsMonomialOrder}
 use Rattle.monomial_order.specs.laws.Lists.{contains_cases, contains_here, contains_none, contains_there}
-use Rattle.monomial_order.specs.laws.Monomial.{product-one, IsMonomial-product}
+use Rattle.monomial_order.specs.laws.Monomial.{product-one, IsMonomial-product, variable_monomial}
 use Rattle.monomial_order.specs.laws.Orders.{take-product, sum-product}
 use Rattle.word_laws.specs.Words.{AreLetters, word_order_of, image_of, image, variables, lead_degrees, IsSWord}
-use Rattle.word_laws.specs.laws.Images.{length-variables, variable_monomial, degree_weighted}
+use Rattle.word_laws.specs.laws.Images.{length-variables, degree_weighted}
 use Rattle.word_laws.specs.laws.Words.{word_laws, degree_image, degree_x, image_x}
 use Rattle.monomial_order.specs.laws.Comparing.{degree_one}
 use Rattle.polynomials.specs.Polynomial.{Polynomial, coefficient, Same, term_of, times, constant, lead_monomial}

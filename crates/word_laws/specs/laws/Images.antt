@@ -80,21 +80,6 @@ variables-split i (suc k) j =
     ap (variables i) (let e : suc k + j ≡ suc (k + j) = omega arith in e) ∙
     (ap (λ xs. variable i ∷ xs) (variables-split (suc i) k j) ∙ ap (λ x. variable i ∷ (variables (suc i) k ++ variables x j)) (let e : suc i + k ≡ i + suc k = omega arith in e))
 
-pub variable_trimmed : (i : ℕ) → IsTrimmed (variable i)
-variable_trimmed zero = λ e. cc
-variable_trimmed (suc i) = front i (variable_trimmed i)
-  where
-    front : (i : ℕ) → IsTrimmed (variable i) → IsTrimmed (0 ∷ variable i)
-    front zero h = h
-    front (suc i) h = h
-
-pub variable_length : (i : ℕ) → length (variable i) ≡ suc i
-variable_length zero = refl
-variable_length (suc i) = ap suc (variable_length i)
-
-pub variable_monomial : (n i : ℕ) → i < n → IsMonomial n (variable i)
-variable_monomial n i l = record { trimmed = variable_trimmed i; within = let e = variable_length i in omega arith }
-
 pub variables_monomials : (n i k : ℕ) → i + k ≤ n → AreMonomials n (variables i k)
 variables_monomials n i zero l = tt
 variables_monomials n i (suc k) l = (variable_monomial n i (omega arith), variables_monomials n (suc i) k (omega arith))
