@@ -1,9 +1,9 @@
 -- Images of words: products, exponents, degrees.
 use Rattle.std.proofs.Common.{◌≡◌, ℕ, zero, suc, ◌+◌, ◌*◌, ◌<◌, ◌≤◌, refl, sym, ◌∙◌, ap, List, [], ◌∷◌, ◌++◌, length, arith}
 use Rattle.std.specs.Prelude.{map}
-use Rattle.monomial_order.specs.Monomial.{Exponents, exponent, IsTrimmed, IsMonomial, product, variable, weighted_degree}
+use Rattle.monomial_order.specs.Monomial.{Exponents, exponent, IsMonomial, product, variable, weighted_degree}
 use Rattle.word_laws.specs.Words.{monomial_power, image, variables}
-use Rattle.monomial_order.specs.laws.Monomial.{product_assoc, product_comm, product-one, IsMonomial-product, exponent-product, weighted_nil, variable_off}
+use Rattle.monomial_order.specs.laws.Monomial.{product_assoc, product_comm, product-one, IsMonomial-product, exponent-product, weighted_nil, variable_off, variable_monomial}
 use Rattle.monomial_order.specs.laws.Cofactors.{same_exponents}
 use Rattle.monomial_order.specs.MonomialOrder.{MonomialOrder, IsMonomialOrder}
 use Rattle.monomial_order.specs.laws.Comparing.{degree_one}
