@@ -1,6 +1,7 @@
 //! Sums, products and multiples of values with their witnesses.
 ghost use Rattle.std.specs.Prelude.{◌≡◌, ℕ, ◌+◌, ◌++◌, List, IfOk};
 ghost use Rattle.monomial_order.specs.Monomial.{Exponents};
+ghost use Rattle.monomial_order.specs.MonomialOrder.{MonomialOrder};
 ghost use Rattle.word_field.specs.Field.{IsValue};
 ghost use Rattle.polynomials.specs.Polynomial.{Polynomial, coefficient, times, Same, IsCanonical, IsSmall};
 ghost use Rattle.polynomials.specs.Ideal.{Congruent};
@@ -67,4 +68,51 @@ pub fn product<F: Field, O: Order>(
         value: Poly::mul(alloc, &p.field, &p.order, &a.value, &b.value)?,
         by: Poly::mul(alloc, &p.field, w, &a.by, &b.by)?,
     })
+}
+
+/// Both parts times c.
+pub fn scale<F: Field, O: Order>(
+    alloc: Global,
+    p: &Presentation<F, O>,
+    a: &Tracked<F>,
+    c: F::Elem,
+) -> Result<Tracked<F>, Memory>
+    requires a { (W : MonomialOrder) × IsCanonicalPair (F.ops p.now.field) (O.order p.now.order) W a.now }
+    requires factor { IsValue (F.ops p.now.field) c }
+    ensures canonical { IfOk result (λ t. (W : MonomialOrder) →
+        IsCanonicalPair (F.ops p.now.field) (O.order p.now.order) W a.now →
+        IsCanonicalPair (F.ops p.now.field) (O.order p.now.order) W t) }
+    ensures value { IfOk result (λ t. (m : Exponents) → let K = F.ops p.now.field in
+        coefficient K t.value m ≡ K.times c (coefficient K a.now.value m)) }
+    ensures by { IfOk result (λ t. (m : Exponents) → let K = F.ops p.now.field in
+        coefficient K t.by m ≡ K.times c (coefficient K a.now.by m)) }
+    ensures tracks { let P = presented F.ops O.order p.now in
+        IfOk result (λ t. (S : List (Polynomial F.Elem)) → Tracks P S a.now → Tracks P S t) }
+    ensures graded { IfOk result (λ t. (W : MonomialOrder) (d : ℕ) →
+        IsGradedPair (F.ops p.now.field) (O.order p.now.order) W d a.now →
+        IsGradedPair (F.ops p.now.field) (O.order p.now.order) W d t) }
+{
+    Ok(Tracked {
+        value: Poly::scale(alloc, &p.field, &a.value, c)?,
+        by: Poly::scale(alloc, &p.field, &a.by, c)?,
+    })
+}
+
+/// The normal form in place of the value. It takes no memory.
+pub fn reduce<F: Field, O: Order>(
+    _p: &Presentation<F, O>,
+    a: Tracked<F>,
+    normal_form: Poly<F>,
+) -> Tracked<F>
+    requires { let P = presented F.ops O.order _p.now in
+        Congruent P.field P.order.places P.ideal a.value normal_form }
+    ensures value { result.value ≡ normal_form }
+    ensures by { result.by ≡ a.by }
+    ensures tracks { let P = presented F.ops O.order _p.now in
+        (S : List (Polynomial F.Elem)) → Tracks P S a → Tracks P S result }
+{
+    Tracked {
+        value: normal_form,
+        by: a.by,
+    }
 }
