@@ -2,10 +2,10 @@
 -- reduced basis.
 use Rattle.std.proofs.Common.{◌≡◌, ◌≢◌, ℕ, zero, suc, ◌+◌, ◌<◌, ◌≤◌, refl, sym, ◌∙◌, ap, subst, List, [], ◌∷◌, ◌++◌, length, take, arith, cond, ⊎_elim, get_or}
 use Rattle.std.specs.Prelude.{Contains, map}
-use Rattle.std.proofs.lemmas.List.{map-append, append-nil, take_more}
+use Rattle.std.proofs.lemmas.List.{map-append, append-nil, take_more, get_or_default}
 use Rattle.word_field.specs.Field.{FieldOps, IsField}
 use Rattle.monomial_order.specs.declared.terms.Term.{Term}
-use Rattle.monomial_order.specs.Monomial.{variable, IsMonomial, IsTrimmed}
+use Rattle.monomial_order.specs.Monomial.{variable, IsMonomial}
 use Rattle.monomial_order.specs.MonomialOrder.{MonomialOrder, IsMonomialOrder, IsIncreasing}
 use Rattle.monomial_order.specs.laws.Lists.{contains_cases, contains_here, contains_there, contains_none}
 use Rattle.polynomials.specs.Polynomial.{Polynomial, AllAt, coefficient, Same, term_of, scaled, times, constant, minus, IsTerm, lead_monomial}
@@ -14,8 +14,7 @@ use Rattle.polynomials.specs.Value.{power, monomial_value, value}
 use Rattle.polynomials.specs.Subalgebra.{Presented, IsPresentation, IsGenerator, AreGenerators, product_of, AllIn, IsGenerated, LeadsIdeal, IsStandard, InSubalgebra, LeadsSubalgebra, IsElement, IsReducedBasis}
 use Rattle.poly_core.specs.Presentation.{AreCanonicalGenerators}
 use Rattle.polynomials.specs.laws.Same.{same_refl}
-use Rattle.polynomials.specs.laws.Value.{one_times}
-use Rattle.polynomials.specs.laws.Coefficients.{single_term, times_one}
+use Rattle.polynomials.specs.laws.Coefficients.{single_term, value_letter}
 use Rattle.polynomials.specs.laws.Degrees.{all_found}
 use Rattle.polynomials.specs.laws.Terms.{AllAt-append}
 use Rattle.polynomials.specs.laws.Congruence.{minus_zero, congruent_same}
@@ -24,6 +23,7 @@ use Rattle.monomial_basis.specs.Products.{AreFactors}
 use Rattle.monomial_basis.specs.MinimalGenerators.{IsMinimal}
 use Rattle.monomial_basis.specs.MonomialGenerators.{monomial_poly, AreMonomials, leads_of}
 use Rattle.monomial_basis.proofs.Dividing.{generated_one}
+use Rattle.monomial_order.specs.laws.Monomial.{variable_trimmed, variable_length}
 use Rattle.monomial_basis.proofs.Minimality.{generated_member}
 
 module _ {E : Type 0} (K : FieldOps E) (G : List (List ℕ)) where
@@ -68,28 +68,7 @@ generated_bounded O L G ks c h m w l =
         let s = L.degree_product f (product_of fs) in
         generated_times ks f (product_of fs) (h f a.0 (omega arith)) (by_factors fs a.1 (omega arith))
 
--- the variables, and their values
-IsTrimmed-variable : (i : ℕ) → IsTrimmed (variable i)
-IsTrimmed-variable zero = λ e. cc
-IsTrimmed-variable (suc zero) = λ e. cc
-IsTrimmed-variable (suc (suc i)) = IsTrimmed-variable (suc i)
-
-length-variable : (i : ℕ) → length (variable i) ≡ suc i
-length-variable zero = refl
-length-variable (suc i) = ap suc (length-variable i)
-
 module _ {E : Type 0} (K : FieldOps E) (F : IsField K) where
-  value_variable : (fs : List (Polynomial E)) (i : ℕ) (f : Polynomial E) → i < length fs → get_or fs i f ≡ f → Same K (monomial_value K (variable i) fs) f
-  value_variable [] i f l e m = absurd (omega arith)
-  value_variable (g ∷ fs) zero f l e m =
-      times_one K F (power K g 1) m ∙ (times_one K F g m ∙ ap (λ p. coefficient K p m) e)
-  value_variable (g ∷ fs) (suc i) f l e m = one_times K F (monomial_value K (variable i) fs) m ∙ value_variable fs i f (omega arith) e m
-
-  generator_value : (fs : List (Polynomial E)) (i : ℕ) (f : Polynomial E) → i < length fs → get_or fs i f ≡ f → Same K (value K (monomial_poly K (variable i)) fs) f
-  generator_value fs i f l e m =
-      ap (λ p. coefficient K p m) (append-nil (times K (constant K K.one) (monomial_value K (variable i) fs))) ∙
-      (one_times K F (monomial_value K (variable i) fs) m ∙ value_variable fs i f l e m)
-
   coefficient_monomial : (m : List ℕ) → coefficient K (monomial_poly K m) m ≡ K.one
   unfolding coefficient
   coefficient_monomial m = ap (λ b. K.plus (cond b K.one K.zero) K.zero) (same_refl m) ∙ (F.plus_zero K.one ∙ F.one_value)
@@ -176,12 +155,12 @@ module _ {E : Type 0} (P : Presented E) (H : IsPresentation P) (none : P.ideal �
   generator_inside m c =
       let i = lead_of_generator P.field P.generators M m c in
       let short : i.0 < length P.generators = i.1 in
-      let long = length-variable i.0 in
+      let long = variable_length i.0 in
       record {
         witness = monomial_poly P.field (variable i.0);
-        poly = (record { monomial = record { trimmed = IsTrimmed-variable i.0; within = omega arith }; value = H.field.one_value }, tt);
+        poly = (record { monomial = record { trimmed = variable_trimmed i.0; within = omega arith }; value = H.field.one_value }, tt);
         inside = congruent_same P.field H.field P.order.places P.ideal (monomial_poly P.field m) (value P.field (monomial_poly P.field (variable i.0)) P.generators)
-            (λ n. sym (generator_value P.field H.field P.generators i.0 (monomial_poly P.field m) i.1 i.2 n));
+            (λ n. sym (value_letter P.field H.field P.generators i.0 i.1 n ∙ ap (λ p. coefficient P.field p n) (get_or_default P.generators i.0 [] (monomial_poly P.field m) i.1 ∙ i.2)));
       }
 
   element : (c : ℕ) (m : List ℕ) → Contains (leads_of P.generators) m → P.order.degree m ≤ c → IsElement P c (monomial_poly P.field m)

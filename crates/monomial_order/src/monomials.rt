@@ -1,7 +1,7 @@
 //! Monomials.
-ghost use Rattle.std.specs.Prelude.{◌≡◌, ℕ, ◌+◌, ◌≤◌, ◌↔◌, length, [], IsTrue, IsOk, IfOk, IfSome, IsSome, IsNone};
+ghost use Rattle.std.specs.Prelude.{◌≡◌, ℕ, ◌+◌, ◌^◌, ◌<◌, ◌≤◌, ◌↔◌, length, [], IsTrue, IsOk, IfOk, IfSome, IsSome, IsNone};
 ghost use Rattle.monomial_order.specs.Limits.{exponent_max};
-ghost use Rattle.monomial_order.specs.Monomial.{IsTrimmed, product, exponent, least_common_multiple, Divides};
+ghost use Rattle.monomial_order.specs.Monomial.{IsTrimmed, product, exponent, least_common_multiple, variable, Divides};
 
 use crate::Memory;
 use crate::places::{add_places, divides_places, raise_places, subtract_places, used_places};
@@ -44,6 +44,16 @@ impl Monomial {
     {
         let exponents = SmallVec::from_slice(alloc, &e[..used_places(e)])?;
         Ok(Monomial { exponents })
+    }
+
+    /// The variable at a place.
+    pub fn variable(alloc: Global, place: usize) -> Result<Monomial, Memory>
+        requires { place + 1 < 2 ^ 64 }
+        ensures { IfOk result (λ m. m ≡ variable place) }
+    {
+        let mut exponents = vec![in alloc; 0u16; place + 1]?;
+        exponents[place] = 1;
+        Monomial::from_places(alloc, exponents.as_slice())
     }
 
     pub fn copy(&self, alloc: Global) -> Result<Monomial, Memory>

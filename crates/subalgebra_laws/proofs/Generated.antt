@@ -1,5 +1,5 @@
 -- Products of leads are images of s-words, and the values of s-words are members of the subalgebra.
-use Rattle.std.proofs.Common.{◌≡◌, ◌≢◌, ℕ, zero, suc, ◌+◌, ◌-◌, ◌<◌, ◌≤◌, refl, sym, ◌∙◌, ap, subst, List, [], ◌∷◌, ⊎_elim, append-nil, length, get_or, take, arith}
+use Rattle.std.proofs.Common.{◌≡◌, ◌≢◌, ℕ, zero, suc, ◌+◌, ◌-◌, ◌<◌, ◌≤◌, refl, sym, ◌∙◌, ap, subst, List, [], ◌∷◌, ⊎_elim, length, get_or, take, arith}
 use Rattle.std.specs.Prelude.{map, Contains, sum}
 use Rattle.std.proofs.lemmas.List.{get_or_default}
 use Rattle.std.proofs.lemmas.List.Elements.{Contains-get_or}
@@ -7,17 +7,16 @@ use Rattle.std.proofs.lemmas.List.Sums.{sum_by-cons}
 use Rattle.word_field.specs.Field.{IsValue}
 use Rattle.monomial_order.specs.Monomial.{product, exponent, variable, Divides}
 use Rattle.monomial_order.specs.laws.Lists.{contains_cases, contains_none, contains_map}
-use Rattle.monomial_order.specs.laws.Monomial.{product_comm, product-one, variable_divides}
+use Rattle.monomial_order.specs.laws.Monomial.{product_comm, product-one, variable_divides, variable_trimmed, variable_length}
 use Rattle.monomial_order.specs.laws.Cofactors.{cofactor, Divides-product, length-product_right}
 use Rattle.monomial_order.specs.laws.Comparing.{le_or_not, equal_or_not, some_exponent}
 use Rattle.word_laws.specs.Words.{word_order_of, image_of, IsSWord}
-use Rattle.word_laws.specs.laws.Images.{variable_trimmed, variable_length}
 use Rattle.word_laws.specs.laws.Words.{image_times, s_divisor}
 use Rattle.polynomials.specs.Polynomial.{Polynomial, coefficient, term_of, times, constant, AllAt, IsPoly, IsLead, lead_monomial}
-use Rattle.polynomials.specs.Value.{value, monomial_value, term_value}
+use Rattle.polynomials.specs.Value.{value, term_value}
 use Rattle.polynomials.specs.Subalgebra.{Presented, IsPresentation, AreGenerators, InSubalgebra, IsGenerated, AllIn, product_of}
 use Rattle.polynomials.specs.laws.ReducedBasis.{map_contains, generated_times}
-use Rattle.polynomials.specs.laws.Value.{one_times, value_same, value-constant, monomial_value-product}
+use Rattle.polynomials.specs.laws.Value.{value_same, value-constant, monomial_value-product}
 use Rattle.polynomials.specs.laws.Decreasing.{IsDecreasing_IsPoly}
 use Rattle.polynomials.specs.laws.Canonical.{canonical}
 use Rattle.polynomials.specs.laws.Degrees.{decreasing_all}
@@ -26,8 +25,8 @@ use Rattle.polynomials.specs.laws.Membership.{sub_plus, sub_times, sub_congruent
 use Rattle.subalgebra_laws.specs.Words.{letters, letter_values, word_value}
 use Rattle.subalgebra_laws.specs.Bases.{AreMonicElements, AreMembers}
 use Rattle.subalgebra_laws.specs.Statements.{SWordsAreMembers, SumsOfSWordsAreMembers, StandardProductsLead}
-use Rattle.subalgebra_laws.proofs.Letters.{value_variable, letter_degrees, letter_laws, are_letters, places_letters, s_one, s_product, letter, letter_word, letter_image, letter_value, word_monic}
-use Rattle.polynomials.specs.laws.Coefficients.{constant_poly}
+use Rattle.subalgebra_laws.proofs.Letters.{letter_degrees, letter_laws, are_letters, places_letters, s_one, s_product, letter, letter_word, letter_image, letter_value, word_monic}
+use Rattle.polynomials.specs.laws.Coefficients.{constant_poly, value_letter}
 use Rattle.subalgebra_laws.proofs.MonicProducts.{monic_lead}
 
 -- in a word without x each x has the exponent 0
@@ -57,9 +56,7 @@ module _ {E : Type 0} (P : Presented E) (H : IsPresentation P) where
         witness = term_of (variable h.0) P.field.one ∷ [];
         poly = (record { monomial = record { trimmed = variable_trimmed h.0; within = let n = variable_length h.0 in omega arith }; value = H.field.one_value }, tt);
         inside = congruent_same P.field H.field P.order.places P.ideal f (value P.field (term_of (variable h.0) P.field.one ∷ []) P.generators)
-            (λ m. sym (ap (λ p. coefficient P.field p m) (append-nil (times P.field (constant P.field P.field.one) (monomial_value P.field (variable h.0) P.generators))) ∙
-            (one_times P.field H.field (monomial_value P.field (variable h.0) P.generators) m ∙
-            (value_variable P.field H.field P.generators h.0 l m ∙ ap (λ p. coefficient P.field p m) (get_or_default P.generators h.0 [] f l ∙ h.2)))));
+            (λ m. sym (value_letter P.field H.field P.generators h.0 l m ∙ ap (λ p. coefficient P.field p m) (get_or_default P.generators h.0 [] f l ∙ h.2)));
       }
 
   pub generator_poly : (f : Polynomial E) → Contains P.generators f → IsPoly P.field P.order.places f

@@ -11,12 +11,12 @@ use Rattle.monomial_order.specs.Monomial.{product, exponent, variable, IsMonomia
 use Rattle.monomial_order.specs.MonomialOrder.{MonomialOrder}
 use Rattle.monomial_order.specs.Orders.{lex}
 use Rattle.monomial_order.specs.laws.Lists.{contains_left}
-use Rattle.monomial_order.specs.laws.Monomial.{product-one, length-product, variable_divides}
+use Rattle.monomial_order.specs.laws.Monomial.{product-one, length-product, variable_divides, variable_trimmed, variable_length}
 use Rattle.monomial_order.specs.laws.Cofactors.{cofactor, length-product_right}
 use Rattle.monomial_order.specs.laws.Comparing.{le_or_not, equal_or_not, some_exponent, not_below_self, divisor_degree}
 use Rattle.word_laws.specs.Words.{image_of, image, variables, lead_degrees, IsWord, IsSWord, IsSmaller}
 use Rattle.word_laws.specs.laws.Words.{degree_same, s_smaller, s_divisor}
-use Rattle.word_laws.specs.laws.Images.{weighted_front, image_front, variable_trimmed, variable_length, length-variables}
+use Rattle.word_laws.specs.laws.Images.{weighted_front, image_front, length-variables}
 use Rattle.polynomials.specs.Polynomial.{Polynomial, coefficient, Same, term_of, times, constant, AllAt, IsPoly, IsBelow, IsDecreasing, IsHomogeneous, lead_monomial}
 use Rattle.polynomials.specs.Ideal.{Congruent}
 use Rattle.polynomials.specs.Value.{power, monomial_value, value, term_value}

@@ -4,26 +4,24 @@ use Rattle.std.specs.Prelude.{map, Contains, sum}
 use Rattle.std.proofs.lemmas.List.{length-map, get_or-append-add, get_or-map}
 use Rattle.std.proofs.lemmas.List.Sums.{sum_by-cons}
 use Rattle.std.proofs.Math.Seq.{take-nil}
-use Rattle.word_field.specs.Field.{FieldOps, IsField}
+use Rattle.word_field.specs.Field.{IsField}
 use Rattle.monomial_order.specs.Monomial.{product, variable, IsMonomial, weighted_degree}
 use Rattle.monomial_order.specs.MonomialOrder.{MonomialOrder, IsMonomialOrder}
 use Rattle.monomial_order.specs.laws.Lists.{contains_cases, contains_here, contains_none, contains_there}
-use Rattle.monomial_order.specs.laws.Monomial.{product-one, IsMonomial-product}
+use Rattle.monomial_order.specs.laws.Monomial.{product-one, IsMonomial-product, variable_monomial}
 use Rattle.monomial_order.specs.laws.Orders.{take-product, sum-product}
 use Rattle.word_laws.specs.Words.{AreLetters, word_order_of, image_of, image, variables, lead_degrees, IsSWord}
-use Rattle.word_laws.specs.laws.Images.{length-variables, variable_monomial, degree_weighted}
+use Rattle.word_laws.specs.laws.Images.{length-variables, degree_weighted}
 use Rattle.word_laws.specs.laws.Words.{word_laws, degree_image, degree_x, image_x}
 use Rattle.monomial_order.specs.laws.Comparing.{degree_one}
-use Rattle.polynomials.specs.Polynomial.{Polynomial, coefficient, Same, term_of, times, constant, lead_monomial}
-use Rattle.polynomials.specs.Value.{monomial_value}
+use Rattle.polynomials.specs.Polynomial.{Polynomial, coefficient, Same, term_of, lead_monomial}
 use Rattle.polynomials.specs.Subalgebra.{Presented, IsPresentation}
 use Rattle.polynomials.specs.laws.ReducedBasis.{map_contains}
 use Rattle.polynomials.specs.laws.Same.{same_refl}
-use Rattle.polynomials.specs.laws.Value.{one_times}
 use Rattle.polynomials.specs.laws.Decreasing.{IsDecreasing_IsPoly, IsLead_first}
 use Rattle.subalgebra_laws.specs.Words.{letters, letter_values, word_value}
 use Rattle.subalgebra_laws.specs.Bases.{IsMonicElement, AreMonicElements}
-use Rattle.polynomials.specs.laws.Coefficients.{single_term, times_one}
+use Rattle.polynomials.specs.laws.Coefficients.{single_term, value_variable}
 use Rattle.subalgebra_laws.proofs.MonicProducts.{IsMonic, AreMonic, monic_value}
 
 -- a variable stands for the member of the list at its index
@@ -31,11 +29,6 @@ image_variable : (ms : List (List ℕ)) (j : ℕ) → j < length ms → image (v
 image_variable [] j l = absurd (omega arith)
 image_variable (m ∷ ms) zero l = product-one (product m []) ∙ product-one m
 image_variable (m ∷ ms) (suc j) l = image_variable ms j (omega arith)
-
-pub value_variable : {E : Type 0} (K : FieldOps E) (F : IsField K) (fs : List (Polynomial E)) (j : ℕ) → j < length fs → Same K (monomial_value K (variable j) fs) (get_or fs j [])
-value_variable K F [] j l = absurd (omega arith)
-value_variable K F (f ∷ fs) zero l = λ m. times_one K F (times K f (constant K K.one)) m ∙ times_one K F f m
-value_variable K F (f ∷ fs) (suc j) l = λ m. one_times K F (monomial_value K (variable j) fs) m ∙ value_variable K F fs j (omega arith) m
 
 no_x_variable : (n j : ℕ) → sum (take n (variable (n + j))) ≡ 0
 no_x_variable zero j = refl

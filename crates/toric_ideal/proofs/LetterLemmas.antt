@@ -3,13 +3,13 @@ use Rattle.std.proofs.Common.{◌≡◌, ℕ, zero, suc, ◌+◌, ◌<◌, ◌�
 use Rattle.std.specs.Prelude.{Contains}
 use Rattle.std.proofs.lemmas.List.{length-map}
 use Rattle.monomial_order.specs.Monomial.{product, variable, weighted_degree}
-use Rattle.monomial_order.specs.laws.Monomial.{product-one, weighted_nil}
+use Rattle.monomial_order.specs.laws.Monomial.{product-one, weighted_nil, variable_monomial}
 use Rattle.monomial_order.specs.Ranges.{all_between}
 use Rattle.monomial_order.specs.laws.Orders.{between_first, between_rest, word_small}
 use Rattle.monomial_order.specs.Orders.{word_order}
 use Rattle.monomial_order.specs.laws.Lists.{contains_cases, contains_none}
 use Rattle.word_laws.specs.Words.{image, image_of, lead_degrees, word_order_of, variables, AreLetters, IsWord, Letters}
-use Rattle.word_laws.specs.laws.Images.{length-variables, variable_monomial}
+use Rattle.word_laws.specs.laws.Images.{length-variables}
 use Rattle.word_laws.specs.laws.Words.{image_same}
 use Rattle.toric_ideal.specs.Leads.{letters, AreLetterLeads}
 use Rattle.toric_ideal.specs.Alphabet.{letters_of, IsAlphabet}

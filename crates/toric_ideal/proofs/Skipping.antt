@@ -3,10 +3,9 @@ use Rattle.std.proofs.Common.{◌≡◌, ℕ, zero, suc, ◌+◌, ◌-◌, ◌<�
 use Rattle.std.specs.Prelude.{sum}
 use Rattle.std.proofs.lemmas.List.Sums.{sum_by-cons}
 use Rattle.monomial_order.specs.Monomial.{exponent, product, variable, IsMonomial, IsTrimmed}
-use Rattle.monomial_order.specs.laws.Monomial.{exponent-product, variable_divides, variable_off}
+use Rattle.monomial_order.specs.laws.Monomial.{exponent-product, variable_divides, variable_off, variable_trimmed}
 use Rattle.monomial_order.specs.laws.Cofactors.{cofactor, length-product_right}
 use Rattle.monomial_order.specs.laws.Comparing.{le_or_not}
-use Rattle.word_laws.specs.laws.Images.{variable_trimmed}
 use Rattle.toric_ideal.specs.LeastWords.{Skips}
 
 -- the first exponents of a word without the first letters sum to 0

@@ -9,7 +9,7 @@ ghost use Rattle.toric_ideal.specs.LeastWords.{lead_letter, IsFactor, IsLeadQuot
 ghost use Rattle.toric_ideal.specs.Listing.{IsLeastOrZero};
 
 use crate::alphabet::Alphabet;
-use crate::letters::{is_multiple, letter};
+use crate::letters::is_multiple;
 use monomial_order::{Memory, Monomial};
 use std::alloc::Global;
 
@@ -60,7 +60,7 @@ impl Alphabet {
             IsComparable (word_order_of L) (product (lead_letter L i) w.now) }
         ensures { IfOk result (λ v. v ≡ product (lead_letter (letters_of self.now) i) w.now) }
     {
-        letter(alloc, self.order.x_degrees.len() + i)?.times(alloc, w)
+        Monomial::variable(alloc, self.order.x_degrees.len() + i)?.times(alloc, w)
     }
 
     /// The second word if it is less, and else the first.

@@ -11,23 +11,13 @@ use crate::word_with_image::WordWithImage;
 use monomial_order::{Memory, Monomial, Order};
 use std::alloc::Global;
 
-/// The letter at a place.
-pub(crate) fn letter(alloc: Global, place: usize) -> Result<Monomial, Memory>
-    requires { place + 1 < 2 ^ 64 }
-    ensures { IfOk result (λ m. m ≡ variable place) }
-{
-    let mut exponents = vec![in alloc; 0u16; place + 1]?;
-    exponents[place] = 1;
-    Monomial::from_places(alloc, exponents.as_slice())
-}
-
 /// The word without the last of its letters.
 fn without_last(alloc: Global, w: &Monomial) -> Result<Monomial, Memory>
     requires { 0 < length w.now }
     ensures cofactor { IfOk result (λ k. product (variable (length w.now - 1)) k ≡ w.now) }
     ensures trimmed { IfOk result IsTrimmed }
 {
-    match w.quotient(alloc, &letter(alloc, w.places() - 1)?)? {
+    match w.quotient(alloc, &Monomial::variable(alloc, w.places() - 1)?)? {
         Some(k) => Ok(k),
         None => Ok(Monomial::one(alloc)),
     }
@@ -74,7 +64,7 @@ impl Alphabet {
     {
         let x_count = self.order.x_degrees.len();
         if place < x_count {
-            letter(alloc, place)
+            Monomial::variable(alloc, place)
         } else {
             self.leads[place - x_count].copy(alloc)
         }
@@ -92,7 +82,7 @@ impl Alphabet {
         ensures image { IfOk result (λ l. l.image ≡ image_of (letters_of self.now) (variable place)) }
     {
         Ok(WordWithImage {
-            word: letter(alloc, place)?,
+            word: Monomial::variable(alloc, place)?,
             image: self.letter_image(alloc, place)?,
         })
     }

@@ -127,3 +127,19 @@ variable_off zero zero h = absurd (h refl)
 variable_off zero (suc j) h = refl
 variable_off (suc i) zero h = refl
 variable_off (suc i) (suc j) h = variable_off i j (λ e. h (ap suc e))
+
+-- a variable is a monomial in more than its place
+pub variable_trimmed : (i : ℕ) → IsTrimmed (variable i)
+variable_trimmed zero = λ e. cc
+variable_trimmed (suc i) = front i (variable_trimmed i)
+  where
+    front : (i : ℕ) → IsTrimmed (variable i) → IsTrimmed (0 ∷ variable i)
+    front zero h = h
+    front (suc i) h = h
+
+pub variable_length : (i : ℕ) → length (variable i) ≡ suc i
+variable_length zero = refl
+variable_length (suc i) = ap suc (variable_length i)
+
+pub variable_monomial : (n i : ℕ) → i < n → IsMonomial n (variable i)
+variable_monomial n i l = record { trimmed = variable_trimmed i; within = let e = variable_length i in omega arith }

@@ -1,10 +1,10 @@
 -- Coefficients and leads of single terms, sums and differences, and what a decreasing list says of them.
-use Rattle.std.proofs.Common.{◌≡◌, ◌≢◌, ℕ, ◌≤◌, refl, sym, ◌∙◌, ap, [], ◌∷◌, ◌++◌, ◌⊎◌, inl, inr, ⊎_elim, cond, true, false, arith}
+use Rattle.std.proofs.Common.{◌≡◌, ◌≢◌, ℕ, zero, suc, ◌<◌, ◌≤◌, List, length, get_or, append-nil, refl, sym, ◌∙◌, ap, [], ◌∷◌, ◌++◌, ◌⊎◌, inl, inr, ⊎_elim, cond, true, false, arith}
 use Rattle.std.specs.declared.cmp.Ordering.TheVariants.{Less}
 use Rattle.word_field.specs.Field.{FieldOps, IsField}
 use Rattle.word_field.specs.laws.Field.{zero-plus-zero, negate-zero}
 use Rattle.monomial_order.specs.declared.terms.Term.{Term}
-use Rattle.monomial_order.specs.Monomial.{Exponents, product, IsMonomial}
+use Rattle.monomial_order.specs.Monomial.{Exponents, product, IsMonomial, variable}
 use Rattle.monomial_order.specs.MonomialOrder.{MonomialOrder, IsMonomialOrder}
 use Rattle.monomial_order.specs.laws.Comparing.{not_below_self, degree_falls}
 use Rattle.polynomials.specs.Polynomial.{Polynomial, same_monomial, coefficient, Same, term_of, scaled, times, negated, minus, constant, IsTerm, IsPoly, IsBelow, IsLead, IsSmall, IsDecreasing, AllAt, lead_monomial}
@@ -16,6 +16,7 @@ use Rattle.polynomials.specs.laws.Ideal.{IsPoly-append, IsPoly-negated}
 use Rattle.polynomials.specs.laws.Congruence.{coefficient-minus}
 use Rattle.polynomials.specs.laws.Degrees.{all_found}
 use Rattle.polynomials.specs.laws.Decreasing.{IsDecreasing_IsPoly, IsLead_first, IsLead_unique}
+use Rattle.polynomials.specs.Value.{monomial_value, value}
 use Rattle.polynomials.specs.laws.Terms.{scaled_below}
 pub use Rattle.polynomials.specs.laws.Ideal.{constant_poly}
 
@@ -56,6 +57,17 @@ module _ {E : Type 0} (K : FieldOps E) (F : IsField K) where
   -- the product with the constant 1
   pub times_one : (p : Polynomial E) → Same K (times K p (constant K K.one)) p
   times_one p m = times_comm K F p (constant K K.one) m ∙ one_times K F p m
+
+  -- the variable of a place has the polynomial of that place as its value
+  pub value_variable : (fs : List (Polynomial E)) (j : ℕ) → j < length fs → Same K (monomial_value K (variable j) fs) (get_or fs j [])
+  value_variable [] j l = absurd (omega arith)
+  value_variable (f ∷ fs) zero l = λ m. times_one (times K f (constant K K.one)) m ∙ times_one f m
+  value_variable (f ∷ fs) (suc j) l = λ m. one_times K F (monomial_value K (variable j) fs) m ∙ value_variable fs j (omega arith) m
+
+  pub value_letter : (fs : List (Polynomial E)) (j : ℕ) → j < length fs → Same K (value K (term_of (variable j) K.one ∷ []) fs) (get_or fs j [])
+  value_letter fs j l m =
+      ap (λ p. coefficient K p m) (append-nil (times K (constant K K.one) (monomial_value K (variable j) fs))) ∙
+      (one_times K F (monomial_value K (variable j) fs) m ∙ value_variable fs j l m)
 
   -- what was taken away is put back
   pub minus_back : (a x : Polynomial E) → Same K (minus K a x ++ x) a

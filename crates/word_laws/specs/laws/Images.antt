@@ -1,9 +1,9 @@
 -- Images of words: products, exponents, degrees.
 use Rattle.std.proofs.Common.{◌≡◌, ℕ, zero, suc, ◌+◌, ◌*◌, ◌<◌, ◌≤◌, refl, sym, ◌∙◌, ap, List, [], ◌∷◌, ◌++◌, length, arith}
 use Rattle.std.specs.Prelude.{map}
-use Rattle.monomial_order.specs.Monomial.{Exponents, exponent, IsTrimmed, IsMonomial, product, variable, weighted_degree}
+use Rattle.monomial_order.specs.Monomial.{Exponents, exponent, IsMonomial, product, variable, weighted_degree}
 use Rattle.word_laws.specs.Words.{monomial_power, image, variables}
-use Rattle.monomial_order.specs.laws.Monomial.{product_assoc, product_comm, product-one, IsMonomial-product, exponent-product, weighted_nil, variable_off}
+use Rattle.monomial_order.specs.laws.Monomial.{product_assoc, product_comm, product-one, IsMonomial-product, exponent-product, weighted_nil, variable_off, variable_monomial}
 use Rattle.monomial_order.specs.laws.Cofactors.{same_exponents}
 use Rattle.monomial_order.specs.MonomialOrder.{MonomialOrder, IsMonomialOrder}
 use Rattle.monomial_order.specs.laws.Comparing.{degree_one}
@@ -79,21 +79,6 @@ variables-split i zero j = ap (λ x. variables i x) (let e : zero + j ≡ j = om
 variables-split i (suc k) j =
     ap (variables i) (let e : suc k + j ≡ suc (k + j) = omega arith in e) ∙
     (ap (λ xs. variable i ∷ xs) (variables-split (suc i) k j) ∙ ap (λ x. variable i ∷ (variables (suc i) k ++ variables x j)) (let e : suc i + k ≡ i + suc k = omega arith in e))
-
-pub variable_trimmed : (i : ℕ) → IsTrimmed (variable i)
-variable_trimmed zero = λ e. cc
-variable_trimmed (suc i) = front i (variable_trimmed i)
-  where
-    front : (i : ℕ) → IsTrimmed (variable i) → IsTrimmed (0 ∷ variable i)
-    front zero h = h
-    front (suc i) h = h
-
-pub variable_length : (i : ℕ) → length (variable i) ≡ suc i
-variable_length zero = refl
-variable_length (suc i) = ap suc (variable_length i)
-
-pub variable_monomial : (n i : ℕ) → i < n → IsMonomial n (variable i)
-variable_monomial n i l = record { trimmed = variable_trimmed i; within = let e = variable_length i in omega arith }
 
 pub variables_monomials : (n i k : ℕ) → i + k ≤ n → AreMonomials n (variables i k)
 variables_monomials n i zero l = tt

@@ -8,5 +8,5 @@ pub returns-clause-cofactor : goal.returns-clause-cofactor
 returns-clause-cofactor c =
     let w = c.args.w.now in
     let some : 0 < length w = c.requires in
-    let d = last_divides w c.in_ok-letter.field-0 (length w - 1) (c.in_ok-letter.ensures ∙ ap (λ n. variable (n - 1)) c.places.ensures.length) c.places.ensures.trimmed (omega arith) in
+    let d = last_divides w c.in_ok-variable.field-0 (length w - 1) (c.in_ok-variable.ensures ∙ ap (λ n. variable (n - 1)) c.places.ensures.length) c.places.ensures.trimmed (omega arith) in
     absurd (c.in_ok-k.ensures.none (subst IsNone (sym c.in-None.is) refl) d)

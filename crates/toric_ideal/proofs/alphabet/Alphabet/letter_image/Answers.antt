@@ -11,8 +11,8 @@ pub returns-then-place-x_count : goal.returns-then-place-x_count
 returns-then-place-x_count c =
     let L = letters_of c.args.self.now in
     let l : c.args.place < length c.args.self.now.order.x_degrees.items = let a = c.args.self.now.order.x_degrees.ok in omega arith in
-    IfOk-weaker c.letter.result (λ m. m ≡ variable c.args.place) (λ m. m ≡ image_of L (variable c.args.place))
-    (λ m e. e ∙ sym (image_x L (alphabet_letters c.args.self.now c.requires.alphabet) c.args.place l)) c.letter.ensures
+    IfOk-weaker c.variable.result (λ m. m ≡ variable c.args.place) (λ m. m ≡ image_of L (variable c.args.place))
+    (λ m e. e ∙ sym (image_x L (alphabet_letters c.args.self.now c.requires.alphabet) c.args.place l)) c.variable.ensures
 
 pub returns-else-place-x_count : goal.returns-else-place-x_count
 returns-else-place-x_count c =

@@ -1,9 +1,9 @@
 use Rattle.std.proofs.Common.{◌≡◌, ◌+◌, ◌∙◌, ℕ, zero, suc, ap, refl, List, ◌∷◌, set, arith, rules}
 use Rattle.std.specs.Prelude.{IfOk, Result, Ok, Err, replicate}
 use Rattle.monomial_order.specs.laws.Cofactors.{same_exponents}
-use Rattle.word_laws.specs.laws.Images.{variable_trimmed}
 use Rattle.monomial_order.specs.Monomial.{exponent, variable, IsTrimmed}
-use Rattle.toric_ideal.proofs.letters.letter.Goals as goal
+use Rattle.monomial_order.specs.laws.Monomial.{variable_trimmed}
+use Rattle.monomial_order.proofs.monomials.Monomial.variable.Goals as goal
 
 set_one : (p : ℕ) → set (replicate (suc p) 0) p 1 ≡ variable p
 set_one zero = refl
