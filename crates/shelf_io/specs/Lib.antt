@@ -2,6 +2,9 @@ pub mod Calls
 pub mod Counts
 pub mod MemoryShelf
 pub mod MemorySink
+pub mod Moments
 pub mod Shelf
 pub mod Sink
-pub mod Stored
+pub mod Stages
+pub mod Writes
+pub mod laws

@@ -1,6 +1,7 @@
 //! The real files.
-ghost use Rattle.std.specs.Prelude.{◌≡◌, ◌<◌, ◌≤◌, None, IfOk};
+ghost use Rattle.std.specs.Prelude.{◌≡◌, ◌<◌, ◌≤◌, ⊤, None, IfOk};
 ghost use Rattle.shelf_io.specs.Shelf.{KeepsLimit};
+ghost use Rattle.shelf_io.specs.laws.Moments.{not_known};
 
 use crate::counts::next_count;
 use crate::shelf::is_over;
@@ -90,6 +91,14 @@ impl<R: Files> Shelf for FileShelf<'_, R> {
     ghost holds = { λ _. None };
 
     ghost faults = { λ s. s.faults };
+
+    ghost moment = { λ _. None };
+
+    ghost may_be_found = { λ _ _ _. ⊤ };
+
+    ghost only_held = { λ shelf now held found at is. not_known at };
+
+    ghost held_is_found = { λ shelf now m held at le is. tt };
 
     fn load(&mut self, alloc: Global, name: &str, max: Option<u64>) -> Result<Loaded, LoadFault> {
         match load_file(self.rt, alloc, name, max) {

@@ -4,12 +4,14 @@
 mod calls;
 mod counts;
 mod file_shelf;
+pub mod laws;
 mod memory_shelf;
 mod memory_sink;
 mod shelf;
 mod shelf_memory;
 mod sink;
 mod stream_sink;
+mod write_record;
 
 pub use file_shelf::FileShelf;
 pub use memory_shelf::MemoryShelf;
