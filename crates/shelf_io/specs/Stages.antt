@@ -1,5 +1,5 @@
 -- The stages of a program that writes names one after the other.
-use Rattle.std.specs.Prelude.{◌≡◌, ◌≤◌, ℕ, zero, suc, List, [], ◌∷◌, Option, Some, Result, Ok, Err}
+use Rattle.std.specs.Prelude.{◌≡◌, ◌≤◌, ℕ, zero, suc, List, [], ◌∷◌, Option, Result, Ok}
 use Rattle.std.specs.FinMap as map
 use Rattle.shelf_io.specs.Shelf.{Files, SameElsewhere, WritesIfKnown}
 use Rattle.shelf_io.specs.Moments.{IsLater, IsHeld, IsHeldElsewhere, Adds}

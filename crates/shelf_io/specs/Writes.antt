@@ -1,5 +1,5 @@
 -- A record of writes, from which the files at each moment follow.
-use Rattle.std.specs.Prelude.{◌≡◌, ◌⊎◌, ℕ, List, [], ◌∷◌, map, length, take, drop, string_bytes}
+use Rattle.std.specs.Prelude.{◌≡◌, ◌⊎◌, ℕ, List, [], ◌∷◌, take, drop, string_bytes}
 use Rattle.std.specs.FinMap as files
 use Rattle.shelf_io.specs.Shelf.{Files}
 use Rattle.shelf_io.specs.declared.write_record.WriteRecord.{WriteRecord}

@@ -1,5 +1,5 @@
 //! A shelf in memory.
-ghost use Rattle.std.specs.Prelude.{◌≡◌, ◌≤◌, ◌⊎◌, ◌↔◌, [], length, map, Some, None, IfOk, OnOk, OnErr, IsErrOf, IsTrue, option_copied};
+ghost use Rattle.std.specs.Prelude.{◌≡◌, ◌≤◌, ◌⊎◌, ◌↔◌, [], ◌∷◌, ◌++◌, length, take, map, Some, None, IfOk, OnOk, OnErr, IsErrOf, IsTrue, option_copied};
 ghost use Rattle.std.specs.FinMap as files;
 ghost use Rattle.shelf_io.specs.Calls.{no_calls, is_stop, next_fails, after_call, with_failing};
 ghost use Rattle.shelf_io.specs.Counts.{HasRisen};
@@ -13,7 +13,7 @@ use crate::calls::Calls;
 use crate::shelf::is_over;
 use crate::write_record::WriteRecord;
 use crate::{LoadFault, Loaded, Shelf, ShelfMemory, WriteFault};
-use std::alloc::Global;
+use std::alloc::{AllocError, Global};
 
 /// Files in memory, as the record of their writes. Loads and writes count together from 1. Those that `fail_at` names
 /// fail, and all from that of `stop_at` on.
@@ -23,6 +23,28 @@ pub struct MemoryShelf {
     writes: Vec<WriteRecord>,
     calls: Calls,
     keep: usize,
+}
+
+/// Records a write that leaves the first `count` bytes under the name.
+fn record(
+    alloc: Global,
+    writes: &mut Vec<WriteRecord>,
+    name: &str,
+    bytes: &[u8],
+    count: usize,
+) -> Result<(), AllocError>
+    ensures ok { OnOk result (map written_of writes.new.items ≡ map written_of writes.old.items
+        ++ record { name = name.now; bytes = bytes.now; count = count } ∷ []) }
+    ensures held { OnOk result (files_after (map written_of writes.new.items)
+        ≡ files.insert (files_after (map written_of writes.old.items)) name.now (take count bytes.now)) }
+    ensures stops { OnOk result (Adds (Some (length (map written_of writes.old.items)))
+        (IsStopSince (map written_of writes.old.items)) (IsStopSince (map written_of writes.new.items))
+        (IsHeldElsewhere name.now (Some (files_after (map written_of writes.old.items))))) }
+    ensures err { OnErr result (map written_of writes.new.items ≡ map written_of writes.old.items) }
+{
+    let write = WriteRecord::new(alloc, name, bytes, count)?;
+    writes.push(write)?;
+    Ok(())
 }
 
 /// The bytes that the last write of a name left.
@@ -52,7 +74,7 @@ impl MemoryShelf {
         }
     }
 
-    /// A write that is no call of `write`: it does not count, and always has room or changes nothing.
+    /// A write that does not count as a call.
     pub fn put(&mut self, name: &str, bytes: &[u8]) -> Result<(), ShelfMemory>
         ensures held { OnOk result (held_files (shelf_state self.new)
             ≡ files.insert (held_files (shelf_state self.old)) name.now bytes.now) }
@@ -60,8 +82,7 @@ impl MemoryShelf {
             ≡ with_write (shelf_state self.old) name.now bytes.now (length bytes.now)) }
         ensures err { OnErr result (shelf_state self.new ≡ shelf_state self.old) }
     {
-        let record = WriteRecord::new(self.alloc, name, bytes, bytes.len())?;
-        self.writes.push(record)?;
+        record(self.alloc, &mut self.writes, name, bytes, bytes.len())?;
         Ok(())
     }
 
@@ -164,16 +185,13 @@ impl Shelf for MemoryShelf {
             ≡ after_write_call result (shelf_state self.old) name.now bytes.now }
     {
         let is_stop = self.calls.is_stop();
-        let fails = self.calls.begin();
-        if !fails || is_stop {
-            let count = if fails { self.keep } else { bytes.len() };
-            let record = WriteRecord::new(alloc, name, bytes, count)?;
-            self.writes.push(record)?;
+        if !self.calls.begin() {
+            record(alloc, &mut self.writes, name, bytes, bytes.len())?;
+            return Ok(());
         }
-        if fails {
-            Err(WriteFault::Failed)
-        } else {
-            Ok(())
+        if is_stop {
+            record(alloc, &mut self.writes, name, bytes, self.keep)?;
         }
+        Err(WriteFault::Failed)
     }
 }

@@ -1,6 +1,5 @@
 -- Moments, and what a call adds to what a stop may find.
-use Rattle.std.proofs.Common.{◌≡◌, ◌≤◌, ℕ, List, Option, Some, None, refl, sym, ap, subst, ◌∙◌, inl, inr, Bool, cond, false, true, arith}
-use Rattle.std.specs.Prelude.{◌≢◌}
+use Rattle.std.proofs.Common.{◌≡◌, ◌≤◌, ℕ, List, Option, Some, None, refl, subst, ◌∙◌, inl, Bool, cond, false, true, arith}
 use Rattle.std.specs.FinMap as map
 use Rattle.std.specs.FinMap.{get-insert, slice_cmp-IsAntisymmetric, nat_cmp-IsAntisymmetric}
 use Rattle.std.specs.Ordering.{nat_cmp, is_eq, eq_by_cmp}

@@ -1,9 +1,9 @@
 -- The stages of a program that writes names one after the other.
-use Rattle.std.proofs.Common.{◌≡◌, ◌≤◌, ◌<◌, ◌⊎◌, ◌+◌, ℕ, zero, suc, List, [], ◌∷◌, ◌++◌, length, Option, Some, None, Result, Ok, Err, refl, sym, ap, subst, ◌∙◌, inl, inr, arith}
+use Rattle.std.proofs.Common.{◌≡◌, ◌≤◌, ◌⊎◌, ◌+◌, ℕ, zero, suc, List, [], ◌∷◌, ◌++◌, length, Option, Some, Result, Ok, refl, sym, ap, subst, ◌∙◌, inl, inr, arith}
 use Rattle.std.proofs.lemmas.Option.{same_Some}
 use Rattle.std.specs.FinMap as map
-use Rattle.shelf_io.specs.Shelf.{Files, SameElsewhere, IsWritten, WritesIfKnown}
-use Rattle.shelf_io.specs.Moments.{IsLater, IsHeld, IsHeldElsewhere, Adds}
+use Rattle.shelf_io.specs.Shelf.{Files, SameElsewhere}
+use Rattle.shelf_io.specs.Moments.{IsHeld, IsHeldElsewhere}
 use Rattle.shelf_io.specs.Stages.{Save, files_saved, IsAtStage, IsFromStage, Stays, Writes, Saves}
 use Rattle.shelf_io.specs.laws.Moments.{later_same, later_then, known_later, adds_none}
 use Rattle.shelf_io.specs.declared.shelf.WriteFault.{WriteFault}

@@ -1,12 +1,12 @@
 -- The moments of a record of writes.
-use Rattle.std.proofs.Common.{◌≡◌, ◌≤◌, ◌⊎◌, ℕ, List, [], ◌∷◌, ◌++◌, length, take, drop, Option, Some, refl, sym, ap, subst, ◌∙◌, inl, inr, arith}
+use Rattle.std.proofs.Common.{◌≡◌, ◌≤◌, ◌⊎◌, ℕ, List, [], ◌∷◌, ◌++◌, length, take, drop, Some, refl, sym, ap, subst, ◌∙◌, inl, inr}
 use Rattle.std.proofs.lemmas.List.{take-append-drop, take-append-le, drop-append-le}
 use Rattle.std.proofs.Math.Seq.{take-length}
 use Rattle.std.proofs.lemmas.Option.{same_Some}
 use Rattle.std.specs.FinMap as files
 use Rattle.shelf_io.specs.Shelf.{Files, SameElsewhere}
 use Rattle.shelf_io.specs.Moments.{Adds, IsHeldElsewhere}
-use Rattle.shelf_io.specs.Writes.{Written, after_write, replayed, files_after, IsTorn, IsStopOf, IsStopSince}
+use Rattle.shelf_io.specs.Writes.{Written, after_write, replayed, files_after, IsStopOf, IsStopSince}
 use Rattle.shelf_io.specs.laws.Moments.{insert_elsewhere}
 
 pub replayed-append : (held : Files) (xs ys : List Written) → replayed held (xs ++ ys) ≡ replayed (replayed held xs) ys
