@@ -1,3 +1,4 @@
+pub mod Bounded
 pub mod Calls
 pub mod Counts
 pub mod MemoryShelf
@@ -6,5 +7,7 @@ pub mod Moments
 pub mod Shelf
 pub mod Sink
 pub mod Stages
+pub mod SteadySink
+pub mod StreamSink
 pub mod Writes
 pub mod laws

@@ -1,6 +1,7 @@
 //! The outside of the program: named files on a shelf and a sink for bytes, in memory and real.
 #![tactic(auto)]
 
+mod bounded_bytes;
 mod calls;
 mod counts;
 mod file_shelf;
@@ -10,6 +11,7 @@ mod memory_sink;
 mod shelf;
 mod shelf_memory;
 mod sink;
+mod steady_sink;
 mod stream_sink;
 mod write_record;
 
@@ -19,4 +21,5 @@ pub use memory_sink::MemorySink;
 pub use shelf::{LoadFault, Loaded, Shelf, WriteFault};
 pub use shelf_memory::ShelfMemory;
 pub use sink::{Sink, SinkFailed};
+pub use steady_sink::SteadySink;
 pub use stream_sink::StreamSink;
