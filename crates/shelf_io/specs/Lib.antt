@@ -1,6 +1,7 @@
 pub mod Bounded
 pub mod Calls
 pub mod Counts
+pub mod FileShelf
 pub mod MemoryShelf
 pub mod MemorySink
 pub mod Moments

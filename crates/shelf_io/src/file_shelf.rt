@@ -1,6 +1,10 @@
 //! The real files.
-ghost use Rattle.std.specs.Prelude.{◌≡◌, ◌<◌, ◌≤◌, ⊤, None, IfOk};
-ghost use Rattle.shelf_io.specs.Shelf.{KeepsLimit};
+ghost use Rattle.std.specs.Prelude.{◌≡◌, ◌<◌, ◌≤◌, ◌+◌, ◌⊎◌, ⊤, ℕ, Some, None, IfSome, IfOk, OnOk, IsErrOf};
+ghost use Rattle.std.specs.Io.KnownBytes.{Appends};
+ghost use Rattle.shelf_io.specs.Counts.{HasRisen};
+ghost use Rattle.shelf_io.specs.FileShelf.{IsRead, ReadsNearly};
+ghost use Rattle.shelf_io.specs.Moments.{IsHeld, IsHeldElsewhere, Adds};
+ghost use Rattle.shelf_io.specs.Shelf.{Files, IsFound, KeepsLimit, WritesIfKnown};
 ghost use Rattle.shelf_io.specs.laws.Moments.{not_known};
 
 use crate::counts::next_count;
@@ -33,6 +37,7 @@ const CHUNK: usize = 8192;
 fn room_after(len: usize, max: Option<u64>) -> usize
     ensures some { 0 < result }
     ensures fits { result ≤ CHUNK }
+    ensures limit { (most : ℕ) → max ≡ Some most → len ≤ most → len + result ≤ most + 1 }
 {
     match max {
         None => CHUNK,
@@ -49,7 +54,9 @@ fn room_after(len: usize, max: Option<u64>) -> usize
 
 /// The bytes to the end. At most one byte past the limit is read.
 fn read_within<F: Read>(alloc: Global, file: &mut F, max: Option<u64>) -> Result<Loaded, LoadFault>
-    ensures { IfOk result (KeepsLimit max) }
+    ensures limit { IfOk result (KeepsLimit max) }
+    ensures bytes { IfSome (F.remaining file.old) (λ bytes. IfOk result (IsRead max bytes)) }
+    ensures front { ReadsNearly max (F.remaining file.old) (F.remaining file.new) }
 {
     let mut bytes = Vec::new(alloc);
     let mut chunk = [0u8; CHUNK];
@@ -81,10 +88,17 @@ fn load_file<R: Files>(
     }
 }
 
-fn write_file<R: Files>(rt: &R, name: &str, bytes: &[u8]) -> io::Result<()> {
-    let mut file = fs::create(rt, name)?;
+/// Writes all bytes and asks for a sync.
+fn write_whole<F: Write + OpenFile>(file: &mut F, bytes: &[u8]) -> io::Result<()>
+    ensures { OnOk result (Appends (F.contents file.old) (F.contents file.new) bytes.now) }
+{
     file.write_all(bytes)?;
     file.sync_all()
+}
+
+fn write_file<R: Files>(rt: &R, name: &str, bytes: &[u8]) -> io::Result<()> {
+    let mut file = fs::create(rt, name)?;
+    write_whole(&mut file, bytes)
 }
 
 impl<R: Files> Shelf for FileShelf<'_, R> {
@@ -100,17 +114,29 @@ impl<R: Files> Shelf for FileShelf<'_, R> {
 
     ghost held_is_found = { λ shelf now m held at le is. tt };
 
-    fn load(&mut self, alloc: Global, name: &str, max: Option<u64>) -> Result<Loaded, LoadFault> {
-        match load_file(self.rt, alloc, name, max) {
-            Err(LoadFault::Failed) => {
-                self.faults = next_count(self.faults);
-                Err(LoadFault::Failed)
-            }
-            answer => answer,
+    fn load(&mut self, alloc: Global, name: &str, max: Option<u64>) -> Result<Loaded, LoadFault>
+        ensures found { (files : Files) → None ≡ Some files → IfOk result (IsFound files name.now max) }
+        ensures limit { IfOk result (KeepsLimit max) }
+        ensures counted { self.old.faults ≤ self.new.faults }
+        ensures failed { IsErrOf result LoadFault.Failed → HasRisen self.old.faults self.new.faults }
+        ensures stops { Adds None (λ _ _. ⊤) (λ _ _. ⊤) (IsHeld None) }
+        ensures only_failed { IsErrOf result LoadFault.Failed ⊎ (self.new.faults ≡ self.old.faults) }
+    {
+        let answer = load_file(self.rt, alloc, name, max);
+        if let Err(LoadFault::Failed) = answer {
+            self.faults = next_count(self.faults);
         }
+        answer
     }
 
-    fn write(&mut self, _alloc: Global, name: &str, bytes: &[u8]) -> Result<(), WriteFault> {
+    fn write(&mut self, _alloc: Global, name: &str, bytes: &[u8]) -> Result<(), WriteFault>
+        ensures held { WritesIfKnown result name.now bytes.now None None }
+        ensures counted { self.old.faults ≤ self.new.faults }
+        ensures failed { IsErrOf result WriteFault.Failed → HasRisen self.old.faults self.new.faults }
+        ensures stops { Adds None (λ _ _. ⊤) (λ _ _. ⊤) (IsHeldElsewhere name.now None) }
+        ensures only_failed { OnOk result (self.new.faults ≡ self.old.faults) }
+        ensures never_memory { ¬ IsErrOf result WriteFault.Memory }
+    {
         match write_file(self.rt, name, bytes) {
             Ok(()) => Ok(()),
             Err(_) => {
