@@ -1,5 +1,5 @@
 //! The real files.
-ghost use Rattle.std.specs.Prelude.{◌≡◌, ◌<◌, ◌≤◌, ◌+◌, ◌⊎◌, ⊤, ℕ, Some, None, IfSome, IfOk, OnOk, IsErrOf};
+ghost use Rattle.std.specs.Prelude.{◌≡◌, ◌<◌, ◌≤◌, ◌+◌, ◌⊎◌, ⊤, ℕ, length, Some, None, IfSome, IfOk, OnOk, IsErrOf};
 ghost use Rattle.std.specs.Io.KnownBytes.{Appends};
 ghost use Rattle.shelf_io.specs.Counts.{HasRisen};
 ghost use Rattle.shelf_io.specs.FileShelf.{IsRead, ReadsNearly};
@@ -34,15 +34,15 @@ impl<'a, R: Files> FileShelf<'a, R> {
 const CHUNK: usize = 8192;
 
 /// How many bytes to read next: those up to the limit and one more, or a chunk.
-fn room_after(len: usize, max: Option<u64>) -> usize
+fn room_after(bytes: &[u8], max: Option<u64>) -> usize
     ensures some { 0 < result }
     ensures fits { result ≤ CHUNK }
-    ensures limit { (most : ℕ) → max ≡ Some most → len ≤ most → len + result ≤ most + 1 }
+    ensures limit { (most : ℕ) → max ≡ Some most → length bytes.now ≤ most → length bytes.now + result ≤ most + 1 }
 {
     match max {
         None => CHUNK,
         Some(max) => {
-            let left = max.saturating_sub(len as u64);
+            let left = max.saturating_sub(bytes.len() as u64);
             if left < CHUNK as u64 {
                 left as usize + 1
             } else {
@@ -61,7 +61,7 @@ fn read_within<F: Read>(alloc: Global, file: &mut F, max: Option<u64>) -> Result
     let mut bytes = Vec::new(alloc);
     let mut chunk = [0u8; CHUNK];
     loop {
-        let room = room_after(bytes.len(), max);
+        let room = room_after(&bytes, max);
         match file.read(&mut chunk[..room]) {
             Err(_) => return Err(LoadFault::Failed),
             Ok(0) => return Ok(Loaded::Bytes(bytes)),

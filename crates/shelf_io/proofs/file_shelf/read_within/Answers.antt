@@ -1,5 +1,4 @@
-use Rattle.std.proofs.Common.{◌++◌, ◌≤◌, ◌≡◌, ◌+◌, ℕ, Some, length, take, length-take, subst, arith}
-use Rattle.std.specs.Io.KnownBytes.{Consumes}
+use Rattle.std.proofs.Common.{◌++◌, ◌≤◌, ◌≡◌, ◌+◌, ℕ, List, Some, length, take, length-take, subst, arith}
 use Rattle.shelf_io.proofs.Reading.{nearly_read, consumes_then}
 use Rattle.shelf_io.proofs.file_shelf.read_within.Goals as goal
 
@@ -11,7 +10,7 @@ returns-in_err-extend_from_slice-in-Ok-clause-front g c =
     let room = c.room_after-room.result in
     let le : length more ≤ room = omega (arith, c.in-Ok.ensures.bound.0, c.in-Ok.ensures.bound.1, c.read.auto.buf, length-take room c.loop-bytes.chunk) in
     let fits : (most : ℕ) → c.args.max ≡ Some most → length bytes ≤ most → length bytes + room ≤ most + 1 =
-        subst (λ (n : ℕ). (most : ℕ) → c.args.max ≡ Some most → n ≤ most → n + room ≤ most + 1) c.len.ensures c.room_after-room.ensures.limit in
+        subst (λ (xs : List ℕ). (most : ℕ) → c.args.max ≡ Some most → length xs ≤ most → length xs + room ≤ most + 1) c.deref.ensures.value c.room_after-room.ensures.limit in
     (bytes ++ more,
       consumes_then _ _ _ bytes more c.loop-bytes.invariant.front c.in-Ok.ensures.bytes.0,
       nearly_read c.args.max bytes more room c.loop-bytes.invariant.within fits le)
