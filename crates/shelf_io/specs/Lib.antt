@@ -7,7 +7,9 @@ pub mod MemorySink
 pub mod Moments
 pub mod Shelf
 pub mod Sink
+pub mod Slots
 pub mod Stages
+pub mod SteadyShelf
 pub mod SteadySink
 pub mod StreamSink
 pub mod Writes
