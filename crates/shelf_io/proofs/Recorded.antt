@@ -3,12 +3,11 @@ use Rattle.std.proofs.Common.{◌≡◌, ℕ, List, [], ◌∷◌, ◌++◌, tak
 use Rattle.std.proofs.lemmas.Option.{same_Some}
 use Rattle.std.proofs.lemmas.List.{map-append}
 use Rattle.std.specs.FinMap as files
-use Rattle.std.specs.FinMap.{get-empty, get-insert}
-use Rattle.std.specs.Ordering.{nat_cmp, eq_by_cmp}
-use Rattle.std.specs.Cmp.{eq_by_cmp_equiv}
-use Rattle.std.specs.Cmp.Lexicographic.{slice_cmp, nat_list_cmp_total}
+use Rattle.std.specs.FinMap.{get-empty}
+use Rattle.std.specs.Ordering.{nat_cmp}
+use Rattle.std.specs.Cmp.Lexicographic.{slice_cmp}
 use Rattle.std.specs.Str.{bytes_eq}
-use Rattle.std.proofs.lemmas.Map.Text.{is_eq-slice_cmp}
+use Rattle.shelf_io.proofs.Names.{get-insert_name}
 use Rattle.shelf_io.specs.Shelf.{Files, SameElsewhere, WritesIfKnown}
 use Rattle.shelf_io.specs.Writes.{Written, written_of, files_after}
 use Rattle.shelf_io.specs.laws.Moments.{insert_elsewhere}
@@ -30,16 +29,12 @@ module _ (name bytes : List ℕ) (old new : Files) where
       (old, refl, subst (SameElsewhere name old) (sym is ∙ same_Some _ _ known) (λ other not. refl))
   none_written Memory is found known = (old, refl, sym (same_Some _ _ known) ∙ is)
 
-same_test : (name other : List ℕ) → eq_by_cmp (slice_cmp nat_cmp) other name ≡ bytes_eq name other
-same_test name other = sym ((eq_by_cmp_equiv nat_list_cmp_total).symm name other) ∙ is_eq-slice_cmp name other
-
 -- what a name has after one write more
 get-append : (writes : List Written) (w : Written) (name : List ℕ) →
     files.get (files_after (writes ++ w ∷ [])) name ≡ cond (bytes_eq w.name name) (Some (take w.count w.bytes)) (files.get (files_after writes) name)
 get-append writes w name =
     ap (λ held. files.get held name) (files_after-append writes w)
-    ∙ get-insert nat_list_cmp_total (files_after writes) w.name (take w.count w.bytes) name
-    ∙ ap (λ b. cond b (Some (take w.count w.bytes)) (files.get (files_after writes) name)) (same_test w.name name)
+    ∙ get-insert_name (files_after writes) w.name (take w.count w.bytes) name
 
 -- before the first write
 pub found_first : (name : List ℕ) → files.get (files_after (map written_of [])) name ≡ None

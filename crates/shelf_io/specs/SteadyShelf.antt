@@ -32,6 +32,6 @@ with_name s name = record s { admitted = (if is_admitted s.admitted name then s.
 abbrev pub after_write : SteadyState → List ℕ → List ℕ → SteadyState
 after_write s name bytes = record s {
   files = (if is_admitted s.admitted name && nat_le (length bytes) s.room
-    then option_map (λ held. files.insert held name bytes) s.files
-    else None);
+      then option_map (λ held. files.insert held name bytes) s.files
+      else None);
 }

@@ -1,7 +1,8 @@
 //! What slots have under a name.
-ghost use Rattle.std.specs.Prelude.{◌≡◌, ◌≤◌, length, map, option_copied};
+ghost use Rattle.std.specs.Prelude.{◌≡◌, ◌≤◌, ◌&&◌, length, find, map, string_bytes, option_copied};
 ghost use Rattle.std.specs.Bool.{OnTrue, OnFalse};
 ghost use Rattle.std.specs.FinMap as files;
+ghost use Rattle.std.specs.Str.{bytes_eq};
 ghost use Rattle.shelf_io.specs.Slots.{name_of, files_in, IsReserved};
 ghost use Rattle.shelf_io.specs.SteadyShelf.{is_admitted};
 
@@ -14,16 +15,24 @@ pub fn is_admitted(slots: &[Slot], name: &str) -> bool
     place(slots, name).is_some()
 }
 
+/// The slot of the name, if it is present.
+fn present<'a>(slots: &'a [Slot], name: &str) -> Option<&'a Slot>
+    ensures { option_copied result
+        ≡ find (λ slot. slot.is_present && bytes_eq (string_bytes slot.name) name.now) slots.now }
+{
+    slots
+        .iter()
+        .find(|slot| slot.is_present && slot.name.as_str() == name)
+}
+
 /// The bytes of the name, if it is present.
 pub fn find<'a>(slots: &'a [Slot], name: &str) -> Option<&'a [u8]>
     ensures { option_copied result ≡ files.get (files_in slots.now) name.now }
 {
-    for slot in slots {
-        if slot.is_present && slot.name.as_str() == name {
-            return Some(slot.bytes.as_slice());
-        }
+    match present(slots, name) {
+        Some(slot) => Some(slot.bytes.as_slice()),
+        None => None,
     }
-    None
 }
 
 /// Puts the bytes under the name, if a slot has it.

@@ -104,12 +104,12 @@ module _ {S : Type 0} (holds : S → Option Files) (moment : S → Option ℕ) (
       elim (found_in saves chain.1 b rest.0 held after_at.0 m found chain.4 rest.1 last after_at.1 (omega (arith, le, before_at.2, after_at.2)) h) [
         | inr stage ↦ inr (suc stage.0, omega arith, subst (λ f. IsAtStage f saves stage.0 found) after_is stage.2)
         | inl after ↦ elim (chain.3.stops.only before_at.0 m found before_at.1 (omega (arith, le, before_at.2)) after) [
-            | inr torn ↦ inr (0, omega arith, subst (λ o. IsHeldElsewhere save.name o found) before_holds torn)
-            | inl before ↦ elim (chain.2.stops.only start m found at le before) [
-                | inl old ↦ inl old
-                | inr now ↦ inr (0, omega arith, subst (IsAtStage files (save ∷ saves) 0) (sym (subst (λ o. IsHeld o found) first now)) (first_stage files (save ∷ saves)))
-              ]
+          | inr torn ↦ inr (0, omega arith, subst (λ o. IsHeldElsewhere save.name o found) before_holds torn)
+          | inl before ↦ elim (chain.2.stops.only start m found at le before) [
+            | inl old ↦ inl old
+            | inr now ↦ inr (0, omega arith, subst (IsAtStage files (save ∷ saves) 0) (sym (subst (λ o. IsHeld o found) first now)) (first_stage files (save ∷ saves)))
           ]
+        ]
       ]
 
   known_moment : (saves : List Save) (a b : S) (start : ℕ) → Saves holds moment may_be_found saves a b → moment a ≡ Some start → (now : ℕ) × (moment b ≡ Some now) × (start ≤ now)
@@ -141,7 +141,7 @@ module _ {S : Type 0} (holds : S → Option Files) (moment : S → Option ℕ) (
         let mid_at = known_moment saves a b start chain at in
         elim (write.stops.only mid_at.0 start found mid_at.1 mid_at.2 h) [
           | inl before ↦
-            let stage = stages saves a b files mid.0 start found chain first mid.1 at before in
-            (stage.0, stage.1, stage_of_more files saves (save ∷ []) stage.0 found stage.2)
+              let stage = stages saves a b files mid.0 start found chain first mid.1 at before in
+              (stage.0, stage.1, stage_of_more files saves (save ∷ []) stage.0 found stage.2)
           | inr torn ↦ stage_in_write files saves save found (subst (λ f. SameElsewhere save.name f found) mid_is (subst (λ o. IsHeldElsewhere save.name o found) mid.1 torn))
         ]

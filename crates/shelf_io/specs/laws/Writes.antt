@@ -39,9 +39,9 @@ drop_all (w ∷ writes) = drop_all writes
 pub only_now : (writes : List Written) (now : ℕ) (held found : Files) → length writes ≡ now → files_after writes ≡ held → IsStopSince writes now found → found ≡ held
 only_now writes now held found at is stop =
     let here : IsStopOf (files_after (take (length writes) writes)) (drop (length writes) writes) found =
-        subst (λ n. IsStopSince writes n found) (sym at) stop in
+    subst (λ n. IsStopSince writes n found) (sym at) stop in
     let end : found ≡ files_after (take (length writes) writes) =
-        subst (λ l. IsStopOf (files_after (take (length writes) writes)) l found) (drop_all writes) here in
+    subst (λ l. IsStopOf (files_after (take (length writes) writes)) l found) (drop_all writes) here in
     end ∙ ap files_after (take-length writes) ∙ is
 
 -- a stop while one write more is made

@@ -10,7 +10,8 @@ returns-in_err-extend_from_slice-in-Ok-clause-front g c =
     let room = c.room_after-room.result in
     let le : length more ≤ room = omega (arith, c.in-Ok.ensures.bound.0, c.in-Ok.ensures.bound.1, c.read.auto.buf, length-take room c.loop-bytes.chunk) in
     let fits : (most : ℕ) → c.args.max ≡ Some most → length bytes ≤ most → length bytes + room ≤ most + 1 =
-        subst (λ (xs : List ℕ). (most : ℕ) → c.args.max ≡ Some most → length xs ≤ most → length xs + room ≤ most + 1) c.deref.ensures.value c.room_after-room.ensures.limit in
-    (bytes ++ more,
+    subst (λ (xs : List ℕ). (most : ℕ) → c.args.max ≡ Some most → length xs ≤ most → length xs + room ≤ most + 1) c.deref.ensures.value c.room_after-room.ensures.limit in (
+      bytes ++ more,
       consumes_then _ _ _ bytes more c.loop-bytes.invariant.front c.in-Ok.ensures.bytes.0,
-      nearly_read c.args.max bytes more room c.loop-bytes.invariant.within fits le)
+      nearly_read c.args.max bytes more room c.loop-bytes.invariant.within fits le,
+    )

@@ -30,11 +30,11 @@ pub loop-write-preserved : goal.loop-write-preserved
 loop-write-preserved c =
     elim c.if-eq.branch [
       | then-eq w ↦
-        ap option_copied w.found-is ∙ ap Some w.stored.ensures
-        ∙ sym (next c ∙ ap (λ b. cond b (Some (take c.write-item.result.count c.write-item.result.bytes.items))
-        (files.get (files_after (map written_of (take c.loop-write.write-index c.args.writes.now))) c.args.name.now)) w.if-eq.true)
+          ap option_copied w.found-is ∙ ap Some w.stored.ensures
+          ∙ sym (next c ∙ ap (λ b. cond b (Some (take c.write-item.result.count c.write-item.result.bytes.items))
+          (files.get (files_after (map written_of (take c.loop-write.write-index c.args.writes.now))) c.args.name.now)) w.if-eq.true)
       | else-eq w ↦
-        ap option_copied w.found-is ∙ c.loop-write.invariant
-        ∙ sym (next c ∙ ap (λ b. cond b (Some (take c.write-item.result.count c.write-item.result.bytes.items))
-        (files.get (files_after (map written_of (take c.loop-write.write-index c.args.writes.now))) c.args.name.now)) w.if-eq.false)
+          ap option_copied w.found-is ∙ c.loop-write.invariant
+          ∙ sym (next c ∙ ap (λ b. cond b (Some (take c.write-item.result.count c.write-item.result.bytes.items))
+          (files.get (files_after (map written_of (take c.loop-write.write-index c.args.writes.now))) c.args.name.now)) w.if-eq.false)
     ]
