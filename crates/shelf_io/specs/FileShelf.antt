@@ -1,9 +1,13 @@
 -- What is read of a file whose bytes are known.
 use Rattle.std.specs.Prelude.{◌≡◌, ◌+◌, ◌≤◌, ℕ, List, length, Option, Some, None}
 use Rattle.std.specs.Io.KnownBytes.{Consumes}
+use Rattle.shelf_io.specs.declared.file_shelf.FileShelf.{FileShelf}
 use Rattle.shelf_io.specs.Shelf.{IsOver, IsWithin}
 use Rattle.shelf_io.specs.declared.shelf.Loaded.{Loaded}
 use Rattle.shelf_io.specs.declared.shelf.Loaded.TheVariants.{Missing, TooLong, Bytes}
+
+abbrev pub fault_count : {R : Type 0} → FileShelf R → ℕ
+fault_count shelf = shelf.faults
 
 -- all bytes of the file if they are within the limit, and else that there are more
 abbrev pub IsRead : Option ℕ → List ℕ → Loaded → Type 0

@@ -1,7 +1,14 @@
 -- What a sink over a stream writes.
 use Rattle.std.specs.Prelude.{ℕ, List, take, Option, Result, Ok, Err}
 use Rattle.std.specs.Io.KnownBytes.{Appends}
+use Rattle.shelf_io.specs.declared.stream_sink.StreamSink.{StreamSink}
 use Rattle.shelf_io.specs.declared.sink.SinkFailed.{SinkFailed}
+
+abbrev pub stream_of : {W : Type 0} → StreamSink W → W
+stream_of sink = sink.writer
+
+abbrev pub fault_count : {W : Type 0} → StreamSink W → ℕ
+fault_count sink = sink.faults
 
 -- If the bytes that the stream has are known: an answer adds just the bytes taken. A failed put may add a front of the
 -- piece, since a flush may fail after the stream took it.

@@ -2,7 +2,7 @@
 ghost use Rattle.std.specs.Prelude.{◌≡◌, ◌<◌, ◌≤◌, ◌+◌, ◌⊎◌, ⊤, ℕ, length, Some, None, IfSome, IfOk, OnOk, IsErrOf};
 ghost use Rattle.std.specs.Io.KnownBytes.{Appends};
 ghost use Rattle.shelf_io.specs.Counts.{HasRisen};
-ghost use Rattle.shelf_io.specs.FileShelf.{IsRead, ReadsNearly};
+ghost use Rattle.shelf_io.specs.FileShelf.{fault_count, IsRead, ReadsNearly};
 ghost use Rattle.shelf_io.specs.Moments.{IsHeld, IsHeldElsewhere, Adds};
 ghost use Rattle.shelf_io.specs.Shelf.{Files, IsFound, KeepsLimit, WritesIfKnown};
 ghost use Rattle.shelf_io.specs.laws.Moments.{not_known};
@@ -16,7 +16,7 @@ use std::io::{ErrorKind, Read, Write};
 use std::rt::Files;
 use std::{fs, io};
 
-/// The files of the system. A name is a path. No clause says what they hold.
+/// The files of the system. A name is a path. What they hold is not known.
 #[derive(Drop)]
 pub struct FileShelf<'a, R> {
     rt: &'a R,
@@ -25,7 +25,7 @@ pub struct FileShelf<'a, R> {
 
 impl<'a, R: Files> FileShelf<'a, R> {
     pub fn new(rt: &'a R) -> FileShelf<'a, R>
-        ensures { result.faults ≡ 0 }
+        ensures { fault_count result ≡ 0 }
     {
         FileShelf { rt, faults: 0 }
     }
@@ -104,7 +104,7 @@ fn write_file<R: Files>(rt: &R, name: &str, bytes: &[u8]) -> io::Result<()> {
 impl<R: Files> Shelf for FileShelf<'_, R> {
     ghost holds = { λ _. None };
 
-    ghost faults = { λ s. s.faults };
+    ghost faults = { fault_count };
 
     ghost moment = { λ _. None };
 
@@ -117,10 +117,10 @@ impl<R: Files> Shelf for FileShelf<'_, R> {
     fn load(&mut self, alloc: Global, name: &str, max: Option<u64>) -> Result<Loaded, LoadFault>
         ensures found { (files : Files) → None ≡ Some files → IfOk result (IsFound files name.now max) }
         ensures limit { IfOk result (KeepsLimit max) }
-        ensures counted { self.old.faults ≤ self.new.faults }
-        ensures failed { IsErrOf result LoadFault.Failed → HasRisen self.old.faults self.new.faults }
+        ensures counted { fault_count self.old ≤ fault_count self.new }
+        ensures failed { IsErrOf result LoadFault.Failed → HasRisen (fault_count self.old) (fault_count self.new) }
         ensures stops { Adds None (λ _ _. ⊤) (λ _ _. ⊤) (IsHeld None) }
-        ensures only_failed { IsErrOf result LoadFault.Failed ⊎ (self.new.faults ≡ self.old.faults) }
+        ensures only_failed { IsErrOf result LoadFault.Failed ⊎ (fault_count self.new ≡ fault_count self.old) }
     {
         let answer = load_file(self.rt, alloc, name, max);
         if let Err(LoadFault::Failed) = answer {
@@ -131,10 +131,10 @@ impl<R: Files> Shelf for FileShelf<'_, R> {
 
     fn write(&mut self, _alloc: Global, name: &str, bytes: &[u8]) -> Result<(), WriteFault>
         ensures held { WritesIfKnown result name.now bytes.now None None }
-        ensures counted { self.old.faults ≤ self.new.faults }
-        ensures failed { IsErrOf result WriteFault.Failed → HasRisen self.old.faults self.new.faults }
+        ensures counted { fault_count self.old ≤ fault_count self.new }
+        ensures failed { IsErrOf result WriteFault.Failed → HasRisen (fault_count self.old) (fault_count self.new) }
         ensures stops { Adds None (λ _ _. ⊤) (λ _ _. ⊤) (IsHeldElsewhere name.now None) }
-        ensures only_failed { OnOk result (self.new.faults ≡ self.old.faults) }
+        ensures only_failed { OnOk result (fault_count self.new ≡ fault_count self.old) }
         ensures never_memory { ¬ IsErrOf result WriteFault.Memory }
     {
         match write_file(self.rt, name, bytes) {

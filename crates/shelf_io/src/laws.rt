@@ -6,6 +6,14 @@ ghost use Rattle.shelf_io.specs.declared.shelf.WriteFault.{WriteFault};
 
 use crate::Shelf;
 
+/// Between two calls a stop finds just the files held; and from every moment on it may find them.
+pub fn between_calls<H: Shelf>()
+    ensures only_held { (shelf : H) (now : ℕ) (held found : Files) → H.moment shelf ≡ Some now
+        → H.holds shelf ≡ Some held → H.may_be_found shelf now found → found ≡ held }
+    ensures held_is_found { (shelf : H) (now m : ℕ) (held : Files) → H.moment shelf ≡ Some now → m ≤ now
+        → H.holds shelf ≡ Some held → H.may_be_found shelf m held }
+{}
+
 /// A program that writes names one after the other: how it goes on by one call. The clauses of `load` and `write` are
 /// `Stays` and `Writes`.
 pub fn saves_go_on<H: Shelf>()

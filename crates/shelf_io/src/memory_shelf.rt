@@ -1,6 +1,7 @@
 //! A shelf in memory.
-ghost use Rattle.std.specs.Prelude.{◌≡◌, ◌≤◌, ◌⊎◌, ◌↔◌, [], ◌∷◌, ◌++◌, length, take, map, Some, None, IfOk, OnOk, OnErr, IsErrOf, IsTrue, option_copied};
+ghost use Rattle.std.specs.Prelude.{◌≡◌, ◌≤◌, ◌⊎◌, ◌↔◌, [], ◌∷◌, ◌++◌, length, take, map, find, reverse, string_bytes, Some, None, IfOk, OnOk, OnErr, IsErrOf, IsTrue, option_copied};
 ghost use Rattle.std.specs.FinMap as files;
+ghost use Rattle.std.specs.Str.{bytes_eq};
 ghost use Rattle.shelf_io.specs.Calls.{no_calls, is_stop, next_fails, after_call, with_failing};
 ghost use Rattle.shelf_io.specs.Counts.{HasRisen};
 ghost use Rattle.shelf_io.specs.Moments.{IsLater, IsHeld, IsHeldElsewhere, Adds};
@@ -47,17 +48,25 @@ fn record(
     Ok(())
 }
 
+/// The last write of a name.
+fn last_write<'a>(writes: &'a [WriteRecord], name: &str) -> Option<&'a WriteRecord>
+    ensures { option_copied result
+        ≡ find (λ write. bytes_eq (string_bytes write.name) name.now) (reverse writes.now) }
+{
+    writes
+        .iter()
+        .rev()
+        .find(|write| write.name.as_str() == name)
+}
+
 /// The bytes that the last write of a name left.
-fn find<'a>(writes: &'a [WriteRecord], name: &str) -> Option<&'a [u8]>
+fn stored<'a>(writes: &'a [WriteRecord], name: &str) -> Option<&'a [u8]>
     ensures { option_copied result ≡ files.get (files_after (map written_of writes.now)) name.now }
 {
-    let mut found = None;
-    for write in writes {
-        if write.name.as_str() == name {
-            found = Some(write.stored());
-        }
+    match last_write(writes, name) {
+        Some(write) => Some(write.stored()),
+        None => None,
     }
-    found
 }
 
 impl MemoryShelf {
@@ -89,7 +98,7 @@ impl MemoryShelf {
     pub fn get(&self, name: &str) -> Option<&[u8]>
         ensures { option_copied result ≡ files.get (held_files (shelf_state self.now)) name.now }
     {
-        find(&self.writes, name)
+        stored(&self.writes, name)
     }
 
     /// The load or write of this number fails.
@@ -155,7 +164,7 @@ impl Shelf for MemoryShelf {
         if self.calls.begin() {
             return Err(LoadFault::Failed);
         }
-        match find(&self.writes, name) {
+        match stored(&self.writes, name) {
             Some(bytes) if is_over(bytes, max) => Ok(Loaded::TooLong),
             Some(bytes) => Ok(Loaded::Bytes(Vec::from_slice(alloc, bytes)?)),
             None => Ok(Loaded::Missing),

@@ -2,7 +2,7 @@
 ghost use Rattle.std.specs.Prelude.{◌≡◌, ◌<◌, ◌≤◌, None, length, IfOk, OnOk, OnErr};
 ghost use Rattle.shelf_io.specs.Counts.{HasRisen};
 ghost use Rattle.shelf_io.specs.Sink.{Continues, accepted};
-ghost use Rattle.shelf_io.specs.StreamSink.{PutAppends};
+ghost use Rattle.shelf_io.specs.StreamSink.{stream_of, fault_count, PutAppends};
 
 use crate::counts::next_count;
 use crate::{Sink, SinkFailed};
@@ -17,8 +17,8 @@ pub struct StreamSink<W> {
 
 impl<W: Write> StreamSink<W> {
     pub fn new(w: W) -> StreamSink<W>
-        ensures writer { result.writer ≡ w }
-        ensures faults { result.faults ≡ 0 }
+        ensures stream { stream_of result ≡ w }
+        ensures faults { fault_count result ≡ 0 }
     {
         StreamSink {
             writer: w,
@@ -42,7 +42,7 @@ fn write_through<W: Write>(writer: &mut W, piece: &[u8]) -> Result<usize, SinkFa
 impl<W: Write> Sink for StreamSink<W> {
     ghost taken = { λ _. None };
 
-    ghost faults = { λ s. s.faults };
+    ghost faults = { fault_count };
 
     /// A piece is flushed before the answer, so that no buffer of the stream can lose it.
     fn put(&mut self, piece: &[u8]) -> Result<usize, SinkFailed>
@@ -50,10 +50,11 @@ impl<W: Write> Sink for StreamSink<W> {
         ensures some { IfOk result (λ n. 0 < n) }
         ensures within { IfOk result (λ n. n ≤ length piece.now) }
         ensures taken { Continues None (accepted result piece.now) None }
-        ensures counted { self.old.faults ≤ self.new.faults }
-        ensures failed { OnErr result (HasRisen self.old.faults self.new.faults) }
-        ensures only_failed { OnOk result (self.new.faults ≡ self.old.faults) }
-        ensures appends { PutAppends (W.contents self.old.writer) (W.contents self.new.writer) result piece.now }
+        ensures counted { fault_count self.old ≤ fault_count self.new }
+        ensures failed { OnErr result (HasRisen (fault_count self.old) (fault_count self.new)) }
+        ensures only_failed { OnOk result (fault_count self.new ≡ fault_count self.old) }
+        ensures appends { PutAppends (W.contents (stream_of self.old)) (W.contents (stream_of self.new)) result
+            piece.now }
     {
         let answer = write_through(&mut self.writer, piece);
         if answer.is_err() {
