@@ -46,6 +46,10 @@ pub fn stops_at_stages<H: Shelf>()
         → H.moment first ≡ Some start → H.may_be_found last start found
         → IsFromStage files (saves ++ save ∷ []) 0 found }
 
+    // a stage of some writes is one of these and further ones
+    ensures more { (files : Files) (saves more : List Save) (least : ℕ) (found : Files)
+        → IsFromStage files saves least found → IsFromStage files (saves ++ more) least found }
+
     // A stage of the writes that follow others is a later stage of all; so after a write with Ok no earlier one is found.
     ensures later { (files : Files) (saves more : List Save) (found : Files)
         → IsFromStage (files_saved files saves) more 0 found

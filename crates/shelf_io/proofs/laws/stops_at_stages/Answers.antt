@@ -1,5 +1,5 @@
 use Rattle.std.proofs.Common.{length, ◌+◌, refl, arith}
-use Rattle.shelf_io.specs.laws.Stages.{held_after, stages, stages_in_write, stage_after}
+use Rattle.shelf_io.specs.laws.Stages.{held_after, stages, stages_in_write, stage_of_more, stage_after}
 use Rattle.shelf_io.proofs.laws.stops_at_stages.Goals as goal
 
 pub returns-clause-held : goal.returns-clause-held
@@ -16,3 +16,7 @@ returns-clause-in_write g c =
 pub returns-clause-later : goal.returns-clause-later
 returns-clause-later g c = λ files saves more found stage.
     (length saves + stage.0, omega arith, stage_after files saves more stage.0 (length saves + stage.0) found refl stage.2)
+
+pub returns-clause-more : goal.returns-clause-more
+returns-clause-more g c = λ files saves more least found stage.
+    (stage.0, stage.1, stage_of_more files saves more stage.0 found stage.2)
