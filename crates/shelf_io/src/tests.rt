@@ -179,20 +179,21 @@ fn save_both_in_memory(
     save_both(alloc, shelf, first, second, bytes)
 }
 
+/// What two saves answer and leave, if the call of this number is stopped.
+fn two_saved(alloc: Global, stop: u64) -> Result<String, Fail> {
+    let mut shelf = MemoryShelf::new(alloc);
+    shelf.put("m", b"old")?;
+    shelf.stop_at(stop, 1);
+    let saved = save_both_in_memory(alloc, &mut shelf, "n", "m", b"ab");
+    let first = text_of(alloc, shelf.get("n").unwrap_or(b"absent"))?;
+    let second = text_of(alloc, shelf.get("m").unwrap_or(b"absent"))?;
+    Ok(format!(in alloc; "{saved:?} {first} {second}")?)
+}
+
 #[test]
 fn two_saves(rt: HostRuntime) -> Result<(), Fail> {
-    for (stop, answer, first, second) in [
-        (9, Ok(()), "ab", "ab"),
-        (2, Err(WriteFault::Failed), "ab", "a"),
-        (1, Err(WriteFault::Failed), "a", "old"),
-    ] {
-        let mut shelf = MemoryShelf::new(rt.alloc());
-        shelf.put("m", b"old")?;
-        shelf.stop_at(stop, 1);
-        let saved = save_both_in_memory(rt.alloc(), &mut shelf, "n", "m", b"ab");
-        assert_eq!(rt; saved, answer);
-        assert_eq!(rt; shelf.get("n"), Some(first.as_bytes()));
-        assert_eq!(rt; shelf.get("m"), Some(second.as_bytes()));
-    }
+    assert_eq!(rt; two_saved(rt.alloc(), 1)?.as_str(), "Err(Failed) a old");
+    assert_eq!(rt; two_saved(rt.alloc(), 2)?.as_str(), "Err(Failed) ab a");
+    assert_eq!(rt; two_saved(rt.alloc(), 3)?.as_str(), "Ok(()) ab ab");
     Ok(())
 }
