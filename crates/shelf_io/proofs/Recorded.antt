@@ -1,5 +1,5 @@
 -- What a write leaves, by its answer, and what a record of writes has of a name.
-use Rattle.std.proofs.Common.{◌≡◌, ℕ, List, [], ◌∷◌, ◌++◌, take, map, reverse, Bool, true, false, cond, string_bytes, Option, option_map, Some, Ok, Err, refl, sym, ap, subst, ◌∙◌}
+use Rattle.std.proofs.Common.{◌≡◌, ℕ, List, [], ◌∷◌, ◌++◌, length, take, map, reverse, Bool, true, false, cond, string_bytes, Option, option_map, Some, Ok, Err, refl, sym, ap, subst, ◌∙◌}
 use Rattle.std.proofs.lemmas.Option.{same_Some}
 use Rattle.std.proofs.lemmas.List.{map-append, reverse-reverse}
 use Rattle.std.proofs.lemmas.Grind.{reverse_onto}
@@ -11,9 +11,10 @@ use Rattle.std.specs.List.{find}
 use Rattle.std.specs.Str.{bytes_eq}
 use Rattle.shelf_io.proofs.Names.{get-insert_name}
 use Rattle.shelf_io.specs.Shelf.{Files, SameElsewhere, WritesIfKnown}
-use Rattle.shelf_io.specs.Writes.{Written, written_of, files_after}
+use Rattle.shelf_io.specs.Moments.{LeavesWritten}
+use Rattle.shelf_io.specs.Writes.{Written, written_of, files_after, IsStopSince}
 use Rattle.shelf_io.specs.laws.Moments.{insert_elsewhere}
-use Rattle.shelf_io.specs.laws.Writes.{files_after-append}
+use Rattle.shelf_io.specs.laws.Writes.{files_after-append, only_now}
 use Rattle.shelf_io.specs.declared.write_record.WriteRecord.{WriteRecord}
 use Rattle.shelf_io.specs.declared.shelf.WriteFault.{WriteFault}
 use Rattle.shelf_io.specs.declared.shelf.WriteFault.TheVariants.{Failed, Memory}
@@ -66,3 +67,10 @@ pub get-files_after : (writes : List WriteRecord) (name : List ℕ) → files.ge
     ≡ option_map stored_by (find (λ w. bytes_eq (string_bytes w.name) name) (reverse writes))
 get-files_after writes name =
     ap (λ ws. files.get (files_after (map written_of ws)) name) (sym (reverse-reverse writes)) ∙ found_back (reverse writes) name
+
+-- after all bytes were recorded, a stop finds just the new files
+pub left_written : (old new : List Written) (name bytes : List ℕ) → files_after new ≡ files.insert (files_after old) name bytes
+    → LeavesWritten (Some (length new)) (IsStopSince new) (Some (files_after old)) name bytes
+left_written old new name bytes is now held found at known stop =
+    only_now new now (files.insert held name bytes) found (same_Some _ _ at)
+    (is ∙ ap (λ f. files.insert f name bytes) (same_Some _ _ known)) stop

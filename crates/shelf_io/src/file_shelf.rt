@@ -3,7 +3,7 @@ ghost use Rattle.std.specs.Prelude.{◌≡◌, ◌<◌, ◌≤◌, ◌+◌, ◌�
 ghost use Rattle.std.specs.Io.KnownBytes.{Appends};
 ghost use Rattle.shelf_io.specs.Counts.{HasRisen};
 ghost use Rattle.shelf_io.specs.FileShelf.{fault_count, IsRead, ReadsNearly};
-ghost use Rattle.shelf_io.specs.Moments.{IsHeld, IsHeldElsewhere, Adds};
+ghost use Rattle.shelf_io.specs.Moments.{IsHeld, IsHeldElsewhere, Adds, LeavesWritten};
 ghost use Rattle.shelf_io.specs.Shelf.{Files, IsFound, KeepsLimit, WritesIfKnown};
 ghost use Rattle.shelf_io.specs.laws.Moments.{not_known};
 
@@ -134,6 +134,7 @@ impl<R: Files> Shelf for FileShelf<'_, R> {
         ensures counted { fault_count self.old ≤ fault_count self.new }
         ensures failed { IsErrOf result WriteFault.Failed → HasRisen (fault_count self.old) (fault_count self.new) }
         ensures stops { Adds None (λ _ _. ⊤) (λ _ _. ⊤) (IsHeldElsewhere name.now None) }
+        ensures left { OnOk result (LeavesWritten None (λ _ _. ⊤) None name.now bytes.now) }
         ensures only_failed { OnOk result (fault_count self.new ≡ fault_count self.old) }
         ensures never_memory { ¬ IsErrOf result WriteFault.Memory }
     {

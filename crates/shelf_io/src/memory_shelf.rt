@@ -4,7 +4,7 @@ ghost use Rattle.std.specs.FinMap as files;
 ghost use Rattle.std.specs.Str.{bytes_eq};
 ghost use Rattle.shelf_io.specs.Calls.{no_calls, is_stop, next_fails, after_call, with_failing};
 ghost use Rattle.shelf_io.specs.Counts.{HasRisen};
-ghost use Rattle.shelf_io.specs.Moments.{IsLater, IsHeld, IsHeldElsewhere, Adds};
+ghost use Rattle.shelf_io.specs.Moments.{IsLater, IsHeld, IsHeldElsewhere, Adds, LeavesWritten};
 ghost use Rattle.shelf_io.specs.Shelf.{Files, IsFound, KeepsLimit, WritesIfKnown};
 ghost use Rattle.shelf_io.specs.Writes.{written_of, files_after, IsStopSince};
 ghost use Rattle.shelf_io.specs.laws.Writes.{only_now, held_since};
@@ -184,6 +184,9 @@ impl Shelf for MemoryShelf {
         ensures stops { Adds (Some (length (shelf_state self.old).writes)) (IsStopSince (shelf_state self.old).writes)
             (IsStopSince (shelf_state self.new).writes)
             (IsHeldElsewhere name.now (Some (held_files (shelf_state self.old)))) }
+        ensures left { OnOk result (LeavesWritten (Some (length (shelf_state self.new).writes))
+            (IsStopSince (shelf_state self.new).writes) (Some (held_files (shelf_state self.old)))
+            name.now bytes.now) }
 
         // A call that is to fail is out of memory only if it is a write at the stop, which leaves bytes.
         ensures fails { IsTrue (next_fails (shelf_state self.old).calls)

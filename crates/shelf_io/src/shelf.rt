@@ -1,8 +1,8 @@
 //! Named files, as a trait.
-ghost use Rattle.std.specs.Prelude.{◌≡◌, ℕ, ◌≤◌, Option, Some, IfOk, IsErrOf};
+ghost use Rattle.std.specs.Prelude.{◌≡◌, ℕ, ◌≤◌, Option, Some, IfOk, OnOk, IsErrOf};
 ghost use Rattle.shelf_io.specs.Counts.{HasRisen};
 ghost use Rattle.std.specs.Bool.{OnTrue, OnFalse};
-ghost use Rattle.shelf_io.specs.Moments.{IsLater, IsHeld, IsHeldElsewhere, Adds};
+ghost use Rattle.shelf_io.specs.Moments.{IsLater, IsHeld, IsHeldElsewhere, Adds, LeavesWritten};
 ghost use Rattle.shelf_io.specs.Shelf.{Files, IsFound, IsOver, IsWithin, KeepsLimit, WritesIfKnown};
 ghost use Rattle.shelf_io.specs.declared.shelf.LoadFault.TheVariants.{Memory as no_room};
 ghost use Rattle.shelf_io.specs.declared.shelf.WriteFault.TheVariants.{Memory as no_memory};
@@ -103,9 +103,11 @@ pub trait Shelf {
         // a stop in the call finds what was held under every other name
         ensures later { IsLater (moment self.old) (moment self.new) }
         ensures stops { Adds (moment self.old) (may_be_found self.old) (may_be_found self.new)
-            (IsHeldElsewhere name.now (holds self.old)) };
+            (IsHeldElsewhere name.now (holds self.old)) }
+        ensures left { OnOk result (LeavesWritten (moment self.new) (may_be_found self.new) (holds self.old)
+            name.now bytes.now) };
 
-    /// Between two calls a stop finds just the files held; so after a write with Ok the new ones.
+    /// Between two calls a stop finds just the files held.
     ghost only_held: { (shelf : Self) (now : ℕ) (held found : Files) → moment shelf ≡ Some now
         → holds shelf ≡ Some held → may_be_found shelf now found → found ≡ held };
 

@@ -2,7 +2,7 @@
 ghost use Rattle.std.specs.Prelude.{◌≡◌, ◌≤◌, ⊤, [], Some, None, IfOk, IsOk, OnOk, OnErr, IsErrOf};
 ghost use Rattle.std.specs.FinMap as files;
 ghost use Rattle.shelf_io.specs.Counts.{HasRisen};
-ghost use Rattle.shelf_io.specs.Moments.{IsHeld, IsHeldElsewhere, Adds};
+ghost use Rattle.shelf_io.specs.Moments.{IsHeld, IsHeldElsewhere, Adds, LeavesWritten};
 ghost use Rattle.shelf_io.specs.Shelf.{Files, IsFound, KeepsLimit, WritesIfKnown};
 ghost use Rattle.shelf_io.specs.Slots.{IsReserved};
 ghost use Rattle.shelf_io.specs.laws.Moments.{not_known};
@@ -90,6 +90,7 @@ impl Shelf for SteadyShelf {
             (steady_state self.new).files }
         ensures counted { 0 ≤ 0 }
         ensures stops { Adds None (λ _ _. ⊤) (λ _ _. ⊤) (IsHeldElsewhere name.now (steady_state self.old).files) }
+        ensures left { OnOk result (LeavesWritten None (λ _ _. ⊤) (steady_state self.old).files name.now bytes.now) }
         ensures always { IsOk result }
         ensures after { steady_state self.new ≡ after_write (steady_state self.old) name.now bytes.now }
     {
