@@ -1,1 +1,5 @@
-pub mod Files
+pub mod Names
+pub mod Reading
+pub mod Recorded
+pub mod SlotLemmas
+pub mod SteadyLemmas

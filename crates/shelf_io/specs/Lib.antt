@@ -1,7 +1,16 @@
+pub mod Bounded
 pub mod Calls
 pub mod Counts
+pub mod FileShelf
 pub mod MemoryShelf
 pub mod MemorySink
+pub mod Moments
 pub mod Shelf
 pub mod Sink
-pub mod Stored
+pub mod Slots
+pub mod Stages
+pub mod SteadyShelf
+pub mod SteadySink
+pub mod StreamSink
+pub mod Writes
+pub mod laws

@@ -1,28 +1,43 @@
 -- What a shelf in memory is seen as.
-use Rattle.std.specs.Prelude.{ℕ, List, Result, Ok, Err}
-use Rattle.std.specs.FinMap as map
-use Rattle.shelf_io.specs.Calls.{Tally, tally, after_call}
+use Rattle.std.specs.Prelude.{ℕ, List, ◌∷◌, [], ◌++◌, map, length, Result, Ok, Err, if◌then◌else◌}
+use Rattle.shelf_io.specs.Calls.{Tally, tally, with_stop, is_stop, after_call}
 use Rattle.shelf_io.specs.Shelf.{Files}
-use Rattle.shelf_io.specs.Stored.{files_of}
+use Rattle.shelf_io.specs.Writes.{Written, written_of, files_after}
 use Rattle.shelf_io.specs.declared.memory_shelf.MemoryShelf.{MemoryShelf}
 use Rattle.shelf_io.specs.declared.shelf.WriteFault.{WriteFault}
+use Rattle.shelf_io.specs.declared.shelf.WriteFault.TheVariants.{Failed, Memory}
 
--- the files, and the calls of load and write so far
+-- the writes so far, the calls of load and write, and how many bytes a write leaves that is stopped
 pub record ShelfState : Type 0 where
-  pub files : Files
+  pub writes : List Written
   pub calls : Tally
+  pub keep : ℕ
 
 abbrev pub shelf_state : MemoryShelf → ShelfState
-shelf_state shelf = record { files = files_of shelf.files; calls = tally shelf.calls }
+shelf_state shelf = record { writes = map written_of shelf.writes.items; calls = tally shelf.calls; keep = shelf.keep }
 
--- the name has these bytes, and all else is as it was
-abbrev pub with_file : ShelfState → List ℕ → List ℕ → ShelfState
-with_file s name bytes = record { files = map.insert s.files name bytes; calls = s.calls }
+-- the files that the shelf holds
+abbrev pub held_files : ShelfState → Files
+held_files s = files_after s.writes
 
 abbrev pub with_calls : ShelfState → Tally → ShelfState
-with_calls s calls = record { files = s.files; calls = calls }
+with_calls s calls = record s { calls = calls }
 
--- after a write with this answer: the call counts, and the name has the bytes if the answer is Ok
-abbrev pub written : Result (Unit {0}) WriteFault → ShelfState → List ℕ → List ℕ → ShelfState
-written (Ok _) s name bytes = record { files = map.insert s.files name bytes; calls = after_call s.calls }
-written (Err _) s name bytes = record { files = s.files; calls = after_call s.calls }
+-- this call is the stop, and leaves so many bytes if it is a write
+abbrev pub stopped_at : ShelfState → ℕ → ℕ → ShelfState
+stopped_at s call keep = record s { calls = with_stop s.calls call; keep = keep }
+
+-- one write more, which leaves the first `count` bytes under the name
+abbrev pub with_write : ShelfState → List ℕ → List ℕ → ℕ → ShelfState
+with_write s name bytes count =
+    record s { writes = s.writes ++ record { name = name; bytes = bytes; count = count } ∷ [] }
+
+-- What a write with this answer leaves: all bytes under the name; the first of them, if it is the stop; or nothing.
+abbrev pub left_by : Result (Unit {0}) WriteFault → ShelfState → List ℕ → List ℕ → ShelfState
+left_by (Ok _) s name bytes = with_write s name bytes (length bytes)
+left_by (Err Failed) s name bytes = if is_stop s.calls then with_write s name bytes s.keep else s
+left_by (Err Memory) s name bytes = s
+
+-- the same, and the call counts
+abbrev pub after_write_call : Result (Unit {0}) WriteFault → ShelfState → List ℕ → List ℕ → ShelfState
+after_write_call result s name bytes = with_calls (left_by result s name bytes) (after_call s.calls)

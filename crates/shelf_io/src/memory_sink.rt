@@ -1,9 +1,11 @@
 //! A sink in memory.
-ghost use Rattle.std.specs.Prelude.{◌≡◌, ◌≤◌, ◌<◌, ◌↔◌, [], Some, min, length, IfOk, OnOk, OnErr, IsErr, IsTrue, vec_len, vec_capacity};
-ghost use Rattle.shelf_io.specs.Calls.{no_calls, next_fails, after_call, with_failing};
+ghost use Rattle.std.specs.Prelude.{◌≡◌, ◌≤◌, ◌<◌, ◌↔◌, min, length, IfOk, OnOk, OnErr, IsErr, IsTrue};
+ghost use Rattle.shelf_io.specs.Bounded.{no_bytes};
+ghost use Rattle.shelf_io.specs.Calls.{no_calls, next_fails, with_failing};
 ghost use Rattle.shelf_io.specs.Counts.{HasRisen};
 ghost use Rattle.shelf_io.specs.Sink.{Continues, accepted};
 
+use crate::bounded_bytes::BoundedBytes;
 use crate::calls::Calls;
 use crate::{ShelfMemory, Sink, SinkFailed};
 use std::alloc::Global;
@@ -12,13 +14,9 @@ use std::alloc::Global;
 #[derive(Drop)]
 pub struct MemorySink {
     most: usize,
-    room: usize,
-    bytes: Vec<u8>,
-    is_whole: bool,
+    bytes: BoundedBytes,
     calls: Calls,
     ghost some: { 0 < most },
-    ghost within: { vec_len bytes ≤ room },
-    ghost reserved: { room ≤ vec_capacity bytes },
 }
 
 impl MemorySink {
@@ -28,13 +26,11 @@ impl MemorySink {
     pub fn new(alloc: Global, most: usize, room: usize) -> Result<MemorySink, ShelfMemory>
         requires { 0 < most }
         ensures { IfOk result (λ s. sink_state s
-            ≡ record { most = most; room = room; taken = Some []; in_room = []; calls = no_calls }) }
+            ≡ record { most = most; bytes = no_bytes room; calls = no_calls }) }
     {
         Ok(MemorySink {
             most,
-            room,
-            bytes: Vec::with_capacity(alloc, room)?,
-            is_whole: true,
+            bytes: BoundedBytes::new(alloc, room)?,
             calls: Calls::new(alloc),
         })
     }
@@ -50,9 +46,9 @@ impl MemorySink {
 
     /// The bytes taken within the room.
     pub fn bytes(&self) -> &[u8]
-        ensures { result.now ≡ (sink_state self.now).in_room }
+        ensures { result.now ≡ (sink_state self.now).bytes.in_room }
     {
-        &self.bytes
+        self.bytes.as_slice()
     }
 
     /// How often a put has failed.
@@ -64,9 +60,9 @@ impl MemorySink {
 }
 
 impl Sink for MemorySink {
-    ghost use Rattle.shelf_io.specs.MemorySink.{sink_state, with_calls, with_bytes};
+    ghost use Rattle.shelf_io.specs.MemorySink.{sink_state, after_put};
 
-    ghost taken = { λ s. (sink_state s).taken };
+    ghost taken = { λ s. (sink_state s).bytes.taken };
 
     ghost faults = { λ s. (sink_state s).calls.faults };
 
@@ -74,23 +70,19 @@ impl Sink for MemorySink {
         requires { 0 < length piece.now }
         ensures some { IfOk result (λ n. 0 < n) }
         ensures within { IfOk result (λ n. n ≤ length piece.now) }
-        ensures taken { Continues (sink_state self.old).taken (accepted result piece.now) (sink_state self.new).taken }
+        ensures taken { Continues (sink_state self.old).bytes.taken (accepted result piece.now)
+            (sink_state self.new).bytes.taken }
         ensures counted { (sink_state self.old).calls.faults ≤ (sink_state self.new).calls.faults }
         ensures failed { OnErr result (HasRisen (sink_state self.old).calls.faults (sink_state self.new).calls.faults) }
         ensures fails { IsErr result ↔ IsTrue (next_fails (sink_state self.old).calls) }
         ensures most { IfOk result (λ n. n ≡ min (sink_state self.old).most (length piece.now)) }
-        ensures after { sink_state self.new
-            ≡ with_bytes (sink_state self.old) (accepted result piece.now) (after_call (sink_state self.old).calls) }
+        ensures after { sink_state self.new ≡ after_put (sink_state self.old) (accepted result piece.now) }
     {
         if self.calls.begin() {
             return Err(SinkFailed);
         }
         let count = self.most.min(piece.len());
-        let spare = self.room - self.bytes.len();
-        if count > spare {
-            self.is_whole = false;
-        }
-        let _ = self.bytes.extend_from_slice(&piece[..count.min(spare)]);
+        self.bytes.take(&piece[..count]);
         Ok(count)
     }
 }
