@@ -1,12 +1,12 @@
 -- What is judged on a sum of terms is so for the polynomial that is the sum.
-use Rattle.std.proofs.Common.{◌≡◌, ◌≢◌, inl, inr, ℕ, ◌≤◌, Bool, true, false, not, cond, eqb, List, [], ◌∷◌, map, filter, Ok, Err, refl, sym, ap, subst, ◌∙◌, arith, eq-eqb}
+use Rattle.std.proofs.Common.{◌≡◌, ◌≢◌, ◌⊎◌, inl, inr, ℕ, ◌≤◌, Bool, true, false, not, cond, eqb, List, [], ◌∷◌, map, filter, Ok, Err, refl, sym, ap, subst, ◌∙◌, arith, eq-eqb}
 use Rattle.std.specs.List.{list_all, list_any, AllByRecursion}
 use Rattle.std.proofs.lemmas.Bool.{and_parts, or_parts, eqb-true, false_from_ne_true, not-true, not_from_false, true≢false}
 use Rattle.word_field.specs.Residues.{residues, is_listed}
 use Rattle.word_field.specs.laws.Residues.{residues_field}
 use Rattle.monomial_order.specs.declared.terms.Term.{Term}
 use Rattle.monomial_order.specs.MonomialOrder.{MonomialOrder, IsMonomialOrder}
-use Rattle.polynomials.specs.Polynomial.{Polynomial, coefficient, Same, AllAt, IsCanonical, IsDegree, IsZeroOrHomogeneous}
+use Rattle.polynomials.specs.Polynomial.{Polynomial, coefficient, Same, AllAt, IsCanonical, IsDecreasing, IsDegree, IsHomogeneous, IsZeroOrHomogeneous}
 use Rattle.polynomials.specs.laws.Decreasing.{coefficient_first}
 use Rattle.polynomials.specs.laws.Degrees.{all_found}
 use Rattle.poly_core.specs.Presentation.{IsCanonicalGenerator}
@@ -137,6 +137,25 @@ module _ (n : ℕ) (listed : is_listed n ≡ true) (O : MonomialOrder) (L : IsMo
           | false ↦ λ e. absurd (every (λ k. k ≢ 0) (zero_none (degrees n O sum) e) greatest.some.0 (in_sum greatest.some.0 greatest.some.1) (greatest.some.2 ∙ zero))
         ] refl in
         rw (one_degree same, there) refl
+
+    -- ---- what passes
+
+    none_left : (q : Polynomial ℕ) → IsDecreasing (residues n) O q → Same (residues n) q [] → q ≡ []
+    unfolding coefficient
+    none_left [] h none = refl
+    none_left (t ∷ q) h none = absurd (h.0.nonzero (sym (coefficient_first (residues n) (residues_field n listed) O L t q h.0) ∙ none t.at))
+
+    pub passed_generator : IsCanonical (residues n) O p → IsLow O sum → is_one_degree (degrees n O sum) ≡ true → list_any (λ d. eqb d 0) (degrees n O sum) ≡ false → IsCanonicalGenerator (residues n) O p
+    passed_generator canonical low one positive = record { canonical = canonical; homogeneous = by (is_homogeneous canonical one) }
+      where
+        by : IsZeroOrHomogeneous (residues n) O p → (p ≡ []) ⊎ ((d : ℕ) × (1 ≤ d) × (d ≤ degree_max) × IsHomogeneous (residues n) O d p)
+        by (inl none) = inl (none_left p canonical.decreasing none)
+        by (inr (d, same)) =
+            let at : O.degree same.some.0 ≡ d = same.each same.some.0 same.some.1 in
+            let there = in_sum same.some.0 same.some.1 in
+            let nonzero : O.degree same.some.0 ≢ 0 = every (λ k. k ≢ 0) (zero_none (degrees n O sum) positive) same.some.0 there in
+            let top : O.degree same.some.0 ≤ degree_max = all_found (residues n) (residues_field n listed) O L (λ m. O.degree m ≤ degree_max) sum low same.some.0 there in
+            inr (d, omega (arith, nonzero, at), omega (arith, top, at), same)
 
 -- ---- generators
 
