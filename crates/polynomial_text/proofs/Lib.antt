@@ -1,5 +1,6 @@
 pub mod CanonicalReading
 pub mod Fronts
+pub mod GrammarRead
 pub mod LineAlong
 pub mod LineDigits
 pub mod LineParts
