@@ -1,6 +1,7 @@
 pub mod CanonicalReading
 pub mod Fronts
 pub mod GrammarRead
+pub mod GrammarReads
 pub mod LineAlong
 pub mod LineDigits
 pub mod LineParts
