@@ -2,7 +2,8 @@
 use Rattle.std.proofs.Common.{◌≡◌, ℕ, zero, suc, ◌<◌, ◌≤◌, ◌+◌, Bool, true, false, cond, not, ◌||◌, eqb, List, [], ◌∷◌, ◌++◌, length, Option, Some, None, Result, Ok, Err, nat_le, refl, sym, ap, subst, ◌∙◌, append_assoc, append-nil, inl, inr, arith}
 use Rattle.std.specs.List.{list_all, slice_split, join_with_byte}
 use Rattle.std.specs.Str.Parse.{digits_value}
-use Rattle.std.proofs.lemmas.Bool.{leb-true, eqb-true}
+use Rattle.std.specs.Prelude.{◌⊎◌}
+use Rattle.std.proofs.lemmas.Bool.{leb-true, eqb-true, and_parts}
 use Rattle.std.proofs.lemmas.List.{length-append}
 use Rattle.std.proofs.lemmas.List.Splits.{length-slice_split, join_with_byte-slice_split}
 use Rattle.word_field.specs.Field.{FieldOps}
@@ -16,11 +17,12 @@ use Rattle.poly_core.specs.Names.{name_at, is_letter, is_name_byte}
 use Rattle.polynomial_text.specs.declared.line_fault.LineKind.{LineKind}
 use Rattle.polynomial_text.specs.declared.line_fault.LineKind.TheVariants.{PolySyntax, NumberTooLong, DegreeTooLarge}
 use Rattle.polynomial_text.specs.Results.{◌>>=◌, along, each}
-use Rattle.polynomial_text.specs.Bytes.{is_blank, is_digit, is_sign, front, behind}
+use Rattle.polynomial_text.specs.Bytes.{is_blank, is_digit, is_sign, front, behind, Stops}
 use Rattle.polynomial_text.specs.PolyLine.{number_at, exponent_at, power, place_of, is_named, power_at, factor_at, with_factor, sign, term_at, behind_sign, signed_parts, terms_of}
 use Rattle.polynomial_text.specs.Grammar.{AreBlanks, IsNumber, IsRaised, IsExponent, sign_byte, IsConstant, IsPower, IsSpacedFactor, IsNextProduct, IsProduct, one_factor, factors, IsTermOf, IsSum, one_term, terms, IsSigned, IsLine}
+use Rattle.polynomial_text.specs.GrammarFaults.{EndsExponent, EndsFactor}
 use Rattle.polynomial_text.specs.laws.CanonicalParts.{all_append}
-use Rattle.polynomial_text.specs.laws.Fronts.{Stops, behind_stops}
+use Rattle.polynomial_text.specs.laws.Fronts.{behind_stops}
 use Rattle.polynomial_text.specs.laws.Names.{named_is, place_below}
 use Rattle.polynomial_text.specs.laws.Steps.{step_ok, chosen, same_ok}
 use Rattle.polynomial_text.proofs.Fronts.{front_passes}
@@ -42,47 +44,64 @@ not_false false h = absurd cc
 -- ---- numbers and exponents
 
 -- a token at the front, what is behind it, and what was left when it was read, which differ by blanks alone
-record IsRead (Q : List ℕ → Type 0) (bytes left : List ℕ) : Type 0 where
-  token : List ℕ
-  back : List ℕ
-  is : bytes ≡ token ++ back
-  reads : Q token
-  blank : AreBlanks left → AreBlanks back
+pub record IsRead (Q : List ℕ → List ℕ → Type 0) (bytes left : List ℕ) : Type 0 where
+  pub token : List ℕ
+  pub back : List ℕ
+  pub is : bytes ≡ token ++ back
+  pub reads : Q token back
+  pub blank : AreBlanks left → AreBlanks back
+  pub blank_left : AreBlanks back → AreBlanks left
 
-number_read : (bytes : List ℕ) (x : ℕ × List ℕ) → number_at bytes ≡ Ok x → IsRead (λ digits. IsNumber digits x.0) bytes x.1
+abbrev IsNumberRead : ℕ → List ℕ → List ℕ → Type 0
+IsNumberRead n digits back = IsNumber digits n × Stops is_digit back
+
+abbrev IsExponentRead : ℕ → List ℕ → List ℕ → Type 0
+IsExponentRead n token back = (e : IsExponent token n) × EndsExponent e back
+
+number_read : (bytes : List ℕ) (x : ℕ × List ℕ) → number_at bytes ≡ Ok x → IsRead (IsNumberRead x.0) bytes x.1
 unfolding number_at
 number_read bytes x e = judged (front is_digit bytes) refl e
   where
-    chosen_few : (ds : List ℕ) → front is_digit bytes ≡ ds → 1 ≤ length ds → (b : Bool) → nat_le (length ds) 18 ≡ b → cond b (Ok (digits_value 10 ds, behind is_digit bytes)) (Err NumberTooLong) ≡ Ok x →
-        IsRead (λ digits. IsNumber digits x.0) bytes x.1
+    chosen_few : (ds : List ℕ) → front is_digit bytes ≡ ds → 1 ≤ length ds → (b : Bool) → nat_le (length ds) 18 ≡ b → cond b (Ok (digits_value 10 ds, behind is_digit bytes)) (Err NumberTooLong) ≡ Ok x → IsRead (IsNumberRead x.0) bytes x.1
     chosen_few ds is some b few h =
         let k = chosen b (Ok (digits_value 10 ds, behind is_digit bytes)) NumberTooLong x h in
         let same : (digits_value 10 ds, behind is_digit bytes) ≡ x = same_ok _ x k.1 in
         let all : list_all is_digit ds ≡ true = subst (λ (l : List ℕ). list_all is_digit l ≡ true) is (front_passes is_digit bytes) in
         let whole : bytes ≡ ds ++ behind is_digit bytes = front_behind is_digit bytes ∙ ap (λ (l : List ℕ). l ++ behind is_digit bytes) is in
-        subst (λ (y : ℕ × List ℕ). IsRead (λ digits. IsNumber digits y.0) bytes y.1) same
-        (record { token = ds; back = behind is_digit bytes; is = whole; reads = record { digits = all; some = some; few = leb-true (length ds) 18 (few ∙ k.0); value = refl }; blank = λ h. h })
+        subst (λ (y : ℕ × List ℕ). IsRead (IsNumberRead y.0) bytes y.1) same (record {
+          token = ds;
+          back = behind is_digit bytes;
+          is = whole;
+          reads = (record { digits = all; some = some; few = leb-true (length ds) 18 (few ∙ k.0); value = refl }, behind_stops is_digit bytes);
+          blank = λ h. h;
+          blank_left = λ h. h;
+        })
 
-    judged : (ds : List ℕ) → front is_digit bytes ≡ ds → number_at bytes ≡ Ok x → IsRead (λ digits. IsNumber digits x.0) bytes x.1
+    judged : (ds : List ℕ) → front is_digit bytes ≡ ds → number_at bytes ≡ Ok x → IsRead (IsNumberRead x.0) bytes x.1
     judged [] is h = let k = rw is at h in absurd cc
     judged (d ∷ ds) is h = let k = rw is at h in chosen_few (d ∷ ds) is (omega arith) (nat_le (length (d ∷ ds)) 18) refl k
 
-exponent_read : (bytes : List ℕ) (x : ℕ × List ℕ) → exponent_at bytes ≡ Ok x → IsRead (λ token. IsExponent token x.0) bytes x.1
-unfolding exponent_at
-exponent_read bytes x e = raised (behind is_blank bytes) refl e
-  where
-    none : (rest : List ℕ) → behind is_blank bytes ≡ rest → (1, rest) ≡ x → IsRead (λ token. IsExponent token x.0) bytes x.1
-    none rest is same = subst (λ (y : ℕ × List ℕ). IsRead (λ token. IsExponent token y.0) bytes y.1) same (record {
-      token = [];
-      back = bytes;
-      is = refl;
-      reads = inl (refl, refl);
-      blank = λ h.
-          let whole : bytes ≡ front is_blank bytes ++ rest = front_behind is_blank bytes ∙ ap (λ (l : List ℕ). front is_blank bytes ++ l) is in
-          subst AreBlanks (sym whole) (all_append is_blank (front is_blank bytes) rest (front_passes is_blank bytes) h);
-    })
+blanks_behind : (xs ys : List ℕ) → AreBlanks (xs ++ ys) → AreBlanks ys
+blanks_behind [] ys h = h
+blanks_behind (x ∷ xs) ys h = blanks_behind xs ys (and_parts (is_blank x) (list_all is_blank (xs ++ ys)) h).1
 
-    some : (rest : List ℕ) → behind is_blank bytes ≡ 94 ∷ rest → number_at (behind is_blank rest) ≡ Ok x → IsRead (λ token. IsExponent token x.0) bytes x.1
+exponent_read : (bytes : List ℕ) (x : ℕ × List ℕ) → Stops is_name_byte bytes → exponent_at bytes ≡ Ok x → IsRead (IsExponentRead x.0) bytes x.1
+unfolding exponent_at
+exponent_read bytes x stop e = raised (behind is_blank bytes) refl e
+  where
+    none : (rest : List ℕ) → behind is_blank bytes ≡ rest → Stops (λ b. eqb b 94) rest → (1, rest) ≡ x → IsRead (IsExponentRead x.0) bytes x.1
+    none rest is other same =
+        let whole : bytes ≡ front is_blank bytes ++ rest = front_behind is_blank bytes ∙ ap (λ (l : List ℕ). front is_blank bytes ++ l) is in
+        subst (λ (y : ℕ × List ℕ). IsRead (IsExponentRead y.0) bytes y.1) same (record {
+          token = [];
+          back = bytes;
+          is = refl;
+          reads = (inl (refl, refl), (stop, subst (Stops (λ b. eqb b 94)) (sym is) other));
+          blank = λ h. subst AreBlanks (sym whole) (all_append is_blank (front is_blank bytes) rest (front_passes is_blank bytes) h);
+          blank_left = λ h. blanks_behind (front is_blank bytes) rest (subst AreBlanks whole h);
+        })
+
+    some : (rest : List ℕ) → behind is_blank bytes ≡ 94 ∷ rest → number_at (behind is_blank rest) ≡ Ok x → IsRead (IsExponentRead x.0) bytes x.1
     some rest is h =
         let n = number_read (behind is_blank rest) x h in
         let first : List ℕ = front is_blank bytes in
@@ -95,16 +114,17 @@ exponent_read bytes x e = raised (behind is_blank bytes) refl e
           token = first ++ (94 ∷ (second ++ n.token));
           back = n.back;
           is = whole ∙ regroup;
-          reads = inr (record { before = first; between = second; number = n.token; is = refl; blank_before = front_passes is_blank bytes; blank_between = front_passes is_blank rest; exponent = n.reads });
+          reads = (inr (record { before = first; between = second; number = n.token; is = refl; blank_before = front_passes is_blank bytes; blank_between = front_passes is_blank rest; exponent = n.reads.0 }), n.reads.1);
           blank = n.blank;
+          blank_left = n.blank_left;
         }
 
-    begun : (b : ℕ) (rest : List ℕ) → behind is_blank bytes ≡ b ∷ rest → (t : Bool) → eqb b 94 ≡ t → cond t (number_at (behind is_blank rest)) (Ok (1, b ∷ rest)) ≡ Ok x → IsRead (λ token. IsExponent token x.0) bytes x.1
+    begun : (b : ℕ) (rest : List ℕ) → behind is_blank bytes ≡ b ∷ rest → (t : Bool) → eqb b 94 ≡ t → cond t (number_at (behind is_blank rest)) (Ok (1, b ∷ rest)) ≡ Ok x → IsRead (IsExponentRead x.0) bytes x.1
     begun b rest is true t h = some rest (is ∙ ap (λ (c : ℕ). c ∷ rest) (eqb-true b 94 t)) h
-    begun b rest is false t h = none (b ∷ rest) is (same_ok _ x h)
+    begun b rest is false t h = none (b ∷ rest) is t (same_ok _ x h)
 
-    raised : (rest : List ℕ) → behind is_blank bytes ≡ rest → exponent_at bytes ≡ Ok x → IsRead (λ token. IsExponent token x.0) bytes x.1
-    raised [] is h = let k = rw is at h in none [] is (same_ok _ x k)
+    raised : (rest : List ℕ) → behind is_blank bytes ≡ rest → exponent_at bytes ≡ Ok x → IsRead (IsExponentRead x.0) bytes x.1
+    raised [] is h = let k = rw is at h in none [] is tt (same_ok _ x k)
     raised (b ∷ rest) is h = let k = rw is at h in begun b rest is (eqb b 94) refl k
 
 place_is_named : (names : Names) (n i : ℕ) (word : List ℕ) → place_of names n word ≡ Some i → name_at names i ≡ Some word
@@ -119,57 +139,67 @@ place_is_named names (suc n) i word e =
 module _ {E : Type 0} (K : FieldOps E) (O : MonomialOrder) (names : Names) where
   -- ---- factors
 
-  power_read : (bytes : List ℕ) (x : Term E × List ℕ) → power_at K O names bytes ≡ Ok x → IsRead (λ token. IsPower K O names token x.0) bytes x.1
+  abbrev IsPowerRead : Term E → List ℕ → List ℕ → Type 0
+  IsPowerRead x token back = (p : IsPower K O names token x) × EndsExponent p.raised back
+
+  power_read : (bytes : List ℕ) (x : Term E × List ℕ) → power_at K O names bytes ≡ Ok x → IsRead (IsPowerRead x.0) bytes x.1
   unfolding power_at
   power_read bytes x e = placed (place_of names O.places (front is_name_byte bytes)) refl e
     where
-      placed : (r : Option ℕ) → place_of names O.places (front is_name_byte bytes) ≡ r → power_at K O names bytes ≡ Ok x → IsRead (λ token. IsPower K O names token x.0) bytes x.1
+      placed : (r : Option ℕ) → place_of names O.places (front is_name_byte bytes) ≡ r → power_at K O names bytes ≡ Ok x → IsRead (IsPowerRead x.0) bytes x.1
       placed None is h = let k = rw is at h in absurd cc
       placed (Some i) is h =
           let k = rw is at h in
           let name : List ℕ = front is_name_byte bytes in
           let n = step_ok (exponent_at (behind is_name_byte bytes)) (λ e. Ok (term_of (power i e.0) K.one, e.1)) x k in
-          let r = exponent_read (behind is_name_byte bytes) n.0 n.1 in
+          let r = exponent_read (behind is_name_byte bytes) n.0 (behind_stops is_name_byte bytes) n.1 in
           let whole : bytes ≡ (name ++ r.token) ++ r.back = front_behind is_name_byte bytes ∙ ap (λ (l : List ℕ). name ++ l) r.is ∙ sym (append_assoc name r.token r.back) in
-          subst (λ (y : Term E × List ℕ). IsRead (λ token. IsPower K O names token y.0) bytes y.1) (same_ok (term_of (power i n.0.0) K.one, n.0.1) x n.2)
+          subst (λ (y : Term E × List ℕ). IsRead (IsPowerRead y.0) bytes y.1) (same_ok (term_of (power i n.0.0) K.one, n.0.1) x n.2)
           (record {
             token = name ++ r.token;
             back = r.back;
             is = whole;
-            reads = record {
-              name = name;
-              behind = r.token;
-              place = i;
-              exponent = n.0.0;
-              is = refl;
-              inside = place_below O.places names name i (sym is);
-              named = place_is_named names O.places i name is;
-              raised = r.reads;
-              means = refl;
-            };
+            reads = (
+              record {
+                name = name;
+                behind = r.token;
+                place = i;
+                exponent = n.0.0;
+                is = refl;
+                inside = place_below O.places names name i (sym is);
+                named = place_is_named names O.places i name is;
+                raised = r.reads.0;
+                means = refl;
+              },
+              r.reads.1,
+            );
             blank = r.blank;
+            blank_left = r.blank_left;
           })
 
-  constant_read : (bytes : List ℕ) (x : Term E × List ℕ) → (number_at bytes >>= λ n. Ok (term_of [] (K.of_word n.0), n.1)) ≡ Ok x → IsRead (λ token. IsConstant K O names token x.0) bytes x.1
+  abbrev IsConstantRead : Term E → List ℕ → List ℕ → Type 0
+  IsConstantRead x token back = IsConstant K O names token x × Stops is_digit back
+
+  constant_read : (bytes : List ℕ) (x : Term E × List ℕ) → (number_at bytes >>= λ n. Ok (term_of [] (K.of_word n.0), n.1)) ≡ Ok x → IsRead (IsConstantRead x.0) bytes x.1
   constant_read bytes x h =
       let n = step_ok (number_at bytes) (λ n. Ok (term_of [] (K.of_word n.0), n.1)) x h in
       let r = number_read bytes n.0 n.1 in
-      subst (λ (y : Term E × List ℕ). IsRead (λ token. IsConstant K O names token y.0) bytes y.1) (same_ok (term_of [] (K.of_word n.0.0), n.0.1) x n.2)
-      (record { token = r.token; back = r.back; is = r.is; reads = record { number = n.0.0; is = r.reads; means = refl }; blank = r.blank })
+      subst (λ (y : Term E × List ℕ). IsRead (IsConstantRead y.0) bytes y.1) (same_ok (term_of [] (K.of_word n.0.0), n.0.1) x n.2)
+      (record { token = r.token; back = r.back; is = r.is; reads = (record { number = n.0.0; is = r.reads.0; means = refl }, r.reads.1); blank = r.blank; blank_left = r.blank_left })
 
-  abbrev IsFactorText : List ℕ → Term E → Type 0
-  IsFactorText token x = Rattle.std.proofs.Common.◌⊎◌ (IsConstant K O names token x) (IsPower K O names token x)
+  abbrev pub IsFactorRead : Term E → List ℕ → List ℕ → Type 0
+  IsFactorRead x token back = (f : IsConstant K O names token x ⊎ IsPower K O names token x) × EndsFactor K O names f back
 
-  factor_read : (bytes : List ℕ) (x : Term E × List ℕ) → factor_at K O names bytes ≡ Ok x → IsRead (λ token. IsFactorText token x.0) bytes x.1
+  pub factor_read : (bytes : List ℕ) (x : Term E × List ℕ) → factor_at K O names bytes ≡ Ok x → IsRead (IsFactorRead x.0) bytes x.1
   unfolding factor_at
   factor_read [] x e = absurd cc
   factor_read (b ∷ bytes) x e =
-      elim (is_digit b) as (λ t. cond t (number_at (b ∷ bytes) >>= λ n. Ok (term_of [] (K.of_word n.0), n.1)) (cond (is_letter b) (power_at K O names (b ∷ bytes)) (Err PolySyntax)) ≡ Ok x → IsRead (λ token. IsFactorText token x.0) (b ∷ bytes) x.1) [
-        | true ↦ λ h. let r = constant_read (b ∷ bytes) x h in record { token = r.token; back = r.back; is = r.is; reads = inl r.reads; blank = r.blank }
+      elim (is_digit b) as (λ t. cond t (number_at (b ∷ bytes) >>= λ n. Ok (term_of [] (K.of_word n.0), n.1)) (cond (is_letter b) (power_at K O names (b ∷ bytes)) (Err PolySyntax)) ≡ Ok x → IsRead (IsFactorRead x.0) (b ∷ bytes) x.1) [
+        | true ↦ λ h. let r = constant_read (b ∷ bytes) x h in record { token = r.token; back = r.back; is = r.is; reads = (inl r.reads.0, r.reads.1); blank = r.blank; blank_left = r.blank_left }
         | false ↦ λ h.
             let g = chosen (is_letter b) (power_at K O names (b ∷ bytes)) PolySyntax x h in
             let r = power_read (b ∷ bytes) x g.1 in
-            record { token = r.token; back = r.back; is = r.is; reads = inr r.reads; blank = r.blank }
+            record { token = r.token; back = r.back; is = r.is; reads = (inr r.reads.0, r.reads.1); blank = r.blank; blank_left = r.blank_left }
       ] e
 
   -- one more factor
@@ -198,7 +228,7 @@ module _ {E : Type 0} (K : FieldOps E) (O : MonomialOrder) (names : Names) where
               is = front_behind is_blank part ∙ ap (λ (l : List ℕ). front is_blank part ++ l) r.is;
               blank_before = front_passes is_blank part;
               blank_behind = r.blank (rest ∙ two.0);
-              reads = r.reads;
+              reads = r.reads.0;
             };
             product = record { is = sym same; small = subst (λ (v : Term E). O.degree v.at ≤ degree_max) same (leb-true (O.degree (product t.at x.0.at)) degree_max (is ∙ one.0)) };
           }

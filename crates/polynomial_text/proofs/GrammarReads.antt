@@ -14,13 +14,12 @@ use Rattle.polynomials.specs.Polynomial.{Polynomial, term_of, term_times}
 use Rattle.poly_core.specs.declared.place_names.Names.{Names}
 use Rattle.poly_core.specs.Names.{name_at, is_name_byte, has_name_form}
 use Rattle.polynomial_text.specs.Results.{◌>>=◌, along, each}
-use Rattle.polynomial_text.specs.Bytes.{digits_max, is_blank, is_digit, is_sign, front, behind}
+use Rattle.polynomial_text.specs.Bytes.{digits_max, is_blank, is_digit, is_sign, front, behind, Stops}
 use Rattle.polynomial_text.specs.Canonical.{AreDifferent}
 use Rattle.polynomial_text.specs.PolyLine.{number_at, exponent_at, power, place_of, factor_at, with_factor, sign, term_at, behind_sign, signed_parts, terms_of}
 use Rattle.polynomial_text.specs.Grammar.{AreBlanks, IsNumber, IsRaised, IsExponent, sign_byte, IsConstant, IsPower, IsSpacedFactor, IsNextProduct, IsProduct, one_factor, factors, IsTermOf, IsSum, one_term, terms, IsSigned, IsLine}
 use Rattle.polynomial_text.specs.laws.CanonicalFactors.{exponent_none, factor_digits, factor_name, name_begins}
 use Rattle.polynomial_text.specs.laws.CanonicalParts.{Begins, Lack, lack_from, lack_append, begins_append, stops_from, begins_stops, behind_all, digit_in_name, name_no_blank, blank_no_sign, blank_no_star, blank_no_name, blank_no_digit, is_star, differs, number_digits, parts_none, parts_signed}
-use Rattle.polynomial_text.specs.laws.Fronts.{Stops}
 use Rattle.polynomial_text.specs.laws.Names.{name_bytes, place_found}
 use Rattle.polynomial_text.proofs.LineParts.{sign_left_out, no_sign}
 

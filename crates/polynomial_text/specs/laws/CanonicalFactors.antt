@@ -11,10 +11,9 @@ use Rattle.poly_core.specs.declared.place_names.Names.{Names}
 use Rattle.poly_core.specs.Names.{is_letter, is_name_byte, has_name_form}
 use Rattle.polynomials.specs.Polynomial.{term_of, term_times}
 use Rattle.poly_core.specs.Text.{factor_text}
-use Rattle.polynomial_text.specs.Bytes.{is_blank, is_digit, behind}
+use Rattle.polynomial_text.specs.Bytes.{is_blank, is_digit, behind, Stops}
 use Rattle.monomial_order.specs.Limits.{degree_max}
 use Rattle.polynomial_text.specs.PolyLine.{number_at, exponent_at, power, place_of, power_at, factor_at, with_factor}
-use Rattle.polynomial_text.specs.laws.Fronts.{Stops}
 use Rattle.polynomial_text.specs.laws.Names.{letter_in_name, name_bytes}
 use Rattle.polynomial_text.specs.laws.CanonicalParts.{Begins, all_append, all_weaker, begins_append, stops_from, begins_stops, front_all, behind_all, behind_blanks, is_piece_byte, digit_in_name, name_in_piece, name_no_blank, blank_no_name, blank_no_digit, letter_no_digit, IsWritten, decimal_digits, decimal_begins, number_decimal}
 

@@ -11,9 +11,8 @@ use Rattle.std.proofs.lemmas.List.Elements.{All-from_recursion}
 use Rattle.std.proofs.lemmas.List.Splits.{slice_split_none, slice_split_at}
 use Rattle.poly_core.specs.Names.{is_letter, is_name_byte}
 use Rattle.poly_core.specs.Text.{join}
-use Rattle.polynomial_text.specs.Bytes.{digits_max, is_blank, is_digit, is_sign, front, behind}
+use Rattle.polynomial_text.specs.Bytes.{digits_max, is_blank, is_digit, is_sign, front, behind, Stops}
 use Rattle.polynomial_text.specs.PolyLine.{number_at, signed_parts}
-use Rattle.polynomial_text.specs.laws.Fronts.{Stops}
 
 -- ---- tests along lists
 
