@@ -28,7 +28,7 @@ use Rattle.polynomial_text.specs.laws.Steps.{step_ok, chosen, same_ok}
 use Rattle.polynomial_text.proofs.Fronts.{front_passes}
 use Rattle.polynomial_text.proofs.LineParts.{terms_behind, terms_split, sign_left_out, no_sign}
 
-front_behind : (p : ℕ → Bool) (bytes : List ℕ) → bytes ≡ front p bytes ++ behind p bytes
+pub front_behind : (p : ℕ → Bool) (bytes : List ℕ) → bytes ≡ front p bytes ++ behind p bytes
 unfolding front behind
 front_behind p [] = refl
 front_behind p (b ∷ bytes) =
@@ -37,7 +37,7 @@ front_behind p (b ∷ bytes) =
       | false ↦ refl
     ]
 
-not_false : (b : Bool) → not b ≡ false → b ≡ true
+pub not_false : (b : Bool) → not b ≡ false → b ≡ true
 not_false true h = refl
 not_false false h = absurd cc
 
@@ -127,7 +127,7 @@ exponent_read bytes x stop e = raised (behind is_blank bytes) refl e
     raised [] is h = let k = rw is at h in none [] is tt (same_ok _ x k)
     raised (b ∷ rest) is h = let k = rw is at h in begun b rest is (eqb b 94) refl k
 
-place_is_named : (names : Names) (n i : ℕ) (word : List ℕ) → place_of names n word ≡ Some i → name_at names i ≡ Some word
+pub place_is_named : (names : Names) (n i : ℕ) (word : List ℕ) → place_of names n word ≡ Some i → name_at names i ≡ Some word
 unfolding place_of
 place_is_named names zero i word e = absurd cc
 place_is_named names (suc n) i word e =
@@ -203,12 +203,12 @@ module _ {E : Type 0} (K : FieldOps E) (O : MonomialOrder) (names : Names) where
       ] e
 
   -- one more factor
-  record IsMore (t : Term E) (part : List ℕ) (u : Term E) : Type 0 where
-    factor : Term E
-    text : IsSpacedFactor K O names part factor
-    product : IsNextProduct K O names t factor u
+  pub record IsMore (t : Term E) (part : List ℕ) (u : Term E) : Type 0 where
+    pub factor : Term E
+    pub text : IsSpacedFactor K O names part factor
+    pub product : IsNextProduct K O names t factor u
 
-  next_read : (t : Term E) (part : List ℕ) (u : Term E) → with_factor K O names t part ≡ Ok u → IsMore t part u
+  pub next_read : (t : Term E) (part : List ℕ) (u : Term E) → with_factor K O names t part ≡ Ok u → IsMore t part u
   unfolding with_factor
   next_read t part u e = by_step (factor_at K O names (behind is_blank part)) refl e
     where
@@ -251,7 +251,7 @@ module _ {E : Type 0} (K : FieldOps E) (O : MonomialOrder) (names : Names) where
       let r = next_read t part n.0 n.1 in
       factors t n.0 v r.factor (join_with_byte 42 (part ∷ (next ∷ parts))) part (join_with_byte 42 (next ∷ parts)) refl r.text r.product (parts_read n.0 v (next ∷ parts) (omega arith) n.2)
 
-  term_read : (minus : Bool) (bytes : List ℕ) (t : Term E) → term_at K O names (minus, bytes) ≡ Ok t → IsTermOf K O names minus bytes t
+  pub term_read : (minus : Bool) (bytes : List ℕ) (t : Term E) → term_at K O names (minus, bytes) ≡ Ok t → IsTermOf K O names minus bytes t
   unfolding term_at
   term_read minus bytes t e =
       subst (λ (l : List ℕ). IsTermOf K O names minus l t) (join_with_byte-slice_split 42 bytes)
@@ -259,7 +259,7 @@ module _ {E : Type 0} (K : FieldOps E) (O : MonomialOrder) (names : Names) where
 
   -- ---- sums
 
-  sign_is : (b : ℕ) → is_sign b ≡ true → b ≡ sign_byte (eqb b 45)
+  pub sign_is : (b : ℕ) → is_sign b ≡ true → b ≡ sign_byte (eqb b 45)
   sign_is b h = elim (eqb b 45) as (λ t. eqb b 45 ≡ t → (eqb b 43 || t) ≡ true → b ≡ sign_byte t) [
     | true ↦ λ e k. eqb-true b 45 e
     | false ↦ λ e k. plus (eqb b 43) refl k

@@ -1,5 +1,6 @@
 pub mod CanonicalReading
 pub mod Fronts
+pub mod GrammarFaultRead
 pub mod GrammarRead
 pub mod GrammarReads
 pub mod LineAlong
