@@ -81,7 +81,7 @@ number_read bytes x e = judged (front is_digit bytes) refl e
     judged [] is h = let k = rw is at h in absurd cc
     judged (d ∷ ds) is h = let k = rw is at h in chosen_few (d ∷ ds) is (omega arith) (nat_le (length (d ∷ ds)) 18) refl k
 
-blanks_behind : (xs ys : List ℕ) → AreBlanks (xs ++ ys) → AreBlanks ys
+pub blanks_behind : (xs ys : List ℕ) → AreBlanks (xs ++ ys) → AreBlanks ys
 blanks_behind [] ys h = h
 blanks_behind (x ∷ xs) ys h = blanks_behind xs ys (and_parts (is_blank x) (list_all is_blank (xs ++ ys)) h).1
 

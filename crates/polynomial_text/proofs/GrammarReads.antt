@@ -18,14 +18,17 @@ use Rattle.polynomial_text.specs.Bytes.{digits_max, is_blank, is_digit, is_sign,
 use Rattle.polynomial_text.specs.Canonical.{AreDifferent}
 use Rattle.polynomial_text.specs.PolyLine.{number_at, exponent_at, power, place_of, factor_at, with_factor, sign, term_at, behind_sign, signed_parts, terms_of}
 use Rattle.polynomial_text.specs.Grammar.{AreBlanks, IsNumber, IsRaised, IsExponent, sign_byte, IsConstant, IsPower, IsSpacedFactor, IsNextProduct, IsProduct, one_factor, factors, IsTermOf, IsSum, one_term, terms, IsSigned, IsLine}
-use Rattle.polynomial_text.specs.laws.CanonicalFactors.{exponent_none, factor_digits, factor_name, name_begins}
-use Rattle.polynomial_text.specs.laws.CanonicalParts.{Begins, Lack, lack_from, lack_append, begins_append, stops_from, begins_stops, behind_all, digit_in_name, name_no_blank, blank_no_sign, blank_no_star, blank_no_name, blank_no_digit, is_star, differs, number_digits, parts_none, parts_signed}
+use Rattle.polynomial_text.specs.GrammarFaults.{EndsExponent, EndsFactor}
+use Rattle.polynomial_text.specs.laws.CanonicalFactors.{factor_digits, factor_name, name_begins}
+use Rattle.polynomial_text.specs.laws.CanonicalParts.{Begins, Lack, all_append, behind_blanks, lack_from, lack_append, begins_append, stops_from, begins_stops, behind_all, digit_in_name, name_no_blank, blank_no_sign, blank_no_star, blank_no_name, blank_no_digit, is_star, differs, number_digits, parts_none, parts_signed}
 use Rattle.polynomial_text.specs.laws.Names.{name_bytes, place_found}
+use Rattle.polynomial_text.proofs.Fronts.{front_passes}
+use Rattle.polynomial_text.proofs.GrammarRead.{front_behind, blanks_behind}
 use Rattle.polynomial_text.proofs.LineParts.{sign_left_out, no_sign}
 
 -- ---- numbers and exponents
 
-begins_digit : (bytes : List ℕ) → list_all is_digit bytes ≡ true → 1 ≤ length bytes → Begins is_digit bytes
+pub begins_digit : (bytes : List ℕ) → list_all is_digit bytes ≡ true → 1 ≤ length bytes → Begins is_digit bytes
 begins_digit [] all some = absurd (omega arith)
 begins_digit (d ∷ bytes) all some = (and_parts (is_digit d) (list_all is_digit bytes) all).0
 
@@ -46,34 +49,66 @@ raised_is : (bytes back before between number : List ℕ) → bytes ≡ before +
 raised_is bytes back before between number is =
     ap (λ (l : List ℕ). l ++ back) is ∙ (append_assoc before (94 ∷ (between ++ number)) back ∙ ap (λ (l : List ℕ). before ++ (94 ∷ l)) (append_assoc between number back))
 
-exponent_derived : (bytes back : List ℕ) (n : ℕ) → IsExponent bytes n → AreBlanks back → (rest : List ℕ) × (exponent_at (bytes ++ back) ≡ Ok (n, rest)) × AreBlanks rest
-exponent_derived bytes back n (inl none) blank = ([], rw (none.0, none.1) (exponent_none back blank), refl)
-exponent_derived bytes back n (inr r) blank =
-    let inner : List ℕ = r.number ++ back in
-    let first : behind is_blank (bytes ++ back) ≡ 94 ∷ (r.between ++ inner) = ap (behind is_blank) (raised_is bytes back r.before r.between r.number r.is) ∙ behind_all is_blank r.before (94 ∷ (r.between ++ inner)) r.blank_before refl in
-    let digit : Begins is_digit inner = begins_append is_digit r.number back (begins_digit r.number r.exponent.digits r.exponent.some) in
-    let second : behind is_blank (r.between ++ inner) ≡ inner = behind_all is_blank r.between inner r.blank_between (begins_stops is_digit is_blank (λ c d. name_no_blank c (digit_in_name c d)) inner digit) in
-    let read : number_at inner ≡ Ok (n, back) = number_derived r.number back n r.exponent (stops_from is_blank is_digit blank_no_digit back blank) in
-    (back, exponent_from (bytes ++ back) (r.between ++ inner) first ∙ (ap number_at second ∙ read), blank)
+exponent_bare : (back : List ℕ) → Stops (λ b. eqb b 94) (behind is_blank back) → exponent_at back ≡ Ok (1, behind is_blank back)
+unfolding exponent_at
+exponent_bare back stop = by (behind is_blank back) refl stop
+  where
+    by : (rest : List ℕ) → behind is_blank back ≡ rest → Stops (λ b. eqb b 94) rest → exponent_at back ≡ Ok (1, rest)
+    by [] is other = rw is refl
+    by (b ∷ rest) is other = rw (is, other) refl
 
-blank_then : (before rest : List ℕ) → AreBlanks before → Stops is_name_byte rest → Stops is_name_byte (before ++ rest)
+-- what is left when a token was read, which differs from what is behind the token by blanks alone
+pub record IsLeft (back left : List ℕ) : Type 0 where
+  pub blank : AreBlanks back → AreBlanks left
+  pub blank_back : AreBlanks left → AreBlanks back
+
+left_itself : (back : List ℕ) → IsLeft back back
+left_itself back = record { blank = λ h. h; blank_back = λ h. h }
+
+left_blanks : (back : List ℕ) → IsLeft back (behind is_blank back)
+left_blanks back = record {
+  blank = λ h. blanks_behind (front is_blank back) (behind is_blank back) (subst AreBlanks (front_behind is_blank back) h);
+  blank_back = λ h. subst AreBlanks (sym (front_behind is_blank back)) (all_append is_blank (front is_blank back) (behind is_blank back) (front_passes is_blank back) h);
+}
+
+pub raised_at : (before between tail : List ℕ) → AreBlanks before → AreBlanks between → Stops is_blank tail → exponent_at (before ++ (94 ∷ (between ++ tail))) ≡ number_at tail
+raised_at before between tail blank_before blank_between stop =
+    exponent_from (before ++ (94 ∷ (between ++ tail))) (between ++ tail) (behind_all is_blank before (94 ∷ (between ++ tail)) blank_before refl) ∙ ap number_at (behind_all is_blank between tail blank_between stop)
+
+exponent_derived : (bytes back : List ℕ) (n : ℕ) (h : IsExponent bytes n) → EndsExponent h back → (left : List ℕ) × (exponent_at (bytes ++ back) ≡ Ok (n, left)) × IsLeft back left
+exponent_derived bytes back n (inl none) ends = (behind is_blank back, rw (none.0, none.1) (exponent_bare back ends.1), left_blanks back)
+exponent_derived bytes back n (inr r) ends =
+    let digit : Begins is_digit (r.number ++ back) = begins_append is_digit r.number back (begins_digit r.number r.exponent.digits r.exponent.some) in
+    let shows : Stops is_blank (r.number ++ back) = begins_stops is_digit is_blank (λ c d. name_no_blank c (digit_in_name c d)) (r.number ++ back) digit in
+    (
+      back,
+      ap exponent_at (raised_is bytes back r.before r.between r.number r.is) ∙ (raised_at r.before r.between (r.number ++ back) r.blank_before r.blank_between shows ∙ number_derived r.number back n r.exponent ends),
+      left_itself back,
+    )
+
+pub blank_then : (before rest : List ℕ) → AreBlanks before → Stops is_name_byte rest → Stops is_name_byte (before ++ rest)
 blank_then [] rest blank stop = stop
 blank_then (b ∷ before) rest blank stop = blank_no_name b (and_parts (is_blank b) (list_all is_blank before) blank).0
 
-exponent_stops : (bytes back : List ℕ) (n : ℕ) → IsExponent bytes n → AreBlanks back → Stops is_name_byte (bytes ++ back)
-exponent_stops bytes back n (inl none) blank = rw none.0 (stops_from is_blank is_name_byte blank_no_name back blank)
-exponent_stops bytes back n (inr r) blank =
+exponent_stops : (bytes back : List ℕ) (n : ℕ) (h : IsExponent bytes n) → EndsExponent h back → Stops is_name_byte (bytes ++ back)
+exponent_stops bytes back n (inl none) ends = rw none.0 ends.0
+exponent_stops bytes back n (inr r) ends =
     rw (raised_is bytes back r.before r.between r.number r.is) (blank_then r.before (94 ∷ (r.between ++ (r.number ++ back))) r.blank_before refl)
+
+-- blanks go on with nothing
+blank_ends : (bytes back : List ℕ) (n : ℕ) (h : IsExponent bytes n) → AreBlanks back → EndsExponent h back
+blank_ends bytes back n (inl none) blank = (stops_from is_blank is_name_byte blank_no_name back blank, rw (behind_blanks back blank) tt)
+blank_ends bytes back n (inr r) blank = stops_from is_blank is_digit blank_no_digit back blank
 
 -- ---- bytes that do not part the text
 
 -- a test that no byte of a factor or around it passes
-record IsApart (q : ℕ → Bool) : Type 0 where
-  blank : (b : ℕ) → is_blank b ≡ true → q b ≡ false
-  name : (b : ℕ) → is_name_byte b ≡ true → q b ≡ false
-  raised : q 94 ≡ false
+pub record IsApart (q : ℕ → Bool) : Type 0 where
+  pub blank : (b : ℕ) → is_blank b ≡ true → q b ≡ false
+  pub name : (b : ℕ) → is_name_byte b ≡ true → q b ≡ false
+  pub raised : q 94 ≡ false
 
-star_apart : IsApart is_star
+pub star_apart : IsApart is_star
 star_apart = record { blank = blank_no_star; name = differs is_name_byte 42 refl; raised = refl }
 
 sign_apart : IsApart is_sign
@@ -112,42 +147,46 @@ no_blanks [] h = absurd h
 no_blanks (b ∷ bytes) h = rw (name_no_blank b h) refl
 
 module _ {E : Type 0} (K : FieldOps E) (O : MonomialOrder) (names : Names) (D : AreDifferent O.places names) where
-  name_form : (i : ℕ) (name : List ℕ) → i < O.places → name_at names i ≡ Some name → has_name_form name ≡ true
+  pub name_form : (i : ℕ) (name : List ℕ) → i < O.places → name_at names i ≡ Some name → has_name_form name ≡ true
   name_form i name lt at = rw at at (D.form i lt)
 
   -- ---- factors
 
-  factor_begins : (bytes : List ℕ) (x : Term E) → IsConstant K O names bytes x ⊎ IsPower K O names bytes x → Begins is_name_byte bytes
+  pub factor_begins : (bytes : List ℕ) (x : Term E) → IsConstant K O names bytes x ⊎ IsPower K O names bytes x → Begins is_name_byte bytes
   factor_begins bytes x (inl c) = begins_name bytes (begins_digit bytes c.is.digits c.is.some)
   factor_begins bytes x (inr p) = rw p.is (begins_append is_name_byte p.name p.behind (name_begins K O names p.name (name_form p.place p.name p.inside p.named)))
 
-  factor_derived : (bytes back : List ℕ) (x : Term E) → IsConstant K O names bytes x ⊎ IsPower K O names bytes x → AreBlanks back → (rest : List ℕ) × (factor_at K O names (bytes ++ back) ≡ Ok (x, rest)) × AreBlanks rest
-  factor_derived bytes back x (inl c) blank =
-      let read = number_derived bytes back c.number c.is (stops_from is_blank is_digit blank_no_digit back blank) in
-      (back, factor_digits K O names bytes back back c.number (begins_digit bytes c.is.digits c.is.some) read ∙ ap (λ (y : Term E). Ok (y, back)) (sym c.means), blank)
-  factor_derived bytes back x (inr p) blank =
-      let up = exponent_derived p.behind back p.exponent p.raised blank in
+  pub factor_derived : (bytes back : List ℕ) (x : Term E) (h : IsConstant K O names bytes x ⊎ IsPower K O names bytes x) → EndsFactor K O names h back → (left : List ℕ) × (factor_at K O names (bytes ++ back) ≡ Ok (x, left)) × IsLeft back left
+  factor_derived bytes back x (inl c) ends =
+      let read = number_derived bytes back c.number c.is ends in
+      (back, factor_digits K O names bytes back back c.number (begins_digit bytes c.is.digits c.is.some) read ∙ ap (λ (y : Term E). Ok (y, back)) (sym c.means), left_itself back)
+  factor_derived bytes back x (inr p) ends =
+      let up = exponent_derived p.behind back p.exponent p.raised ends in
       let form = name_form p.place p.name p.inside p.named in
       let place : place_of names O.places p.name ≡ Some p.place = place_found O.places names D O.places p.place p.name p.inside (omega arith) p.named in
-      let read = factor_name K O names p.name (p.behind ++ back) up.0 p.place p.exponent form (exponent_stops p.behind back p.exponent p.raised blank) place up.1 in
+      let read = factor_name K O names p.name (p.behind ++ back) up.0 p.place p.exponent form (exponent_stops p.behind back p.exponent p.raised ends) place up.1 in
       let regroup : bytes ++ back ≡ p.name ++ (p.behind ++ back) = ap (λ (l : List ℕ). l ++ back) p.is ∙ append_assoc p.name p.behind back in
       (up.0, ap (factor_at K O names) regroup ∙ (read ∙ ap (λ (y : Term E). Ok (y, up.0)) (sym p.means)), up.2)
 
-  with_derived : (t u x : Term E) (bytes : List ℕ) → IsSpacedFactor K O names bytes x → IsNextProduct K O names t x u → with_factor K O names t bytes ≡ Ok u
+  factor_ends : (bytes back : List ℕ) (x : Term E) (h : IsConstant K O names bytes x ⊎ IsPower K O names bytes x) → AreBlanks back → EndsFactor K O names h back
+  factor_ends bytes back x (inl c) blank = stops_from is_blank is_digit blank_no_digit back blank
+  factor_ends bytes back x (inr p) blank = blank_ends p.behind back p.exponent p.raised blank
+
+  pub with_derived : (t u x : Term E) (bytes : List ℕ) → IsSpacedFactor K O names bytes x → IsNextProduct K O names t x u → with_factor K O names t bytes ≡ Ok u
   unfolding with_factor
   with_derived t u x bytes h n =
       let first : Stops is_blank (h.factor ++ h.behind) = begins_stops is_name_byte is_blank name_no_blank (h.factor ++ h.behind) (begins_append is_name_byte h.factor h.behind (factor_begins h.factor x h.reads)) in
-      let r = factor_derived h.factor h.behind x h.reads h.blank_behind in
+      let r = factor_derived h.factor h.behind x h.reads (factor_ends h.factor h.behind x h.reads h.blank_behind) in
       let small : O.degree (product t.at x.at) ≤ degree_max = subst (λ (v : Term E). O.degree v.at ≤ degree_max) n.is n.small in
       let low = le-leb (O.degree (product t.at x.at)) degree_max small in
-      rw (h.is, behind_all is_blank h.before (h.factor ++ h.behind) h.blank_before first, r.1, low, r.2) (ap (λ (v : Term E). Ok v) (sym n.is))
+      rw (h.is, behind_all is_blank h.before (h.factor ++ h.behind) h.blank_before first, r.1, low, r.2.blank h.blank_behind) (ap (λ (v : Term E). Ok v) (sym n.is))
 
   factor_lacks : (q : ℕ → Bool) → IsApart q → (bytes : List ℕ) (x : Term E) → IsConstant K O names bytes x ⊎ IsPower K O names bytes x → Lack q bytes
   factor_lacks q A bytes x (inl c) = number_lacks q A bytes c.number c.is
   factor_lacks q A bytes x (inr p) =
       rw p.is (lack_append q p.name p.behind (lack_from is_name_byte q A.name p.name (name_bytes p.name (name_form p.place p.name p.inside p.named))) (exponent_lacks q A p.behind p.exponent p.raised))
 
-  spaced_lacks : (q : ℕ → Bool) → IsApart q → (bytes : List ℕ) (x : Term E) → IsSpacedFactor K O names bytes x → Lack q bytes
+  pub spaced_lacks : (q : ℕ → Bool) → IsApart q → (bytes : List ℕ) (x : Term E) → IsSpacedFactor K O names bytes x → Lack q bytes
   spaced_lacks q A bytes x h =
       rw h.is (lack_append q h.before (h.factor ++ h.behind) (lack_from is_blank q A.blank h.before h.blank_before)
       (lack_append q h.factor h.behind (factor_lacks q A h.factor x h.reads) (lack_from is_blank q A.blank h.behind h.blank_behind)))
@@ -167,7 +206,7 @@ module _ {E : Type 0} (K : FieldOps E) (O : MonomialOrder) (names : Names) (D : 
       ap (slice_split is_star) is ∙ slice_split_at is_star part 42 rest (All-from_recursion (λ c. is_star c ≡ false) part (spaced_lacks is_star star_apart part x h)) refl in
       rw (parts, with_derived t u x part h n) (product_derived u v rest more)
 
-  product_lacks : (t v : Term E) (bytes : List ℕ) → IsProduct K O names t bytes v → Lack is_sign bytes
+  pub product_lacks : (t v : Term E) (bytes : List ℕ) → IsProduct K O names t bytes v → Lack is_sign bytes
   product_lacks t v bytes (one_factor _ _ x _ h n) = spaced_lacks is_sign sign_apart bytes x h
   product_lacks t v bytes (factors _ u _ x _ part rest is h n more) = rw is (lack_append is_sign part (42 ∷ rest) (spaced_lacks is_sign sign_apart part x h) (refl, product_lacks u v rest more))
 
@@ -175,17 +214,13 @@ module _ {E : Type 0} (K : FieldOps E) (O : MonomialOrder) (names : Names) (D : 
   product_shows t v bytes (one_factor _ _ x _ h n) = spaced_shows bytes x h
   product_shows t v bytes (factors _ u _ x _ part rest is h n more) = rw is (front_fails is_blank part (42 ∷ rest) (spaced_shows part x h))
 
-  term_derived : (minus : Bool) (bytes : List ℕ) (t : Term E) → IsTermOf K O names minus bytes t → term_at K O names (minus, bytes) ≡ Ok t
+  pub term_derived : (minus : Bool) (bytes : List ℕ) (t : Term E) → IsTermOf K O names minus bytes t → term_at K O names (minus, bytes) ≡ Ok t
   unfolding term_at
   term_derived minus bytes t h = product_derived (term_of [] (sign K O names minus)) t bytes h
 
   -- ---- sums
 
-  sign_here : (next : Bool) → is_sign (sign_byte next) ≡ true
-  sign_here true = refl
-  sign_here false = refl
-
-  next_parts : (minus next : Bool) (part rest : List ℕ) → Lack is_sign part → signed_parts minus (part ++ (sign_byte next ∷ rest)) ≡ (minus, part) ∷ signed_parts next rest
+  pub next_parts : (minus next : Bool) (part rest : List ℕ) → Lack is_sign part → signed_parts minus (part ++ (sign_byte next ∷ rest)) ≡ (minus, part) ∷ signed_parts next rest
   next_parts minus true part rest lack = parts_signed minus part rest 45 refl lack
   next_parts minus false part rest lack = parts_signed minus part rest 43 refl lack
 
