@@ -1,16 +1,16 @@
 -- The fault with which reading stops is the first fault by the grammar.
-use Rattle.std.proofs.Common.{◌≡◌, ℕ, zero, suc, ◌<◌, ◌≤◌, Bool, true, false, cond, not, eqb, List, [], ◌∷◌, ◌++◌, length, Option, Some, None, Result, Ok, Err, nat_le, refl, sym, ap, subst, ◌∙◌, append_assoc, append-nil, inl, inr, ⊎_elim, arith}
+use Rattle.std.proofs.Common.{◌≡◌, ℕ, zero, suc, ◌<◌, ◌≤◌, Bool, true, false, cond, not, eqb, List, [], ◌∷◌, ◌++◌, length, Option, Some, None, Result, Ok, Err, nat_le, refl, sym, ap, subst, ◌∙◌, append_assoc, inl, inr, ⊎_elim, arith}
 use Rattle.std.specs.Prelude.{◌⊎◌}
 use Rattle.std.specs.List.{list_all, slice_split}
 use Rattle.std.specs.Str.Parse.{digits_value}
-use Rattle.std.proofs.lemmas.Bool.{leb-true, leb-false, eqb-true, and_from, cases_eq, false_from_ne_true, true≢false}
+use Rattle.std.proofs.lemmas.Bool.{leb-true, leb-false, eqb-true, cases_eq, false_from_ne_true, true≢false}
 use Rattle.std.proofs.lemmas.List.{length-append}
 use Rattle.word_field.specs.Field.{FieldOps}
 use Rattle.monomial_order.specs.declared.terms.Term.{Term}
 use Rattle.monomial_order.specs.Limits.{degree_max}
 use Rattle.monomial_order.specs.Monomial.{product}
 use Rattle.monomial_order.specs.MonomialOrder.{MonomialOrder}
-use Rattle.polynomials.specs.Polynomial.{Polynomial, term_of, term_times}
+use Rattle.polynomials.specs.Polynomial.{term_of, term_times}
 use Rattle.poly_core.specs.declared.place_names.Names.{Names}
 use Rattle.poly_core.specs.Names.{name_at, is_letter, is_name_byte, has_name_form}
 use Rattle.polynomial_text.specs.declared.line_fault.LineKind.{LineKind}
@@ -18,11 +18,10 @@ use Rattle.polynomial_text.specs.declared.line_fault.LineKind.TheVariants.{PolyS
 use Rattle.polynomial_text.specs.Results.{◌>>=◌, along, each}
 use Rattle.polynomial_text.specs.Bytes.{is_blank, is_digit, is_sign, front, behind, Stops}
 use Rattle.polynomial_text.specs.PolyLine.{number_at, exponent_at, power, place_of, is_named, power_at, factor_at, with_factor, sign, term_at, behind_sign, signed_parts, terms_of}
-use Rattle.polynomial_text.specs.Grammar.{AreBlanks, sign_byte, IsTermOf}
-use Rattle.polynomial_text.specs.GrammarFaults.{IsLongNumber, IsBase, IsFactorFault, no_factor, long_number, unknown_name, no_exponent, long_exponent, high_degree, no_end, IsProductFault, in_factor, in_later_factor, IsSumFault, in_term, in_later_term, IsUnsigned, IsSignedFault, IsLineFault}
+use Rattle.polynomial_text.specs.Grammar.{AreBlanks, sign_byte}
+use Rattle.polynomial_text.specs.GrammarFaults.{IsLongNumber, IsBase, IsFactorFault, no_factor, long_number, unknown_name, no_exponent, long_exponent, high_degree, no_end, IsProductFault, in_factor, in_later_factor, IsSumFault, in_term, in_later_term, IsLineFault}
 use Rattle.polynomial_text.specs.laws.Fronts.{behind_stops, parts_behind, parts_split}
 use Rattle.polynomial_text.specs.laws.Names.{named_itself, letter_in_name, place_below}
-use Rattle.polynomial_text.specs.laws.Steps.{step_ok}
 use Rattle.polynomial_text.proofs.Fronts.{front_passes}
 use Rattle.polynomial_text.proofs.GrammarRead.{front_behind, not_false, sign_is, place_is_named, factor_read, next_read, term_read}
 use Rattle.polynomial_text.proofs.LineParts.{terms_behind, terms_split, sign_left_out, no_sign}
@@ -58,13 +57,16 @@ number_stopped bytes kind e = judged (front is_digit bytes) refl e
         ((PolySyntax ≡ kind) × Stops is_digit bytes) ⊎ ((NumberTooLong ≡ kind) × IsLongAt bytes)
     many ds is true few h = absurd cc
     many ds is false few h =
-        inr (same_err NumberTooLong kind h, record {
-          number = ds;
-          rest = behind is_digit bytes;
-          is = front_behind is_digit bytes ∙ ap (λ (l : List ℕ). l ++ behind is_digit bytes) is;
-          long = record { digits = subst (λ (l : List ℕ). list_all is_digit l ≡ true) is (front_passes is_digit bytes); many = leb-false (length ds) 18 few };
-          ends = behind_stops is_digit bytes;
-        })
+        inr (
+          same_err NumberTooLong kind h,
+          record {
+            number = ds;
+            rest = behind is_digit bytes;
+            is = front_behind is_digit bytes ∙ ap (λ (l : List ℕ). l ++ behind is_digit bytes) is;
+            long = record { digits = subst (λ (l : List ℕ). list_all is_digit l ≡ true) is (front_passes is_digit bytes); many = leb-false (length ds) 18 few };
+            ends = behind_stops is_digit bytes;
+          },
+        )
 
     judged : (ds : List ℕ) → front is_digit bytes ≡ ds → number_at bytes ≡ Err kind → ((PolySyntax ≡ kind) × Stops is_digit bytes) ⊎ ((NumberTooLong ≡ kind) × IsLongAt bytes)
     judged [] is h = let k = rw is at h in inl (same_err PolySyntax kind k, front_none is_digit bytes is)
@@ -161,11 +163,11 @@ module _ {E : Type 0} (K : FieldOps E) (O : MonomialOrder) (names : Names) where
 
     raised_fault : number_at (behind is_blank rest) ≡ Err kind → IsFactorFault K O names t part kind
     raised_fault e = ⊎_elim
-      (λ none.
+        (λ none.
         subst (IsFactorFault K O names t part) none.0 (no_exponent t part at.before base (behind is_blank rest) (whole (behind is_blank rest) refl) at.blank is_base (behind_stops is_blank rest) none.1))
-      (λ long. subst (IsFactorFault K O names t part) long.0
+        (λ long. subst (IsFactorFault K O names t part) long.0
         (long_exponent t part at.before base long.1.number long.1.rest (whole (long.1.number ++ long.1.rest) long.1.is) at.blank is_base long.1.long long.1.ends))
-      (number_stopped (behind is_blank rest) kind e)
+        (number_stopped (behind is_blank rest) kind e)
 
   exponent_fault : (t : Term E) (part bytes : List ℕ) (kind : LineKind) (i : ℕ) → IsBehindBlanks part bytes → place_of names O.places (front is_name_byte bytes) ≡ Some i →
       exponent_at (behind is_name_byte bytes) ≡ Err kind → IsFactorFault K O names t part kind
@@ -193,10 +195,10 @@ module _ {E : Type 0} (K : FieldOps E) (O : MonomialOrder) (names : Names) where
 
   number_fault : (t : Term E) (part : List ℕ) (b : ℕ) (bytes : List ℕ) (kind : LineKind) → is_digit b ≡ true → IsBehindBlanks part (b ∷ bytes) → number_at (b ∷ bytes) ≡ Err kind → IsFactorFault K O names t part kind
   number_fault t part b bytes kind digit at e = ⊎_elim
-    (λ none. absurd (true≢false (sym digit ∙ none.1)))
-    (λ long. subst (IsFactorFault K O names t part) long.0
+      (λ none. absurd (true≢false (sym digit ∙ none.1)))
+      (λ long. subst (IsFactorFault K O names t part) long.0
       (long_number t part at.before long.1.number long.1.rest (at.is ∙ ap (λ (l : List ℕ). at.before ++ l) long.1.is) at.blank long.1.long long.1.ends))
-    (number_stopped (b ∷ bytes) kind e)
+      (number_stopped (b ∷ bytes) kind e)
 
   factor_fault : (t : Term E) (part bytes : List ℕ) (kind : LineKind) → IsBehindBlanks part bytes → factor_at K O names bytes ≡ Err kind → IsFactorFault K O names t part kind
   unfolding factor_at
@@ -281,9 +283,9 @@ module _ {E : Type 0} (K : FieldOps E) (O : MonomialOrder) (names : Names) where
       (term_at K O names part ≡ Err kind) ⊎ ((t : Term E) × (term_at K O names part ≡ Ok t) × (each (term_at K O names) parts ≡ Err kind))
   unfolding each
   each_stopped part parts kind e = ⊎_elim
-    (λ here. inl here)
-    (λ ok. inr (ok.0, ok.1, ⊎_elim (λ later. later) (λ all. absurd (let no = all.2 in cc)) (step_err (each (term_at K O names) parts) (λ others. Ok (ok.0 ∷ others)) kind ok.2)))
-    (step_err (term_at K O names part) (λ t. each (term_at K O names) parts >>= λ others. Ok (t ∷ others)) kind e)
+      (λ here. inl here)
+      (λ ok. inr (ok.0, ok.1, ⊎_elim (λ later. later) (λ all. absurd (let no = all.2 in cc)) (step_err (each (term_at K O names) parts) (λ others. Ok (ok.0 ∷ others)) kind ok.2)))
+      (step_err (term_at K O names part) (λ t. each (term_at K O names) parts >>= λ others. Ok (t ∷ others)) kind e)
 
   each_empty : (kind : LineKind) → each (term_at K O names) [] ≡ Err kind → ⊥
   unfolding each

@@ -1,5 +1,5 @@
 -- A line with a first fault by the grammar is not read, and reading stops with that fault.
-use Rattle.std.proofs.Common.{◌≡◌, ℕ, ◌<◌, ◌≤◌, Bool, true, false, not, eqb, List, [], ◌∷◌, ◌++◌, length, None, Some, Ok, Err, nat_le, refl, sym, ap, subst, ◌∙◌, append_assoc, inl, inr, le-leb, arith}
+use Rattle.std.proofs.Common.{◌≡◌, ℕ, ◌<◌, ◌≤◌, Bool, true, false, not, eqb, List, [], ◌∷◌, ◌++◌, length, Some, Err, nat_le, refl, sym, ap, ◌∙◌, append_assoc, inl, inr, le-leb, arith}
 use Rattle.std.specs.Prelude.{◌⊎◌}
 use Rattle.std.specs.List.{list_all, slice_split}
 use Rattle.std.proofs.lemmas.Bool.{and_parts, lt-leb, false_from_ne_true, true≢false}
@@ -10,20 +10,20 @@ use Rattle.monomial_order.specs.declared.terms.Term.{Term}
 use Rattle.monomial_order.specs.Limits.{degree_max}
 use Rattle.monomial_order.specs.Monomial.{product}
 use Rattle.monomial_order.specs.MonomialOrder.{MonomialOrder}
-use Rattle.polynomials.specs.Polynomial.{Polynomial, term_of, term_times}
+use Rattle.polynomials.specs.Polynomial.{term_of}
 use Rattle.poly_core.specs.declared.place_names.Names.{Names}
 use Rattle.poly_core.specs.Names.{name_at, is_letter, is_name_byte, has_name_form}
 use Rattle.polynomial_text.specs.declared.line_fault.LineKind.{LineKind}
 use Rattle.polynomial_text.specs.declared.line_fault.LineKind.TheVariants.{PolySyntax, UnknownName, NumberTooLong, DegreeTooLarge}
-use Rattle.polynomial_text.specs.Results.{◌>>=◌, along, each}
-use Rattle.polynomial_text.specs.Bytes.{digits_max, is_blank, is_digit, is_sign, front, behind, Stops}
+use Rattle.polynomial_text.specs.Results.{along, each}
+use Rattle.polynomial_text.specs.Bytes.{is_blank, is_digit, is_sign, front, behind, Stops}
 use Rattle.polynomial_text.specs.Canonical.{AreDifferent}
-use Rattle.polynomial_text.specs.PolyLine.{number_at, exponent_at, power, place_of, power_at, factor_at, with_factor, sign, term_at, behind_sign, signed_parts, terms_of}
-use Rattle.polynomial_text.specs.Grammar.{AreBlanks, sign_byte}
+use Rattle.polynomial_text.specs.PolyLine.{number_at, exponent_at, place_of, power_at, factor_at, with_factor, sign, term_at, behind_sign, signed_parts, terms_of}
+use Rattle.polynomial_text.specs.Grammar.{AreBlanks}
 use Rattle.polynomial_text.specs.GrammarFaults.{IsLongNumber, IsBase, IsFrontFactor, IsFactorFault, no_factor, long_number, unknown_name, no_exponent, long_exponent, high_degree, no_end, IsProductFault, in_factor, in_later_factor, IsSumFault, in_term, in_later_term, IsUnsigned, IsLineFault}
 use Rattle.polynomial_text.specs.laws.CanonicalFactors.{name_begins}
 use Rattle.polynomial_text.specs.laws.CanonicalParts.{Begins, lack_from, begins_append, begins_stops, front_all, behind_all, digit_in_name, name_no_blank, blank_no_sign, letter_no_digit, is_star}
-use Rattle.polynomial_text.specs.laws.Fronts.{parts_behind, parts_split}
+use Rattle.polynomial_text.specs.laws.Fronts.{parts_split}
 use Rattle.polynomial_text.specs.laws.Names.{name_bytes, place_found}
 use Rattle.polynomial_text.proofs.GrammarReads.{begins_digit, blank_then, raised_at, star_apart, name_form, factor_begins, factor_derived, with_derived, spaced_lacks, product_lacks, term_derived, next_parts}
 use Rattle.polynomial_text.proofs.LineParts.{terms_behind, terms_split, sign_left_out, no_sign}

@@ -1,5 +1,5 @@
 -- What a line is read as is derived from it by the grammar.
-use Rattle.std.proofs.Common.{◌≡◌, ℕ, zero, suc, ◌<◌, ◌≤◌, ◌+◌, Bool, true, false, cond, not, ◌||◌, eqb, List, [], ◌∷◌, ◌++◌, length, Option, Some, None, Result, Ok, Err, nat_le, refl, sym, ap, subst, ◌∙◌, append_assoc, append-nil, inl, inr, arith}
+use Rattle.std.proofs.Common.{◌≡◌, ℕ, zero, suc, ◌<◌, ◌≤◌, Bool, true, false, cond, not, ◌||◌, eqb, List, [], ◌∷◌, ◌++◌, length, Option, Some, None, Result, Ok, Err, nat_le, refl, sym, ap, subst, ◌∙◌, append_assoc, append-nil, inl, inr, arith}
 use Rattle.std.specs.List.{list_all, slice_split, join_with_byte}
 use Rattle.std.specs.Str.Parse.{digits_value}
 use Rattle.std.specs.Prelude.{◌⊎◌}
@@ -19,7 +19,7 @@ use Rattle.polynomial_text.specs.declared.line_fault.LineKind.TheVariants.{PolyS
 use Rattle.polynomial_text.specs.Results.{◌>>=◌, along, each}
 use Rattle.polynomial_text.specs.Bytes.{is_blank, is_digit, is_sign, front, behind, Stops}
 use Rattle.polynomial_text.specs.PolyLine.{number_at, exponent_at, power, place_of, is_named, power_at, factor_at, with_factor, sign, term_at, behind_sign, signed_parts, terms_of}
-use Rattle.polynomial_text.specs.Grammar.{AreBlanks, IsNumber, IsRaised, IsExponent, sign_byte, IsConstant, IsPower, IsSpacedFactor, IsNextProduct, IsProduct, one_factor, factors, IsTermOf, IsSum, one_term, terms, IsSigned, IsLine}
+use Rattle.polynomial_text.specs.Grammar.{AreBlanks, IsNumber, IsExponent, sign_byte, IsConstant, IsPower, IsSpacedFactor, IsNextProduct, IsProduct, one_factor, factors, IsTermOf, IsSum, one_term, terms, IsLine}
 use Rattle.polynomial_text.specs.GrammarFaults.{EndsExponent, EndsFactor}
 use Rattle.polynomial_text.specs.laws.CanonicalParts.{all_append}
 use Rattle.polynomial_text.specs.laws.Fronts.{behind_stops}

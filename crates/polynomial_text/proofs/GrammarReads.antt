@@ -1,5 +1,5 @@
 -- What the grammar derives from a line is read.
-use Rattle.std.proofs.Common.{◌≡◌, ℕ, ◌<◌, ◌≤◌, Bool, true, false, ◌&&◌, ◌==◌, eqb, List, [], ◌∷◌, ◌++◌, length, Some, Ok, refl, sym, ap, subst, ◌∙◌, append_assoc, inl, inr, le-leb, arith}
+use Rattle.std.proofs.Common.{◌≡◌, ℕ, ◌<◌, ◌≤◌, Bool, true, false, ◌&&◌, eqb, List, [], ◌∷◌, ◌++◌, length, Some, Ok, refl, sym, ap, subst, ◌∙◌, append_assoc, inl, inr, le-leb, arith}
 use Rattle.std.specs.Prelude.{◌⊎◌}
 use Rattle.std.specs.List.{list_all, slice_split}
 use Rattle.std.proofs.lemmas.Bool.{and_parts}
@@ -10,14 +10,14 @@ use Rattle.monomial_order.specs.declared.terms.Term.{Term}
 use Rattle.monomial_order.specs.Limits.{degree_max}
 use Rattle.monomial_order.specs.Monomial.{product}
 use Rattle.monomial_order.specs.MonomialOrder.{MonomialOrder}
-use Rattle.polynomials.specs.Polynomial.{Polynomial, term_of, term_times}
+use Rattle.polynomials.specs.Polynomial.{Polynomial, term_of}
 use Rattle.poly_core.specs.declared.place_names.Names.{Names}
 use Rattle.poly_core.specs.Names.{name_at, is_name_byte, has_name_form}
-use Rattle.polynomial_text.specs.Results.{◌>>=◌, along, each}
-use Rattle.polynomial_text.specs.Bytes.{digits_max, is_blank, is_digit, is_sign, front, behind, Stops}
+use Rattle.polynomial_text.specs.Results.{along, each}
+use Rattle.polynomial_text.specs.Bytes.{is_blank, is_digit, is_sign, front, behind, Stops}
 use Rattle.polynomial_text.specs.Canonical.{AreDifferent}
-use Rattle.polynomial_text.specs.PolyLine.{number_at, exponent_at, power, place_of, factor_at, with_factor, sign, term_at, behind_sign, signed_parts, terms_of}
-use Rattle.polynomial_text.specs.Grammar.{AreBlanks, IsNumber, IsRaised, IsExponent, sign_byte, IsConstant, IsPower, IsSpacedFactor, IsNextProduct, IsProduct, one_factor, factors, IsTermOf, IsSum, one_term, terms, IsSigned, IsLine}
+use Rattle.polynomial_text.specs.PolyLine.{number_at, exponent_at, place_of, factor_at, with_factor, sign, term_at, behind_sign, signed_parts, terms_of}
+use Rattle.polynomial_text.specs.Grammar.{AreBlanks, IsNumber, IsExponent, sign_byte, IsConstant, IsPower, IsSpacedFactor, IsNextProduct, IsProduct, one_factor, factors, IsTermOf, IsSum, one_term, terms, IsLine}
 use Rattle.polynomial_text.specs.GrammarFaults.{EndsExponent, EndsFactor}
 use Rattle.polynomial_text.specs.laws.CanonicalFactors.{factor_digits, factor_name, name_begins}
 use Rattle.polynomial_text.specs.laws.CanonicalParts.{Begins, Lack, all_append, behind_blanks, lack_from, lack_append, begins_append, stops_from, begins_stops, behind_all, digit_in_name, name_no_blank, blank_no_sign, blank_no_star, blank_no_name, blank_no_digit, is_star, differs, number_digits, parts_none, parts_signed}
@@ -79,8 +79,7 @@ exponent_derived : (bytes back : List ℕ) (n : ℕ) (h : IsExponent bytes n) �
 exponent_derived bytes back n (inl none) ends = (behind is_blank back, rw (none.0, none.1) (exponent_bare back ends.1), left_blanks back)
 exponent_derived bytes back n (inr r) ends =
     let digit : Begins is_digit (r.number ++ back) = begins_append is_digit r.number back (begins_digit r.number r.exponent.digits r.exponent.some) in
-    let shows : Stops is_blank (r.number ++ back) = begins_stops is_digit is_blank (λ c d. name_no_blank c (digit_in_name c d)) (r.number ++ back) digit in
-    (
+    let shows : Stops is_blank (r.number ++ back) = begins_stops is_digit is_blank (λ c d. name_no_blank c (digit_in_name c d)) (r.number ++ back) digit in (
       back,
       ap exponent_at (raised_is bytes back r.before r.between r.number r.is) ∙ (raised_at r.before r.between (r.number ++ back) r.blank_before r.blank_between shows ∙ number_derived r.number back n r.exponent ends),
       left_itself back,

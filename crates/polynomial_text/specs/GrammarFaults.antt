@@ -7,7 +7,7 @@ use Rattle.monomial_order.specs.declared.terms.Term.{Term}
 use Rattle.monomial_order.specs.Limits.{degree_max}
 use Rattle.monomial_order.specs.Monomial.{product}
 use Rattle.monomial_order.specs.MonomialOrder.{MonomialOrder}
-use Rattle.polynomials.specs.Polynomial.{Polynomial, term_of}
+use Rattle.polynomials.specs.Polynomial.{term_of}
 use Rattle.poly_core.specs.declared.place_names.Names.{Names}
 use Rattle.poly_core.specs.Names.{name_at, is_letter, is_name_byte, has_name_form}
 use Rattle.polynomial_text.specs.declared.line_fault.LineKind.{LineKind}

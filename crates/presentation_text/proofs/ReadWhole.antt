@@ -1,8 +1,8 @@
 -- What a text is read as is a presentation.
-use Rattle.std.proofs.Common.{◌≡◌, ℕ, true, ◌≤◌, List, length, Ok, refl, sym, ap, subst, ◌∙◌}
+use Rattle.std.proofs.Common.{◌≡◌, ℕ, ◌≤◌, List, length, Ok, sym, ap, subst, ◌∙◌}
 use Rattle.std.specs.Prelude.{codes}
 use Rattle.std.specs.List.{AllByRecursion}
-use Rattle.word_field.specs.Residues.{residues, is_listed}
+use Rattle.word_field.specs.Residues.{residues}
 use Rattle.word_field.specs.laws.Residues.{residues_field}
 use Rattle.word_field.specs.declared.WordField.{WordField}
 use Rattle.monomial_order.specs.declared.weight_order.WeightOrder.{WeightOrder}
@@ -14,7 +14,6 @@ use Rattle.polynomials.specs.Polynomial.{Polynomial}
 use Rattle.poly_core.specs.Names.{AreNames, IsNameList}
 use Rattle.poly_core.specs.Presentation.{IsCanonicalList, IsValid, weight_order_of}
 use Rattle.poly_core.specs.declared.place_names.Names.{Names}
-use Rattle.poly_core.specs.declared.place_names.Names.TheVariants.{Listed}
 use Rattle.poly_core.specs.declared.presentations.Presentation.{Presentation}
 use Rattle.poly_core.specs.laws.Presentation.{canonical_presentation}
 use Rattle.polynomial_text.specs.laws.Steps.{step_ok, same_ok}

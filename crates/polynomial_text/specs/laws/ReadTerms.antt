@@ -1,5 +1,5 @@
 -- The terms that a line is read as are terms in the places of the order, with names and with low degrees.
-use Rattle.std.proofs.Common.{◌≡◌, ◌≢◌, ℕ, zero, suc, ◌≤◌, Bool, true, false, ◌==◌, cond, List, [], ◌∷◌, length, Option, Some, None, Result, Ok, Err, IsSome, nat_le, refl, sym, ap, subst, ◌∙◌, ⊎_elim, arith}
+use Rattle.std.proofs.Common.{◌≡◌, ◌≢◌, ℕ, zero, suc, ◌≤◌, Bool, true, false, ◌==◌, cond, List, [], ◌∷◌, Option, Some, None, Result, Ok, Err, IsSome, nat_le, refl, sym, ap, subst, ◌∙◌, ⊎_elim, arith}
 use Rattle.std.specs.List.{list_all, slice_split}
 use Rattle.std.proofs.lemmas.Bool.{leb-true, cases_eq}
 use Rattle.std.proofs.lemmas.List.Splits.{length-slice_split}
@@ -15,7 +15,7 @@ use Rattle.poly_core.specs.Text.{AreNamed}
 use Rattle.polynomials.specs.Polynomial.{Polynomial, term_of, term_times, IsPoly, AllAt}
 use Rattle.polynomial_text.specs.declared.line_fault.LineKind.{LineKind}
 use Rattle.polynomial_text.specs.declared.line_fault.LineKind.TheVariants.{PolySyntax, DegreeTooLarge}
-use Rattle.polynomial_text.specs.Results.{◌>>=◌, along, each}
+use Rattle.polynomial_text.specs.Results.{◌>>=◌, each}
 use Rattle.polynomial_text.specs.Degrees.{IsLow}
 use Rattle.polynomial_text.specs.Bytes.{is_blank, is_digit, front, behind}
 use Rattle.polynomial_text.specs.PolyLine.{number_at, exponent_at, power, place_of, is_named, power_at, factor_at, with_factor, term_at, behind_sign, signed_parts, terms_of}
