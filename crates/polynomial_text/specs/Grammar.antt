@@ -78,8 +78,10 @@ module _ {E : Type 0} (K : FieldOps E) (O : MonomialOrder) (names : Names) where
 
   -- the product of t and the factors, with `*` between them; each product on the way has such a degree
   pub data IsProduct : Term E → List ℕ → Term E → Type 0 where
-    one_factor : (t u x : Term E) (bytes : List ℕ) → IsSpacedFactor bytes x → IsNextProduct t x u → IsProduct t bytes u
-    factors : (t u v x : Term E) (bytes part rest : List ℕ) → bytes ≡ part ++ (42 ∷ rest) → IsSpacedFactor part x → IsNextProduct t x u → IsProduct u rest v → IsProduct t bytes v
+    one_factor : (t u x : Term E) (bytes : List ℕ) → IsSpacedFactor bytes x → IsNextProduct t x u →
+        IsProduct t bytes u
+    factors : (t u v x : Term E) (bytes part rest : List ℕ) → bytes ≡ part ++ (42 ∷ rest) →
+        IsSpacedFactor part x → IsNextProduct t x u → IsProduct u rest v → IsProduct t bytes v
 
   -- a term behind a sign
   abbrev pub IsTermOf : Bool → List ℕ → Term E → Type 0
@@ -88,7 +90,9 @@ module _ {E : Type 0} (K : FieldOps E) (O : MonomialOrder) (names : Names) where
   -- terms with signs between them; the first is behind the sign that is given
   pub data IsSum : Bool → List ℕ → Polynomial E → Type 0 where
     one_term : (minus : Bool) (bytes : List ℕ) (t : Term E) → IsTermOf minus bytes t → IsSum minus bytes (t ∷ [])
-    terms : (minus next : Bool) (bytes part rest : List ℕ) (t : Term E) (ts : Polynomial E) → bytes ≡ part ++ (sign_byte next ∷ rest) → IsTermOf minus part t → IsSum next rest ts → IsSum minus bytes (t ∷ ts)
+    terms : (minus next : Bool) (bytes part rest : List ℕ) (t : Term E) (ts : Polynomial E) →
+        bytes ≡ part ++ (sign_byte next ∷ rest) → IsTermOf minus part t → IsSum next rest ts →
+        IsSum minus bytes (t ∷ ts)
 
   -- a sign before the first term, with blanks before it
   pub record IsSigned (bytes : List ℕ) (ts : Polynomial E) : Type 0 where

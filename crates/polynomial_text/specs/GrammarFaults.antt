@@ -21,7 +21,7 @@ pub record IsLongNumber (bytes : List ℕ) : Type 0 where
   pub digits : list_all is_digit bytes ≡ true
   pub many : digits_max < length bytes
 
--- the bytes do not go on with what is behind a name: with the name or with `^` if there is no exponent, else with its number
+-- the bytes do not go on with what is before them: with a name or with `^` if there is no exponent, else with its digits
 abbrev pub EndsExponent : {bytes : List ℕ} {n : ℕ} → IsExponent bytes n → List ℕ → Type 0
 EndsExponent (inl none) rest = Stops is_name_byte rest × Stops (λ b. b == 94) (behind is_blank rest)
 EndsExponent (inr raised) rest = Stops is_digit rest
@@ -57,31 +57,47 @@ module _ {E : Type 0} (K : FieldOps E) (O : MonomialOrder) (names : Names) where
   -- The fault of bytes that are to be a factor by which t is multiplied. Blanks may be before it.
   pub data IsFactorFault : Term E → List ℕ → LineKind → Type 0 where
     -- neither a number nor a name begins
-    no_factor : (t : Term E) (bytes before rest : List ℕ) → bytes ≡ before ++ rest → AreBlanks before → Stops is_blank rest → Stops is_digit rest → Stops is_letter rest → IsFactorFault t bytes PolySyntax
-    long_number : (t : Term E) (bytes before number rest : List ℕ) → bytes ≡ before ++ (number ++ rest) → AreBlanks before → IsLongNumber number → Stops is_digit rest → IsFactorFault t bytes NumberTooLong
+    no_factor : (t : Term E) (bytes before rest : List ℕ) → bytes ≡ before ++ rest → AreBlanks before →
+        Stops is_blank rest → Stops is_digit rest → Stops is_letter rest → IsFactorFault t bytes PolySyntax
+    long_number : (t : Term E) (bytes before number rest : List ℕ) → bytes ≡ before ++ (number ++ rest) →
+        AreBlanks before → IsLongNumber number → Stops is_digit rest → IsFactorFault t bytes NumberTooLong
     -- the name is that of no variable
-    unknown_name : (t : Term E) (bytes before name rest : List ℕ) → bytes ≡ before ++ (name ++ rest) → AreBlanks before → has_name_form name ≡ true → Stops is_name_byte rest →
+    unknown_name : (t : Term E) (bytes before name rest : List ℕ) → bytes ≡ before ++ (name ++ rest) →
+        AreBlanks before → has_name_form name ≡ true → Stops is_name_byte rest →
         ((i : ℕ) → i < O.places → name_at names i ≡ Some name → ⊥) → IsFactorFault t bytes UnknownName
     -- no number is behind `^`
-    no_exponent : (t : Term E) (bytes before base rest : List ℕ) → bytes ≡ before ++ (base ++ rest) → AreBlanks before → IsBase base → Stops is_blank rest → Stops is_digit rest → IsFactorFault t bytes PolySyntax
-    long_exponent : (t : Term E) (bytes before base number rest : List ℕ) → bytes ≡ before ++ (base ++ (number ++ rest)) → AreBlanks before → IsBase base → IsLongNumber number → Stops is_digit rest → IsFactorFault t bytes NumberTooLong
+    no_exponent : (t : Term E) (bytes before base rest : List ℕ) → bytes ≡ before ++ (base ++ rest) →
+        AreBlanks before → IsBase base → Stops is_blank rest → Stops is_digit rest →
+        IsFactorFault t bytes PolySyntax
+    long_exponent : (t : Term E) (bytes before base number rest : List ℕ) →
+        bytes ≡ before ++ (base ++ (number ++ rest)) → AreBlanks before → IsBase base → IsLongNumber number →
+        Stops is_digit rest → IsFactorFault t bytes NumberTooLong
     -- the factor brings the degree above degree_max
-    high_degree : (t x : Term E) (bytes : List ℕ) → IsFrontFactor bytes x → degree_max < O.degree (product t.at x.at) → IsFactorFault t bytes DegreeTooLarge
+    high_degree : (t x : Term E) (bytes : List ℕ) → IsFrontFactor bytes x →
+        degree_max < O.degree (product t.at x.at) → IsFactorFault t bytes DegreeTooLarge
     -- something other than blanks is behind the factor
-    no_end : (t x : Term E) (bytes : List ℕ) (h : IsFrontFactor bytes x) → O.degree (product t.at x.at) ≤ degree_max → list_all is_blank h.rest ≡ false → IsFactorFault t bytes PolySyntax
+    no_end : (t x : Term E) (bytes : List ℕ) (h : IsFrontFactor bytes x) →
+        O.degree (product t.at x.at) ≤ degree_max → list_all is_blank h.rest ≡ false →
+        IsFactorFault t bytes PolySyntax
 
   -- The fault of bytes without signs that are to be factors by which t is multiplied: the bytes before the first `*` have
   -- one, or they are a factor and the bytes behind that `*` have one.
   pub data IsProductFault : Term E → List ℕ → LineKind → Type 0 where
-    in_factor : (t : Term E) (bytes : List ℕ) (kind : LineKind) → IsFactorFault t (front (λ b. not (b == 42)) bytes) kind → IsProductFault t bytes kind
-    in_later_factor : (t u x : Term E) (bytes part rest : List ℕ) (kind : LineKind) → bytes ≡ part ++ (42 ∷ rest) → IsSpacedFactor K O names part x → IsNextProduct K O names t x u → IsProductFault u rest kind →
-        IsProductFault t bytes kind
+    in_factor : (t : Term E) (bytes : List ℕ) (kind : LineKind) →
+        IsFactorFault t (front (λ b. not (b == 42)) bytes) kind → IsProductFault t bytes kind
+    in_later_factor : (t u x : Term E) (bytes part rest : List ℕ) (kind : LineKind) →
+        bytes ≡ part ++ (42 ∷ rest) → IsSpacedFactor K O names part x → IsNextProduct K O names t x u →
+        IsProductFault u rest kind → IsProductFault t bytes kind
 
   -- The fault of bytes that are to be terms: the bytes before the first sign have one, or they are a term and the bytes
   -- behind that sign have one.
   pub data IsSumFault : Bool → List ℕ → LineKind → Type 0 where
-    in_term : (minus : Bool) (bytes : List ℕ) (kind : LineKind) → IsProductFault (term_of [] (sign K O names minus)) (front (λ b. not (is_sign b)) bytes) kind → IsSumFault minus bytes kind
-    in_later_term : (minus next : Bool) (bytes part rest : List ℕ) (t : Term E) (kind : LineKind) → bytes ≡ part ++ (sign_byte next ∷ rest) → IsTermOf K O names minus part t → IsSumFault next rest kind → IsSumFault minus bytes kind
+    in_term : (minus : Bool) (bytes : List ℕ) (kind : LineKind) →
+        IsProductFault (term_of [] (sign K O names minus)) (front (λ b. not (is_sign b)) bytes) kind →
+        IsSumFault minus bytes kind
+    in_later_term : (minus next : Bool) (bytes part rest : List ℕ) (t : Term E) (kind : LineKind) →
+        bytes ≡ part ++ (sign_byte next ∷ rest) → IsTermOf K O names minus part t → IsSumFault next rest kind →
+        IsSumFault minus bytes kind
 
   -- a sign before the first term, with blanks before it, and a fault behind it
   pub record IsSignedFault (bytes : List ℕ) (kind : LineKind) : Type 0 where
@@ -92,7 +108,7 @@ module _ {E : Type 0} (K : FieldOps E) (O : MonomialOrder) (names : Names) where
     pub blank_before : AreBlanks before
     pub fault : IsSumFault minus rest kind
 
-  -- neither is the line empty but for blanks before its first sign, if it has one; that sign is not before the first term
+  -- no sign is before the first term: the line has no sign, or more than blanks before its first one
   abbrev pub IsUnsigned : List ℕ → Type 0
   IsUnsigned bytes = (behind (λ b. not (is_sign b)) bytes ≡ []) ⊎ (list_all is_blank (front (λ b. not (is_sign b)) bytes) ≡ false)
 
