@@ -18,11 +18,11 @@ factors_next text rest is some =
 -- ---- terms
 
 -- the parts behind the sign that the bytes begin with
-abbrev terms_behind : List ℕ → List (Bool × List ℕ)
+abbrev pub terms_behind : List ℕ → List (Bool × List ℕ)
 terms_behind [] = []
 terms_behind (b ∷ bytes) = signed_parts (eqb b 45) bytes
 
-terms_split : (minus : Bool) (text : List ℕ) → signed_parts minus text ≡ (minus, front (λ b. not (is_sign b)) text) ∷ terms_behind (behind (λ b. not (is_sign b)) text)
+pub terms_split : (minus : Bool) (text : List ℕ) → signed_parts minus text ≡ (minus, front (λ b. not (is_sign b)) text) ∷ terms_behind (behind (λ b. not (is_sign b)) text)
 unfolding signed_parts front behind
 terms_split minus [] = refl
 terms_split minus (b ∷ text) = by_test (is_sign b) refl (terms_split minus text)

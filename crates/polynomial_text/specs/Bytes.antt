@@ -1,5 +1,5 @@
 -- Classes of bytes, and fronts of lines.
-use Rattle.std.specs.Prelude.{ℕ, List, [], ◌∷◌, Bool, true, not, ◌&&◌, ◌||◌, ◌==◌, nat_le, if◌then◌else◌}
+use Rattle.std.specs.Prelude.{◌≡◌, ℕ, List, [], ◌∷◌, Bool, true, false, not, ◌&&◌, ◌||◌, ◌==◌, nat_le, if◌then◌else◌}
 use Rattle.poly_core.specs.Names.{is_letter, is_name_byte}
 use Rattle.polynomial_text.specs.declared.byte_class.ByteClass.{ByteClass}
 use Rattle.polynomial_text.specs.declared.byte_class.ByteClass.TheVariants as classes
@@ -33,6 +33,11 @@ front test (b ∷ bytes) = if test b then b ∷ front test bytes else []
 unfoldable pub behind : (ℕ → Bool) → List ℕ → List ℕ
 behind test [] = []
 behind test (b ∷ bytes) = if test b then behind test bytes else b ∷ bytes
+
+-- no first byte passes: the bytes are none, or the first one fails
+abbrev pub Stops : (ℕ → Bool) → List ℕ → Type 0
+Stops test [] = Unit {0}
+Stops test (b ∷ bytes) = test b ≡ false
 
 -- the most digits of a number
 abbrev pub digits_max : ℕ

@@ -1,6 +1,8 @@
 pub mod Bytes
 pub mod Canonical
 pub mod Degrees
+pub mod Grammar
+pub mod GrammarFaults
 pub mod LineReading
 pub mod PolyLine
 pub mod Results

@@ -4,6 +4,7 @@
 mod byte_class;
 mod canonical;
 mod factor;
+pub mod laws;
 mod line_fault;
 mod line_number;
 mod line_parts;

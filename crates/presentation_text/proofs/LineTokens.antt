@@ -2,8 +2,8 @@
 use Rattle.std.proofs.Common.{◌≡◌, ℕ, Bool, true, false, not, eqb, List, [], ◌∷◌, length, refl, sym, ap, ◌∙◌, arith}
 use Rattle.std.specs.Prelude.{filter}
 use Rattle.std.proofs.lemmas.Bool.{eqb-true, not-false}
-use Rattle.polynomial_text.specs.Bytes.{is_blank, front, behind}
-use Rattle.polynomial_text.specs.laws.Fronts.{parts_behind, parts_split, Stops, behind_stops}
+use Rattle.polynomial_text.specs.Bytes.{is_blank, front, behind, Stops}
+use Rattle.polynomial_text.specs.laws.Fronts.{parts_behind, parts_split, behind_stops}
 use Rattle.presentation_text.specs.Lines.{tokens}
 
 tokens_behind : (line : List ℕ) → tokens (behind is_blank line) ≡ tokens line

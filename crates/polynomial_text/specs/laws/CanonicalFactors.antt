@@ -11,16 +11,15 @@ use Rattle.poly_core.specs.declared.place_names.Names.{Names}
 use Rattle.poly_core.specs.Names.{is_letter, is_name_byte, has_name_form}
 use Rattle.polynomials.specs.Polynomial.{term_of, term_times}
 use Rattle.poly_core.specs.Text.{factor_text}
-use Rattle.polynomial_text.specs.Bytes.{is_blank, is_digit, behind}
+use Rattle.polynomial_text.specs.Bytes.{is_blank, is_digit, behind, Stops}
 use Rattle.monomial_order.specs.Limits.{degree_max}
 use Rattle.polynomial_text.specs.PolyLine.{number_at, exponent_at, power, place_of, power_at, factor_at, with_factor}
-use Rattle.polynomial_text.specs.laws.Fronts.{Stops}
 use Rattle.polynomial_text.specs.laws.Names.{letter_in_name, name_bytes}
 use Rattle.polynomial_text.specs.laws.CanonicalParts.{Begins, all_append, all_weaker, begins_append, stops_from, begins_stops, front_all, behind_all, behind_blanks, is_piece_byte, digit_in_name, name_in_piece, name_no_blank, blank_no_name, blank_no_digit, letter_no_digit, IsWritten, decimal_digits, decimal_begins, number_decimal}
 
 -- ---- exponents
 
-exponent_none : (back : List ℕ) → list_all is_blank back ≡ true → exponent_at back ≡ Ok (1, [])
+pub exponent_none : (back : List ℕ) → list_all is_blank back ≡ true → exponent_at back ≡ Ok (1, [])
 unfolding exponent_at
 exponent_none back h = rw (behind_blanks back h) refl
 
@@ -39,7 +38,7 @@ module _ {E : Type 0} (K : FieldOps E) (O : MonomialOrder) (names : Names) where
     pub bytes : list_all is_piece_byte piece ≡ true
     pub read : (back : List ℕ) → list_all is_blank back ≡ true → (rest : List ℕ) × (factor_at K O names (piece ++ back) ≡ Ok (f, rest)) × (list_all is_blank rest ≡ true)
 
-  factor_digits : (ds back rest : List ℕ) (n : ℕ) → Begins is_digit ds → number_at (ds ++ back) ≡ Ok (n, rest) → factor_at K O names (ds ++ back) ≡ Ok (term_of [] (K.of_word n), rest)
+  pub factor_digits : (ds back rest : List ℕ) (n : ℕ) → Begins is_digit ds → number_at (ds ++ back) ≡ Ok (n, rest) → factor_at K O names (ds ++ back) ≡ Ok (term_of [] (K.of_word n), rest)
   unfolding factor_at
   factor_digits [] back rest n h e = absurd h
   factor_digits (d ∷ ds) back rest n h e = rw (h, e) refl
@@ -55,11 +54,11 @@ module _ {E : Type 0} (K : FieldOps E) (O : MonomialOrder) (names : Names) where
     read = λ back b. (back, factor_digits (decimal n) back back n (decimal_begins n h) (number_decimal n back h (stops_from is_blank is_digit blank_no_digit back b)), b);
   }
 
-  name_begins : (name : List ℕ) → has_name_form name ≡ true → Begins is_name_byte name
+  pub name_begins : (name : List ℕ) → has_name_form name ≡ true → Begins is_name_byte name
   name_begins [] h = absurd cc
   name_begins (b ∷ bytes) h = letter_in_name b (and_parts (is_letter b) (list_all is_name_byte bytes) h).0
 
-  factor_name : (name tail rest : List ℕ) (i e : ℕ) → has_name_form name ≡ true → Stops is_name_byte tail → place_of names O.places name ≡ Some i → exponent_at tail ≡ Ok (e, rest) →
+  pub factor_name : (name tail rest : List ℕ) (i e : ℕ) → has_name_form name ≡ true → Stops is_name_byte tail → place_of names O.places name ≡ Some i → exponent_at tail ≡ Ok (e, rest) →
       factor_at K O names (name ++ tail) ≡ Ok (term_of (power i e) K.one, rest)
   unfolding factor_at power_at
   factor_name [] tail rest i e h stop place up = absurd cc

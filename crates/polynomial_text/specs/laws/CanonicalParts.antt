@@ -11,9 +11,8 @@ use Rattle.std.proofs.lemmas.List.Elements.{All-from_recursion}
 use Rattle.std.proofs.lemmas.List.Splits.{slice_split_none, slice_split_at}
 use Rattle.poly_core.specs.Names.{is_letter, is_name_byte}
 use Rattle.poly_core.specs.Text.{join}
-use Rattle.polynomial_text.specs.Bytes.{digits_max, is_blank, is_digit, is_sign, front, behind}
+use Rattle.polynomial_text.specs.Bytes.{digits_max, is_blank, is_digit, is_sign, front, behind, Stops}
 use Rattle.polynomial_text.specs.PolyLine.{number_at, signed_parts}
-use Rattle.polynomial_text.specs.laws.Fronts.{Stops}
 
 -- ---- tests along lists
 
@@ -174,15 +173,15 @@ split_joined lead back x (y ∷ ys) l b h =
 
 -- ---- parts at signs
 
-parts_none : (minus : Bool) (w : List ℕ) → Lack is_sign w → signed_parts minus w ≡ (minus, w) ∷ []
+pub parts_none : (minus : Bool) (w : List ℕ) → Lack is_sign w → signed_parts minus w ≡ (minus, w) ∷ []
 unfolding signed_parts
 parts_none minus [] h = refl
 parts_none minus (b ∷ w) h = rw (h.0, parts_none minus w h.1) refl
 
-parts_plus : (minus : Bool) (w rest : List ℕ) → Lack is_sign w → signed_parts minus (w ++ 43 ∷ rest) ≡ (minus, w) ∷ signed_parts false rest
+pub parts_signed : (minus : Bool) (w rest : List ℕ) (b : ℕ) → is_sign b ≡ true → Lack is_sign w → signed_parts minus (w ++ b ∷ rest) ≡ (minus, w) ∷ signed_parts (b == 45) rest
 unfolding signed_parts
-parts_plus minus [] rest h = refl
-parts_plus minus (b ∷ w) rest h = rw (h.0, parts_plus minus w rest h.1) refl
+parts_signed minus [] rest b sign h = rw sign refl
+parts_signed minus (c ∷ w) rest b sign h = rw (h.0, parts_signed minus w rest b sign h.1) refl
 
 -- texts with a space between each and its sign, of which the first has a text before it
 abbrev pub spaced : List ℕ → List ℕ → List (List ℕ) → List (Bool × List ℕ)
@@ -197,5 +196,5 @@ parts_joined lead x (y ∷ ys) l h =
     let regroup : lead ++ (x ++ 32 ∷ (43 ∷ (32 ∷ rest))) ≡ (lead ++ (x ++ 32 ∷ [])) ++ 43 ∷ (32 ∷ rest) =
     ap (λ z. lead ++ z) (sym (append_assoc x (32 ∷ []) (43 ∷ (32 ∷ rest)))) ∙ sym (append_assoc lead (x ++ 32 ∷ []) (43 ∷ (32 ∷ rest))) in
     ap (signed_parts false) regroup
-    ∙ parts_plus false (lead ++ (x ++ 32 ∷ [])) (32 ∷ rest) (lack_append is_sign lead (x ++ 32 ∷ []) l (lack_append is_sign x (32 ∷ []) h.0 (refl, tt)))
+    ∙ parts_signed false (lead ++ (x ++ 32 ∷ [])) (32 ∷ rest) 43 refl (lack_append is_sign lead (x ++ 32 ∷ []) l (lack_append is_sign x (32 ∷ []) h.0 (refl, tt)))
     ∙ ap (λ ps. (false, lead ++ (x ++ 32 ∷ [])) ∷ ps) (parts_joined (32 ∷ []) y ys (refl, tt) h.1)

@@ -1,6 +1,6 @@
 -- The canonical text of a term is read as the term.
 use Rattle.std.proofs.Common.{◌≡◌, ◌≢◌, ℕ, zero, suc, ◌≤◌, ◌+◌, ◌^◌, true, false, cond, eqb, List, [], ◌∷◌, ◌++◌, length, replicate, Option, Some, None, Ok, IsSome, refl, sym, ap, subst, ◌∙◌, append_assoc, append-nil, add-zero, ⊎_elim, le_trans, arith}
-use Rattle.std.specs.List.{list_all, slice_split, join_with_byte, AllByRecursion}
+use Rattle.std.specs.List.{list_all, join_with_byte, AllByRecursion}
 use Rattle.std.specs.Fmt.{decimal}
 use Rattle.std.proofs.lemmas.Bool.{eqb-true, cases_lt}
 use Rattle.word_field.specs.Field.{FieldOps, IsField, IsValue}

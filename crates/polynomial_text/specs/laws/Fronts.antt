@@ -2,7 +2,7 @@
 use Rattle.std.proofs.Common.{◌≡◌, ℕ, ◌-◌, ◌<◌, ◌≤◌, Bool, true, false, not, cond, List, [], ◌∷◌, length, take, drop, get_or, refl, sym, ap, arith}
 use Rattle.std.specs.List.{slice_split, onto_first}
 use Rattle.std.proofs.lemmas.List.{take_rest}
-use Rattle.polynomial_text.specs.Bytes.{front, behind}
+use Rattle.polynomial_text.specs.Bytes.{front, behind, Stops}
 
 pub nothing_left : (bytes : List ℕ) → length bytes < 1 → bytes ≡ []
 nothing_left [] h = refl
@@ -11,11 +11,6 @@ nothing_left (b ∷ bytes) h = absurd (omega arith)
 pub first_and_rest : (bytes : List ℕ) → 1 ≤ length bytes → bytes ≡ get_or bytes 0 0 ∷ take (length bytes - 1) (drop 1 bytes)
 first_and_rest [] h = absurd (omega arith)
 first_and_rest (b ∷ bytes) h = ap (λ (r : List ℕ). b ∷ r) (sym (take_rest (b ∷ bytes) 1))
-
--- the list has no first member that passes
-abbrev pub Stops : (ℕ → Bool) → List ℕ → Type 0
-Stops p [] = Unit {0}
-Stops p (b ∷ bytes) = p b ≡ false
 
 pub behind_stops : (p : ℕ → Bool) (bytes : List ℕ) → Stops p (behind p bytes)
 unfolding behind
