@@ -1,0 +1,4 @@
+pub mod Walks
+pub mod Links
+pub mod Nodes
+pub mod Steps
