@@ -224,3 +224,9 @@ links_grow f h n head left right free before after spare k put others =
         walk_same f h b head (λ i m. others i (is_below n (walk f (suc b) head) (walk f after right) (walk f spare free) k.partition i
         (omega (arith, ap (times_in i) w, times_in-append i (walk f b head) (past f b head ∷ []))))) in
         ap (λ x. past h x head) e ∙ (same.1 ∙ (ap (λ x. past f x head) (sym e) ∙ k.last (omega arith)))
+
+-- the last node before the cursor is among those before it
+pub left_before : (f : ℕ → ℕ) (n head left right free before after spare : ℕ) → IsLinked f n head left right free before after spare →
+    0 < before → 1 ≤ times_in left (walk f before head)
+left_before f n head left right free zero after spare k l = absurd (omega arith)
+left_before f n head left right free (suc b) after spare k l = (left_apart f f n head head left right free b after spare free k).1
