@@ -5,8 +5,8 @@ use Rattle.std.specs.Borrow.{Bor}
 use Rattle.std.proofs.lemmas.Option.{none-some, same_Some}
 use Rattle.linked_terms.specs.Cursor.{Cursor}
 use Rattle.linked_terms.specs.declared.cursor_list.Node.{Node}
-use Rattle.linked_terms.specs.Links.{times_in, walk, past, next_of, item_of, next_at, item_at, items, IsPartition, IsSound}
-use Rattle.linked_terms.proofs.Walks.{walk_same, times_in-here, times_in-append, differs, equal_or_not, at_most_once, is_below, walk_more}
+use Rattle.linked_terms.specs.Links.{times_in, walk, past, next_of, item_of, next_at, item_at, items, IsPartition, IsLinked, IsSound}
+use Rattle.linked_terms.proofs.Walks.{walk_same, times_in-here, times_in-append, times_in-more, times_in-other, differs, equal_or_not, at_most_once, is_below, walk_more}
 use Rattle.linked_terms.proofs.Links.{IsInserted, IsRemoved, left_before, links_grow}
 use Rattle.linked_terms.proofs.Nodes.{some_of, filter_map_same, slice_get-set, slice_get-set_other, slice_get-push, slice_get-pushed, slice_get_is, right_below, right_item, sound_advance, items_advance, free_below, IsFilled, ItemsInserted, sound_insert, IsEmptied, ItemsRemoved, sound_remove}
 
@@ -317,3 +317,64 @@ module _ {T : Type 0} (ns : List (Node T)) (head left right free before after sp
         (ap (λ p. v ∷ p) (filter_map_same (item_at ns) (item_at swapped) (walk (next_at ns) (after - 1) (next_at ns right))
         (λ i m. other i (differs right i (walk (next_at ns) (after - 1) (next_at ns right)) once m)) ∙ tail)))),
       )
+
+-- one more spare node
+module _ {T : Type 0} (ns : List (Node T)) (head left right free before after spare : ℕ) (s : IsSound ns head left right free before after spare)
+    (x : Node T) (ex : x ≡ record { item = None; next = free }) where
+  abbrev grown : List (Node T)
+  grown = ns ++ x ∷ []
+
+  grown_length : length grown ≡ length ns + 1
+  grown_length = length-append ns (x ∷ [])
+
+  old_next : (i : ℕ) → i < length ns → next_at grown i ≡ next_at ns i
+  old_next i l = ap next_of (slice_get-push ns i x l)
+
+  old_item : (i : ℕ) → i < length ns → item_at grown i ≡ item_at ns i
+  old_item i l = ap item_of (slice_get-push ns i x l)
+
+  new_item : item_at grown (length ns) ≡ None
+  new_item = ap item_of (slice_get-pushed ns x) ∙ ap (λ (y : Node T). y.item) ex
+
+  pub grow_step : (free' : ℕ) → free' ≡ length ns →
+      IsSound grown head left right free' before after (spare + 1) × (items grown before head ≡ items ns before head) × (items grown after right ≡ items ns after right)
+  grow_step free' e =
+      let f = next_at ns in
+      let h = next_at grown in
+      let P = walk f before head in
+      let Q = walk f after right in
+      let R = walk f spare free in
+      let part = s.links.partition in
+      let put : h (length ns) ≡ free = ap next_of (slice_get-pushed ns x) ∙ ap (λ (y : Node T). y.next) ex in
+      let g = links_grow f h (length ns) head left right free before after spare s.links put old_next in
+      let one : suc spare ≡ spare + 1 = omega arith in
+      let sound : IsSound grown head left right (length ns) before after (suc spare) = record {
+        links = subst (λ n. IsLinked h n head left right (length ns) before after (suc spare)) (sym grown_length) g.0;
+        full = λ i l z.
+        let z' : times_in i (length ns ∷ R) ≡ 0 = ap (times_in i) (sym g.3) ∙ z in
+        full_at i (equal_or_not i (length ns)) l z';
+        vacant = λ i l. vacant_at i (equal_or_not i (length ns)) (subst (λ p. 1 ≤ times_in i p) g.3 l);
+      } in (
+        subst (λ b. IsSound grown head left right free' before after b) one (subst (λ i. IsSound grown head left right i before after (suc spare)) (sym e) sound),
+        ap (filter_map (item_at grown)) g.1 ∙ filter_map_same (item_at ns) (item_at grown) P (λ i l. old_item i (is_below (length ns) P Q R part i (omega arith))),
+        ap (filter_map (item_at grown)) g.2 ∙ filter_map_same (item_at ns) (item_at grown) Q (λ i l. old_item i (is_below (length ns) P Q R part i (omega arith))),
+      )
+    where
+      full_at : (i : ℕ) → (i ≡ length ns) ⊎ (i ≢ length ns) → i < length grown → times_in i (length ns ∷ walk (next_at ns) spare free) ≡ 0 → IsSome (item_at grown i)
+      full_at i (inl q) l z =
+          let h = times_in-here i (walk (next_at ns) spare free) in
+          let same : times_in i (i ∷ walk (next_at ns) spare free) ≡ 0 = subst (λ v. times_in i (v ∷ walk (next_at ns) spare free) ≡ 0) (sym q) z in
+          absurd (omega arith)
+      full_at i (inr ne) l z =
+          let less : i < length ns = omega (arith, grown_length) in
+          subst IsSome (sym (old_item i less)) (s.full i less (omega (arith, times_in-more i (length ns) (walk (next_at ns) spare free))))
+
+      vacant_at : (i : ℕ) → (i ≡ length ns) ⊎ (i ≢ length ns) → 1 ≤ times_in i (length ns ∷ walk (next_at ns) spare free) → item_at grown i ≡ None
+      vacant_at i (inl q) l = ap (item_at grown) q ∙ new_item
+      vacant_at i (inr ne) l =
+          let m : times_in i (length ns ∷ walk (next_at ns) spare free) ≡ times_in i (walk (next_at ns) spare free) =
+          times_in-other i (length ns) (walk (next_at ns) spare free) (λ q. ne (sym q)) in
+          let P = walk (next_at ns) before head in
+          let Q = walk (next_at ns) after right in
+          let R = walk (next_at ns) spare free in
+          old_item i (is_below (length ns) P Q R s.links.partition i (omega arith)) ∙ s.vacant i (omega arith)
