@@ -2,3 +2,7 @@
 #![tactic(auto)]
 
 mod cursor_list;
+mod merging;
+mod term_chain;
+
+pub use term_chain::TermChain;
