@@ -2,3 +2,5 @@ pub mod Walks
 pub mod Links
 pub mod Nodes
 pub mod Steps
+pub mod Seeking
+pub mod Adding

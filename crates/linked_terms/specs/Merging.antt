@@ -19,13 +19,17 @@ module _ {E : Type 0} (O : MonomialOrder) where
   NextIs m true (t ∷ p) = t.at ≡ m
   NextIs m false (t ∷ p) = O.compare t.at m ≡ Less
 
-  -- the cursor went past the terms that are greater than m
-  pub record IsSought (m : Exponents) (found : Bool) (old new : Cursor (Term E)) : Type 0 where
+  -- the cursor went past terms that are greater than m
+  pub record HasPassed (m : Exponents) (old new : Cursor (Term E)) : Type 0 where
     pub passed : Polynomial E
     pub left : new.before ≡ old.before ++ passed
     pub right : old.after ≡ passed ++ new.after
     pub spare : new.spare ≡ old.spare
     pub above : IsAbove m passed
+
+  -- it went past all of them, and `found` says whether the next term is at m
+  pub record IsSought (m : Exponents) (found : Bool) (old new : Cursor (Term E)) : Type 0 where
+    pub walk : HasPassed m old new
     pub next : NextIs m found new.after
 
 module _ {E : Type 0} (K : FieldOps E) where
