@@ -4,3 +4,4 @@ pub mod Nodes
 pub mod Steps
 pub mod Seeking
 pub mod Adding
+pub mod Scaling
