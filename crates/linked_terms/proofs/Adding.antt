@@ -3,11 +3,11 @@ use Rattle.std.proofs.Common.{◌≡◌, ◌≢◌, ℕ, zero, suc, ◌+◌, ◌
 use Rattle.std.proofs.lemmas.Bool.{true≢false}
 use Rattle.std.specs.declared.cmp.Ordering.TheVariants.{Less}
 use Rattle.word_field.specs.Field.{FieldOps, IsField, IsValue}
-use Rattle.word_field.specs.laws.Field.{zero-plus, zero-plus-zero}
+use Rattle.word_field.specs.laws.Field.{zero-plus, zero-plus-zero, zero-times}
 use Rattle.monomial_order.specs.declared.terms.Term.{Term}
 use Rattle.monomial_order.specs.Monomial.{Exponents}
 use Rattle.monomial_order.specs.MonomialOrder.{MonomialOrder, IsMonomialOrder}
-use Rattle.polynomials.specs.Polynomial.{Polynomial, same_monomial, share, coefficient, Same, term_of, AllAt, IsTerm, IsBelow, IsLeadTerm, IsDecreasing, IsSmall, IsCanonical}
+use Rattle.polynomials.specs.Polynomial.{Polynomial, same_monomial, share, coefficient, Same, term_of, term_times, scaled, AllAt, IsTerm, IsBelow, IsLeadTerm, IsDecreasing, IsSmall, IsCanonical}
 use Rattle.polynomials.specs.laws.Ring.{coefficient_value}
 use Rattle.polynomials.specs.laws.Same.{append_same, append_comm}
 use Rattle.polynomials.specs.laws.Decreasing.{IsBelow_trans}
@@ -70,6 +70,14 @@ module _ {E : Type 0} (K : FieldOps E) (F : IsField K) (O : MonomialOrder) (L : 
   sum_zero t r h m =
       sym (ap (λ x. K.plus x (coefficient K r m)) (share_zero (same_monomial t.at m) t.by h) ∙ (zero-plus K F (coefficient K r m) ∙ coefficient_value K F r m))
 
+  -- products with zero add nothing
+  pub sum_nothing : (s : Term E) → s.by ≡ K.zero → (p q : Polynomial E) → Same K p (p ++ scaled K s q)
+  sum_nothing s z p q m = ap (λ r. coefficient K r m) (sym (append-nil p)) ∙ append_same K F p p [] (scaled K s q) (λ n. refl) (nothing q) m
+    where
+      nothing : (q : Polynomial E) → Same K [] (scaled K s q)
+      nothing [] m = refl
+      nothing (t ∷ q) m = nothing q m ∙ sum_zero (term_times K s t) (scaled K s q) (ap (λ x. K.times x t.by) z ∙ zero-times K F t.by) m
+
   sum_combined : (p : Polynomial E) (u t : Term E) (r : Polynomial E) → u.at ≡ t.at →
       Same K (p ++ term_of t.at (K.plus u.by t.by) ∷ r) ((p ++ u ∷ r) ++ t ∷ [])
   sum_combined p u t r e m =
@@ -123,7 +131,6 @@ module _ {E : Type 0} (K : FieldOps E) (F : IsField K) (O : MonomialOrder) (L : 
 
       counted : length mid.before + length mid.after ≡ length old.before + length old.after
       counted = omega (arith, ap length whole, length-append old.before old.after, length-append mid.before mid.after)
-
 
       pub added_new : (new : Cursor (Term E)) → t.by ≢ K.zero → NextIs O t.at false mid.after →
           new ≡ record { before = mid.before ++ t ∷ []; after = mid.after; spare = mid.spare - 1 } → IsAdded K O t old new

@@ -117,8 +117,8 @@ module _ {T : Type 0} (ns : List (Node T)) (head left right free before after sp
       let same : r.0 ≡ x = cc in
       let tail : items ns after (next_at ns right) ≡ rest = cc in (
         ap (filter_map (item_at ns)) (walk_advance (next_at ns) (length ns) head left right free before (suc after) spare s.links) ∙
-        (filter_map-append (item_at ns) (walk (next_at ns) before head) (right ∷ []) ∙
-        ap (λ o. items ns before head ++ Rattle.std.specs.List.cons_option o []) (r.1 ∙ ap Some same)),
+            (filter_map-append (item_at ns) (walk (next_at ns) before head) (right ∷ []) ∙
+            ap (λ o. items ns before head ++ Rattle.std.specs.List.cons_option o []) (r.1 ∙ ap Some same)),
         tail,
       )
 
@@ -159,9 +159,9 @@ module _ {T : Type 0} (ns : List (Node T)) (head left right free before after sp
           links = subst (λ n. IsLinked h n head' free right (f free) (suc before) after spare) (sym e.length_same) w.links;
           full = λ i l z. cases i (equal_or_not i free) (omega (arith, e.length_same)) (ap (times_in i) (sym w.walk_spare) ∙ z);
           vacant = λ i l.
-          let m : 1 ≤ times_in i R = omega (arith, ap (times_in i) w.walk_spare) in
-          let ne : i ≢ free = differs free i R fr m in
-          e.items_same i ne ∙ s.vacant i (omega (arith, times_in-more i free R));
+              let m : 1 ≤ times_in i R = omega (arith, ap (times_in i) w.walk_spare) in
+              let ne : i ≢ free = differs free i R fr m in
+              e.items_same i ne ∙ s.vacant i (omega (arith, times_in-more i free R));
         };
         left_of =
             ap (filter_map (item_at ns')) w.walk_before ∙
@@ -207,9 +207,9 @@ module _ {T : Type 0} (ns : List (Node T)) (head left right free before after sp
         sound = record {
           links = subst (λ n. IsLinked h n head' left (f right) right before after (suc spare)) (sym e.length_same) w.links;
           full = λ i l z.
-          let z' : times_in i (right ∷ walk f spare free) ≡ 0 = ap (times_in i) (sym w.walk_spare) ∙ z in
-          let ne : i ≢ right = λ q. let m : times_in i (right ∷ walk f spare free) ≡ 1 + times_in i (walk f spare free) = subst (λ v. times_in i (v ∷ walk f spare free) ≡ 1 + times_in i (walk f spare free)) q (times_in-here i (walk f spare free)) in absurd (omega arith) in
-          subst IsSome (sym (e.items_same i ne)) (s.full i (omega (arith, e.length_same)) (sym (times_in-other i right (walk f spare free) (λ q. ne (sym q))) ∙ z'));
+              let z' : times_in i (right ∷ walk f spare free) ≡ 0 = ap (times_in i) (sym w.walk_spare) ∙ z in
+              let ne : i ≢ right = λ q. let m : times_in i (right ∷ walk f spare free) ≡ 1 + times_in i (walk f spare free) = subst (λ v. times_in i (v ∷ walk f spare free) ≡ 1 + times_in i (walk f spare free)) q (times_in-here i (walk f spare free)) in absurd (omega arith) in
+              subst IsSome (sym (e.items_same i ne)) (s.full i (omega (arith, e.length_same)) (sym (times_in-other i right (walk f spare free) (λ q. ne (sym q))) ∙ z'));
           vacant = λ i l. cases i (equal_or_not i right) (subst (λ p. 1 ≤ times_in i p) w.walk_spare l);
         };
         left_of =

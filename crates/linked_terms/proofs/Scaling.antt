@@ -87,12 +87,12 @@ module _ {E : Type 0} (K : FieldOps E) (F : IsField K) (O : MonomialOrder) (L : 
         record {
           canonical = a.canonical;
           sum = λ m.
-          a.sum m ∙
-          (append_same K F (list.before ++ list.after) (start.after ++ scaled K s (take k terms)) (x ∷ []) (x ∷ []) h.sum (λ n. refl) m ∙
-          ap (λ p. coefficient K p m)
-          (append_assoc start.after (scaled K s (take k terms)) (x ∷ []) ∙
-          ap (λ p. start.after ++ p)
-          (ap (λ y. scaled K s (take k terms) ++ y ∷ []) ex ∙ (sym (map-append (term_times K s) (take k terms) (t ∷ [])) ∙ ap (scaled K s) (sym (take_one k terms t l is))))));
+              a.sum m ∙
+              (append_same K F (list.before ++ list.after) (start.after ++ scaled K s (take k terms)) (x ∷ []) (x ∷ []) h.sum (λ n. refl) m ∙
+              ap (λ p. coefficient K p m)
+              (append_assoc start.after (scaled K s (take k terms)) (x ∷ []) ∙
+              ap (λ p. start.after ++ p)
+              (ap (λ y. scaled K s (take k terms) ++ y ∷ []) ex ∙ (sym (map-append (term_times K s) (take k terms) (t ∷ [])) ∙ ap (scaled K s) (sym (take_one k terms t l is))))));
           above = later (scaled K s (drop (k + 1) terms)) lead.above;
           count = omega (arith, a.count, h.count);
           room = omega (arith, a.room, h.room);

@@ -57,6 +57,6 @@ module _ {E : Type 0} (K : FieldOps E) where
       inr (
         λ z. n (sum ∙ z),
         a (term_of term.at by) rest after ∙
-        (ap (λ b. R b mid.spare by) (ap (λ (v : Cursor (Term E)). v.before) m) ∙
-        (ap (λ c. R old.before c by) (ap (λ (v : Cursor (Term E)). v.spare) m) ∙ ap (R old.before old.spare) sum)),
+            (ap (λ b. R b mid.spare by) (ap (λ (v : Cursor (Term E)). v.before) m) ∙
+            (ap (λ c. R old.before c by) (ap (λ (v : Cursor (Term E)). v.spare) m) ∙ ap (R old.before old.spare) sum)),
       )

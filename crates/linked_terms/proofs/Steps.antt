@@ -286,9 +286,9 @@ module _ {T : Type 0} (ns : List (Node T)) (head left right free before after sp
     };
     full = λ i m k. cases i (equal_or_not i right) (omega (arith, same_length)) (ap (times_in i) (sym (same_walk spare free)) ∙ k);
     vacant = λ i m.
-    let m' : 1 ≤ times_in i (walk (next_at ns) spare free) = subst (λ p. 1 ≤ times_in i p) (same_walk spare free) m in
-    let ne : i ≢ right = differs right i (walk (next_at ns) spare free) (let u = right_used in omega arith) m' in
-    item_elsewhere ns right (record { item = Some v; next = z.next }) i ne ∙ s.vacant i m';
+        let m' : 1 ≤ times_in i (walk (next_at ns) spare free) = subst (λ p. 1 ≤ times_in i p) (same_walk spare free) m in
+        let ne : i ≢ right = differs right i (walk (next_at ns) spare free) (let u = right_used in omega arith) m' in
+        item_elsewhere ns right (record { item = Some v; next = z.next }) i ne ∙ s.vacant i m';
   }
     where
       cases : (i : ℕ) → (i ≡ right) ⊎ (i ≢ right) → i < length ns → times_in i (walk (next_at ns) spare free) ≡ 0 → IsSome (item_at swapped i)
@@ -307,15 +307,14 @@ module _ {T : Type 0} (ns : List (Node T)) (head left right free before after sp
       let there : times_in right (walk (next_at ns) after right) ≡ times_in right (right ∷ walk (next_at ns) (after - 1) (next_at ns right)) =
       ap (λ a. times_in right (walk (next_at ns) a right)) (is_suc after l) in
       let most = at_most_once (length ns) (walk (next_at ns) before head) (walk (next_at ns) after right) (walk (next_at ns) spare free) s.links.partition right in
-      let once : times_in right (walk (next_at ns) (after - 1) (next_at ns right)) ≡ 0 = omega arith in
-      (
+      let once : times_in right (walk (next_at ns) (after - 1) (next_at ns right)) ≡ 0 = omega arith in (
         ap (filter_map (item_at swapped)) (same_walk before head) ∙
-        filter_map_same (item_at ns) (item_at swapped) (walk (next_at ns) before head) (λ i m. other i (differs right i (walk (next_at ns) before head) (omega arith) m)),
+            filter_map_same (item_at ns) (item_at swapped) (walk (next_at ns) before head) (λ i m. other i (differs right i (walk (next_at ns) before head) (omega arith) m)),
         ap (filter_map (item_at swapped)) (same_walk after right) ∙
-        (ap (λ a. filter_map (item_at swapped) (walk (next_at ns) a right)) (is_suc after l) ∙
-        (ap (λ o. Rattle.std.specs.List.cons_option o (filter_map (item_at swapped) (walk (next_at ns) (after - 1) (next_at ns right)))) (item_written ns right (record { item = Some v; next = z.next }) seen) ∙
-        (ap (λ p. v ∷ p) (filter_map_same (item_at ns) (item_at swapped) (walk (next_at ns) (after - 1) (next_at ns right))
-        (λ i m. other i (differs right i (walk (next_at ns) (after - 1) (next_at ns right)) once m)) ∙ tail)))),
+            (ap (λ a. filter_map (item_at swapped) (walk (next_at ns) a right)) (is_suc after l) ∙
+            (ap (λ o. Rattle.std.specs.List.cons_option o (filter_map (item_at swapped) (walk (next_at ns) (after - 1) (next_at ns right)))) (item_written ns right (record { item = Some v; next = z.next }) seen) ∙
+            (ap (λ p. v ∷ p) (filter_map_same (item_at ns) (item_at swapped) (walk (next_at ns) (after - 1) (next_at ns right))
+            (λ i m. other i (differs right i (walk (next_at ns) (after - 1) (next_at ns right)) once m)) ∙ tail)))),
       )
 
 -- one more spare node
@@ -351,8 +350,8 @@ module _ {T : Type 0} (ns : List (Node T)) (head left right free before after sp
       let sound : IsSound grown head left right (length ns) before after (suc spare) = record {
         links = subst (λ n. IsLinked h n head left right (length ns) before after (suc spare)) (sym grown_length) g.0;
         full = λ i l z.
-        let z' : times_in i (length ns ∷ R) ≡ 0 = ap (times_in i) (sym g.3) ∙ z in
-        full_at i (equal_or_not i (length ns)) l z';
+            let z' : times_in i (length ns ∷ R) ≡ 0 = ap (times_in i) (sym g.3) ∙ z in
+            full_at i (equal_or_not i (length ns)) l z';
         vacant = λ i l. vacant_at i (equal_or_not i (length ns)) (subst (λ p. 1 ≤ times_in i p) g.3 l);
       } in (
         subst (λ b. IsSound grown head left right free' before after b) one (subst (λ i. IsSound grown head left right i before after (suc spare)) (sym e) sound),
