@@ -1,0 +1,4 @@
+pub mod Chain
+pub mod Cursor
+pub mod Links
+pub mod Merging
