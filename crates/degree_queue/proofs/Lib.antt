@@ -1,0 +1,4 @@
+pub mod Counting
+pub mod Linking
+pub mod Paths
+pub mod Unlinking

@@ -1,0 +1,78 @@
+-- A node that leaves its list.
+use Rattle.std.proofs.Common.{◌≡◌, ◌≢◌, ◌⊎◌, ℕ, zero, suc, ◌+◌, ◌-◌, ◌<◌, ◌≤◌, List, [], ◌∷◌, ◌++◌, length, refl, sym, ap, ◌∙◌, inl, inr, arith, add-one}
+use Rattle.std.specs.List.{remove, slice_index}
+use Rattle.std.proofs.lemmas.Bool.{cases_lt, cases_order}
+use Rattle.std.proofs.lemmas.List.Edits.{length-remove, get_or-remove_below, get_or-remove_above}
+use Rattle.degree_queue.specs.declared.links.Node.{Node}
+use Rattle.degree_queue.specs.declared.links.Ends.{Ends}
+use Rattle.degree_queue.specs.Links.{times, next_at, prev_at, IsApart, IsList, Joins}
+use Rattle.degree_queue.proofs.Counting.{same_place}
+
+module _ {T : Type 0} (nodes : List (Node T)) (ends : Ends) (p : List ℕ) (k : ℕ) (list : IsList nodes ends p) (inside : k < length p) where
+  abbrev rest : List ℕ
+  rest = remove p k
+
+  long : length rest + 1 ≡ length p
+  long = length-remove p k inside
+
+  below : (j : ℕ) → j < k → slice_index rest j ≡ slice_index p j
+  below j lower = get_or-remove_below p k 0 j lower inside
+
+  above : (j : ℕ) → k ≤ j → slice_index rest j ≡ slice_index p (suc j)
+  above j upper = get_or-remove_above p k 0 j upper inside ∙ ap (slice_index p) (add-one j)
+
+  at_index : (i j : ℕ) → i ≡ j → slice_index p i ≡ slice_index p j
+  at_index i j same = ap (slice_index p) same
+
+  -- the first node leaves
+  pub IsList-without_first : k ≡ 0 → IsList nodes (record { first = next_at nodes (slice_index p k); last = ends.last; len = ends.len - 1 }) (remove p k)
+  IsList-without_first start = record {
+    len = omega (arith, long, list.len);
+    first = λ some. ap (λ (i : ℕ). next_at nodes (slice_index p i)) start ∙ list.next 0 (omega (arith, long)) ∙ sym (above 0 (omega arith));
+    last = λ some. list.last (omega arith) ∙ at_index (length p - 1) (suc (length rest - 1)) (omega (arith, long)) ∙ sym (above (length rest - 1) (omega arith));
+    next = λ j within. ap (next_at nodes) (above j (omega arith)) ∙ list.next (suc j) (omega (arith, long)) ∙ sym (above (suc j) (omega arith));
+    prev = λ j within. ap (prev_at nodes) (above (suc j) (omega arith)) ∙ list.prev (suc j) (omega (arith, long)) ∙ sym (above j (omega arith));
+  }
+
+  -- the last node leaves
+  pub IsList-without_last : suc k ≡ length p → IsList nodes (record { first = ends.first; last = prev_at nodes (slice_index p k); len = ends.len - 1 }) (remove p k)
+  IsList-without_last end = record {
+    len = omega (arith, long, list.len);
+    first = λ some. list.first (omega arith) ∙ sym (below 0 (omega (arith, long)));
+    last = λ some. ap (prev_at nodes) (at_index k (suc (length rest - 1)) (omega (arith, long))) ∙ list.prev (length rest - 1) (omega (arith, long)) ∙ sym (below (length rest - 1) (omega (arith, long)));
+    next = λ j within. ap (next_at nodes) (below j (omega (arith, long))) ∙ list.next j (omega (arith, long)) ∙ sym (below (suc j) (omega (arith, long)));
+    prev = λ j within. ap (prev_at nodes) (below (suc j) (omega (arith, long))) ∙ list.prev j (omega (arith, long)) ∙ sym (below j (omega (arith, long)));
+  }
+
+  -- the neighbours of a node between two others
+  pub prev_is : 0 < k → prev_at nodes (slice_index p k) ≡ slice_index p (k - 1)
+  prev_is behind = ap (prev_at nodes) (at_index k (suc (k - 1)) (omega arith)) ∙ list.prev (k - 1) (omega arith)
+
+  pub next_is : suc k < length p → next_at nodes (slice_index p k) ≡ slice_index p (suc k)
+  next_is before = list.next k before
+
+  -- a node between two others leaves
+  pub IsList-without_inner : (once : (i : ℕ) → times i p ≤ 1) (new : List (Node T)) → 0 < k → suc k < length p → Joins nodes new (prev_at nodes (slice_index p k)) (next_at nodes (slice_index p k)) → IsList new (record { first = ends.first; last = ends.last; len = ends.len - 1 }) (remove p k)
+  IsList-without_inner once new behind before joins = record {
+    len = omega (arith, long, list.len);
+    first = λ some. list.first (omega arith) ∙ sym (below 0 behind);
+    last = λ some. list.last (omega arith) ∙ at_index (length p - 1) (suc (length rest - 1)) (omega (arith, long)) ∙ sym (above (length rest - 1) (omega (arith, long)));
+    next = next_kept;
+    prev = prev_kept;
+  }
+    where
+      next_kept : (j : ℕ) → suc j < length rest → next_at new (slice_index rest j) ≡ slice_index rest (suc j)
+      next_kept j within =
+          elim (cases_order (suc j) k) [
+            | inl same ↦ ap (next_at new) (below j (omega arith) ∙ at_index j (k - 1) (omega arith) ∙ sym (prev_is behind)) ∙ joins.next ∙ next_is before ∙ at_index (suc k) (suc (suc j)) (omega arith) ∙ sym (above (suc j) (omega arith))
+            | inr (inl lower) ↦ ap (next_at new) (below j (omega arith)) ∙ joins.other_next (slice_index p j) (λ equal. absurd (omega (arith, same_place p j (k - 1) once (omega arith) (omega arith) (equal ∙ prev_is behind)))) ∙ list.next j (omega arith) ∙ sym (below (suc j) lower)
+            | inr (inr upper) ↦ ap (next_at new) (above j (omega arith)) ∙ joins.other_next (slice_index p (suc j)) (λ equal. absurd (omega (arith, same_place p (suc j) (k - 1) once (omega (arith, long)) (omega arith) (equal ∙ prev_is behind)))) ∙ list.next (suc j) (omega (arith, long)) ∙ sym (above (suc j) (omega arith))
+          ]
+
+      prev_kept : (j : ℕ) → suc j < length rest → prev_at new (slice_index rest (suc j)) ≡ slice_index rest j
+      prev_kept j within =
+          elim (cases_order (suc j) k) [
+            | inl same ↦ ap (prev_at new) (above (suc j) (omega arith) ∙ at_index (suc (suc j)) (suc k) (omega arith) ∙ sym (next_is before)) ∙ joins.prev ∙ prev_is behind ∙ at_index (k - 1) j (omega arith) ∙ sym (below j (omega arith))
+            | inr (inl lower) ↦ ap (prev_at new) (below (suc j) lower) ∙ joins.other_prev (slice_index p (suc j)) (λ equal. absurd (omega (arith, same_place p (suc j) (suc k) once (omega arith) before (equal ∙ next_is before)))) ∙ list.prev j (omega arith) ∙ sym (below j (omega arith))
+            | inr (inr upper) ↦ ap (prev_at new) (above (suc j) (omega arith)) ∙ joins.other_prev (slice_index p (suc (suc j))) (λ equal. absurd (omega (arith, same_place p (suc (suc j)) (suc k) once (omega (arith, long)) before (equal ∙ next_is before)))) ∙ list.prev (suc j) (omega (arith, long)) ∙ sym (above j (omega arith))
+          ]

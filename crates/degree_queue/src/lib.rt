@@ -1,0 +1,5 @@
+//! Queues of items by degree: one list for each degree, over one vector of nodes.
+#![tactic(auto)]
+
+mod links;
+

@@ -1,0 +1,137 @@
+//! Doubly linked lists by index over one vector of nodes.
+ghost use Rattle.std.specs.Prelude.{◌≡◌, ◌<◌, ◌++◌, [], ◌∷◌, length, remove, slice_index};
+ghost use Rattle.degree_queue.specs.Links.{no_ends, path_of, IsList, IsApart, Joins, ChangesLinks};
+
+/// A node of a list. An end's link outwards means nothing.
+#[derive(Drop)]
+pub struct Node<T> {
+    pub item: Option<T>,
+    pub prev: usize,
+    pub next: usize,
+}
+
+/// The indexes of the first and the last node of a list, and its length. The ends of an empty list mean nothing.
+#[derive(Clone, Copy)]
+pub struct Ends {
+    pub first: usize,
+    pub last: usize,
+    pub len: usize,
+}
+
+impl Ends {
+    /// The ends of an empty list.
+    pub fn empty() -> Ends
+        ensures { result ≡ no_ends }
+    {
+        Ends {
+            first: 0,
+            last: 0,
+            len: 0,
+        }
+    }
+}
+
+/// Makes b the node after a.
+fn join<T>(nodes: &mut [Node<T>], a: usize, b: usize)
+    requires a { a < length nodes.old }
+    requires b { b < length nodes.old }
+    ensures { Joins nodes.old nodes.new a b }
+{
+    nodes[a].next = b;
+    nodes[b].prev = a;
+}
+
+/// Takes the node at index `at`, which is number k on its list, off the list.
+pub fn unlink<T>(nodes: &mut [Node<T>], ends: &mut Ends, k: usize, at: usize)
+    requires list { IsList nodes.old ends.old (path_of nodes.old ends.old) }
+    requires apart { IsApart (length nodes.old) (path_of nodes.old ends.old) }
+    requires inside { k < ends.old.len }
+    requires at { at ≡ slice_index (path_of nodes.old ends.old) k }
+    ensures list { IsList nodes.new ends.new (remove (path_of nodes.old ends.old) k) }
+    ensures others { ChangesLinks (path_of nodes.old ends.old) nodes.old nodes.new }
+{
+    let prev = nodes[at].prev;
+    let next = nodes[at].next;
+    ends.len -= 1;
+    if k == 0 {
+        ends.first = next;
+    } else if k == ends.len {
+        ends.last = prev;
+    } else {
+        join(nodes, prev, next);
+    }
+}
+
+/// Puts the node at index `at`, which is on no list, behind the last node of the list.
+pub fn link_last<T>(nodes: &mut [Node<T>], ends: &mut Ends, at: usize)
+    requires list { IsList nodes.old ends.old (path_of nodes.old ends.old) }
+    requires apart { IsApart (length nodes.old) (path_of nodes.old ends.old ++ at ∷ []) }
+    ensures list { IsList nodes.new ends.new (path_of nodes.old ends.old ++ at ∷ []) }
+    ensures others { ChangesLinks (path_of nodes.old ends.old ++ at ∷ []) nodes.old nodes.new }
+{
+    let last = ends.last;
+    ends.last = at;
+    ends.len += 1;
+    if ends.len == 1 {
+        ends.first = at;
+    } else {
+        join(nodes, last, at);
+    }
+}
+
+/// Moves node number k of one list behind the last node of another, and answers its index.
+pub fn move_last<T>(nodes: &mut [Node<T>], from: &mut Ends, k: usize, to: &mut Ends, at: usize)
+    requires from { IsList nodes.old from.old (path_of nodes.old from.old) }
+    requires to { IsList nodes.old to.old (path_of nodes.old to.old) }
+    requires apart { IsApart (length nodes.old) (path_of nodes.old from.old ++ path_of nodes.old to.old) }
+    requires inside { k < from.old.len }
+    requires at { at ≡ slice_index (path_of nodes.old from.old) k }
+    ensures from { IsList nodes.new from.new (remove (path_of nodes.old from.old) k) }
+    ensures to { IsList nodes.new to.new (path_of nodes.old to.old ++ at ∷ []) }
+    ensures others { ChangesLinks (path_of nodes.old from.old ++ path_of nodes.old to.old) nodes.old nodes.new }
+{
+    unlink(nodes, from, k, at);
+    link_last(nodes, to, at);
+}
+
+/// The index of node number k, by the links forwards.
+fn index_from_first<T>(nodes: &[Node<T>], ends: Ends, k: usize) -> usize
+    requires list { IsList nodes.now ends (path_of nodes.now ends) }
+    requires apart { IsApart (length nodes.now) (path_of nodes.now ends) }
+    requires inside { k < ends.len }
+    ensures { result ≡ slice_index (path_of nodes.now ends) k }
+{
+    let mut at = ends.first;
+    'steps: for _step in 0..k {
+        at = nodes[at].next;
+    }
+    at
+}
+
+/// The index of node number k, by the links backwards.
+fn index_from_last<T>(nodes: &[Node<T>], ends: Ends, k: usize) -> usize
+    requires list { IsList nodes.now ends (path_of nodes.now ends) }
+    requires apart { IsApart (length nodes.now) (path_of nodes.now ends) }
+    requires inside { k < ends.len }
+    ensures { result ≡ slice_index (path_of nodes.now ends) k }
+{
+    let mut at = ends.last;
+    'steps: for _step in k + 1..ends.len {
+        at = nodes[at].prev;
+    }
+    at
+}
+
+/// The index of node number k, from the nearer end.
+pub fn index_at<T>(nodes: &[Node<T>], ends: Ends, k: usize) -> usize
+    requires list { IsList nodes.now ends (path_of nodes.now ends) }
+    requires apart { IsApart (length nodes.now) (path_of nodes.now ends) }
+    requires inside { k < ends.len }
+    ensures { result ≡ slice_index (path_of nodes.now ends) k }
+{
+    if k < ends.len / 2 {
+        index_from_first(nodes, ends, k)
+    } else {
+        index_from_last(nodes, ends, k)
+    }
+}
