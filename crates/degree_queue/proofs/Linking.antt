@@ -5,20 +5,9 @@ use Rattle.std.proofs.lemmas.Bool.{cases_lt}
 use Rattle.std.proofs.lemmas.List.{get_or_append_left, get_or_push, length_push}
 use Rattle.degree_queue.specs.declared.links.Node.{Node}
 use Rattle.degree_queue.specs.declared.links.Ends.{Ends}
-use Rattle.degree_queue.specs.Links.{times, next_at, prev_at, IsApart, IsList, Joins}
-use Rattle.degree_queue.proofs.Counting.{same_place}
-
-module _ {T : Type 0} where
-  -- the only node
-  pub IsList-only : (nodes : List (Node T)) (ends : Ends) (p : List ℕ) (at : ℕ) → IsList nodes ends p → ends.len ≡ 0 → IsList nodes (record { first = at; last = at; len = ends.len + 1 }) (p ++ at ∷ [])
-  IsList-only nodes ends [] at list none = record {
-    len = omega arith;
-    first = λ some. refl;
-    last = λ some. refl;
-    next = λ k inside. absurd (omega arith);
-    prev = λ k inside. absurd (omega arith);
-  }
-  IsList-only nodes ends (x ∷ xs) at list none = absurd (omega (arith, list.len))
+use Rattle.degree_queue.specs.Links.{times, next_at, prev_at, IsApart, IsList, Joins, ChangesLinks}
+use Rattle.degree_queue.proofs.Counting.{same_place, slice_index-lt}
+use Rattle.degree_queue.proofs.Paths.{ChangesLinks-joined}
 
 module _ {T : Type 0} (nodes new : List (Node T)) (ends : Ends) (p : List ℕ) (at : ℕ) (list : IsList nodes ends p) (some : 0 < length p) where
   abbrev more : List ℕ
@@ -59,3 +48,25 @@ module _ {T : Type 0} (nodes new : List (Node T)) (ends : Ends) (p : List ℕ) (
             | inl lower ↦ joins.other_prev (slice_index more (suc j)) (λ equal. absurd (omega (arith, same_place more (suc j) (length p) once within (omega (arith, long)) (equal ∙ sym (back (length p) refl))))) ∙ ap (prev_at nodes) (front (suc j) lower) ∙ list.prev j lower ∙ sym (front j (omega arith))
             | inr upper ↦ ap (prev_at new) (back (suc j) (omega (arith, long))) ∙ joins.prev ∙ sym (last_is j (omega (arith, long)))
           ]
+
+module _ {T : Type 0} (nodes : List (Node T)) (ends : Ends) (p : List ℕ) (at : ℕ) (list : IsList nodes ends p) (apart : IsApart (length nodes) (p ++ at ∷ [])) where
+  pub at_within : at < length nodes
+  at_within = omega (arith, slice_index-lt (length nodes) (p ++ at ∷ []) apart (length p) (omega (arith, length_push p at)), get_or_push p at 0 (length p) refl)
+
+  module _ (not_only : ends.len + 1 ≢ 1) where
+    some : 0 < length p
+    some = omega (arith, list.len)
+
+    last_found : ends.last ≡ slice_index (p ++ at ∷ []) (length p - 1)
+    last_found = list.last some ∙ sym (get_or_append_left p (at ∷ []) 0 (length p - 1) (omega arith))
+
+    pub last_within : ends.last < length nodes
+    last_within = omega (arith, last_found, slice_index-lt (length nodes) (p ++ at ∷ []) apart (length p - 1) (omega (arith, length_push p at)))
+
+    module _ (new : List (Node T)) (joins : Joins nodes new ends.last at) where
+      pub with_last : IsList new (record { first = ends.first; last = at; len = ends.len + 1 }) (p ++ at ∷ [])
+      with_last = IsList-more nodes new ends p at list some apart.once joins
+
+      pub changes_last : ChangesLinks (p ++ at ∷ []) nodes new
+      changes_last =
+          ChangesLinks-joined nodes new (p ++ at ∷ []) ends.last at (length p - 1) (length p) (omega (arith, length_push p at)) (omega (arith, length_push p at)) last_found (sym (get_or_push p at 0 (length p) refl)) joins

@@ -1,12 +1,14 @@
 -- A node that leaves its list.
-use Rattle.std.proofs.Common.{◌≡◌, ◌≢◌, ◌⊎◌, ℕ, zero, suc, ◌+◌, ◌-◌, ◌<◌, ◌≤◌, List, [], ◌∷◌, ◌++◌, length, refl, sym, ap, ◌∙◌, inl, inr, arith, add-one}
+use Rattle.std.proofs.Common.{◌≡◌, ◌≢◌, ◌⊎◌, ℕ, zero, suc, ◌+◌, ◌-◌, ◌<◌, ◌≤◌, List, [], ◌∷◌, ◌++◌, length, get_or, subst, refl, sym, ap, ◌∙◌, inl, inr, arith, add-one}
 use Rattle.std.specs.List.{remove, slice_index}
 use Rattle.std.proofs.lemmas.Bool.{cases_lt, cases_order}
 use Rattle.std.proofs.lemmas.List.Edits.{length-remove, get_or-remove_below, get_or-remove_above}
 use Rattle.degree_queue.specs.declared.links.Node.{Node}
 use Rattle.degree_queue.specs.declared.links.Ends.{Ends}
-use Rattle.degree_queue.specs.Links.{times, next_at, prev_at, IsApart, IsList, Joins}
-use Rattle.degree_queue.proofs.Counting.{same_place}
+use Rattle.std.proofs.lemmas.List.{get_or_default}
+use Rattle.degree_queue.specs.Links.{times, no_node, next_at, prev_at, IsApart, IsList, Joins, ChangesLinks}
+use Rattle.degree_queue.proofs.Counting.{same_place, slice_index-lt}
+use Rattle.degree_queue.proofs.Paths.{ChangesLinks-joined}
 
 module _ {T : Type 0} (nodes : List (Node T)) (ends : Ends) (p : List ℕ) (k : ℕ) (list : IsList nodes ends p) (inside : k < length p) where
   abbrev rest : List ℕ
@@ -76,3 +78,49 @@ module _ {T : Type 0} (nodes : List (Node T)) (ends : Ends) (p : List ℕ) (k : 
             | inr (inl lower) ↦ ap (prev_at new) (below (suc j) lower) ∙ joins.other_prev (slice_index p (suc j)) (λ equal. absurd (omega (arith, same_place p (suc j) (suc k) once (omega arith) before (equal ∙ next_is before)))) ∙ list.prev j (omega arith) ∙ sym (below j (omega arith))
             | inr (inr upper) ↦ ap (prev_at new) (above (suc j) (omega arith)) ∙ joins.other_prev (slice_index p (suc (suc j))) (λ equal. absurd (omega (arith, same_place p (suc (suc j)) (suc k) once (omega (arith, long)) before (equal ∙ next_is before)))) ∙ list.prev (suc j) (omega (arith, long)) ∙ sym (above j (omega arith))
           ]
+
+-- the same, as the code reads the node at an index
+module _ {T : Type 0} (nodes : List (Node T)) (ends : Ends) (p : List ℕ) (k at : ℕ) (x : Node T) (list : IsList nodes ends p) (apart : IsApart (length nodes) p) (within : k < ends.len) (at_is : at ≡ slice_index p k) (in_nodes : at < length nodes) where
+  inside : k < length p
+  inside = omega (arith, list.len)
+
+  next_read : next_at nodes (slice_index p k) ≡ (get_or nodes at x).next
+  next_read = ap (next_at nodes) (sym at_is) ∙ ap (λ (n : Node T). n.next) (get_or_default nodes at no_node x in_nodes)
+
+  prev_read : prev_at nodes (slice_index p k) ≡ (get_or nodes at x).prev
+  prev_read = ap (prev_at nodes) (sym at_is) ∙ ap (λ (n : Node T). n.prev) (get_or_default nodes at no_node x in_nodes)
+
+  pub without_first : k ≡ 0 → IsList nodes (record { first = (get_or nodes at x).next; last = ends.last; len = ends.len - 1 }) (remove p k)
+  without_first start =
+      subst (λ (i : ℕ). IsList nodes (record { first = i; last = ends.last; len = ends.len - 1 }) (remove p k)) next_read (IsList-without_first nodes ends p k list inside start)
+
+  pub without_last : k ≡ ends.len - 1 → IsList nodes (record { first = ends.first; last = (get_or nodes at x).prev; len = ends.len - 1 }) (remove p k)
+  without_last end =
+      subst (λ (i : ℕ). IsList nodes (record { first = ends.first; last = i; len = ends.len - 1 }) (remove p k)) prev_read (IsList-without_last nodes ends p k list inside (omega (arith, list.len)))
+
+  module _ (behind : k ≢ 0) (before : k ≢ ends.len - 1) where
+    positive : 0 < k
+    positive = omega arith
+
+    more : suc k < length p
+    more = omega (arith, list.len)
+
+    pub prev_found : (get_or nodes at x).prev ≡ slice_index p (k - 1)
+    prev_found = sym prev_read ∙ prev_is nodes ends p k list inside positive
+
+    pub next_found : (get_or nodes at x).next ≡ slice_index p (suc k)
+    next_found = sym next_read ∙ next_is nodes ends p k list inside more
+
+    pub prev_within : (get_or nodes at x).prev < length nodes
+    prev_within = omega (arith, prev_found, slice_index-lt (length nodes) p apart (k - 1) (omega arith))
+
+    pub next_within : (get_or nodes at x).next < length nodes
+    next_within = omega (arith, next_found, slice_index-lt (length nodes) p apart (suc k) more)
+
+    module _ (new : List (Node T)) (joins : Joins nodes new (get_or nodes at x).prev (get_or nodes at x).next) where
+      pub without_inner : IsList new (record { first = ends.first; last = ends.last; len = ends.len - 1 }) (remove p k)
+      without_inner =
+          IsList-without_inner nodes ends p k list inside apart.once new positive more (subst (λ (i : ℕ). Joins nodes new i (next_at nodes (slice_index p k))) (sym prev_read) (subst (λ (i : ℕ). Joins nodes new (get_or nodes at x).prev i) (sym next_read) joins))
+
+      pub changes_inner : ChangesLinks p nodes new
+      changes_inner = ChangesLinks-joined nodes new p _ _ (k - 1) (suc k) (omega arith) more prev_found next_found joins

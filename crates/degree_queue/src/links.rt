@@ -47,11 +47,12 @@ pub fn unlink<T>(nodes: &mut [Node<T>], ends: &mut Ends, k: usize, at: usize)
     requires apart { IsApart (length nodes.old) (path_of nodes.old ends.old) }
     requires inside { k < ends.old.len }
     requires at { at ≡ slice_index (path_of nodes.old ends.old) k }
+    requires within { at < length nodes.old }
     ensures list { IsList nodes.new ends.new (remove (path_of nodes.old ends.old) k) }
     ensures others { ChangesLinks (path_of nodes.old ends.old) nodes.old nodes.new }
 {
-    let prev = nodes[at].prev;
-    let next = nodes[at].next;
+    let Node { prev, next, .. } = &nodes[at];
+    let (prev, next) = (*prev, *next);
     ends.len -= 1;
     if k == 0 {
         ends.first = next;
@@ -86,6 +87,7 @@ pub fn move_last<T>(nodes: &mut [Node<T>], from: &mut Ends, k: usize, to: &mut E
     requires apart { IsApart (length nodes.old) (path_of nodes.old from.old ++ path_of nodes.old to.old) }
     requires inside { k < from.old.len }
     requires at { at ≡ slice_index (path_of nodes.old from.old) k }
+    requires within { at < length nodes.old }
     ensures from { IsList nodes.new from.new (remove (path_of nodes.old from.old) k) }
     ensures to { IsList nodes.new to.new (path_of nodes.old to.old ++ at ∷ []) }
     ensures others { ChangesLinks (path_of nodes.old from.old ++ path_of nodes.old to.old) nodes.old nodes.new }
@@ -99,7 +101,8 @@ fn index_from_first<T>(nodes: &[Node<T>], ends: Ends, k: usize) -> usize
     requires list { IsList nodes.now ends (path_of nodes.now ends) }
     requires apart { IsApart (length nodes.now) (path_of nodes.now ends) }
     requires inside { k < ends.len }
-    ensures { result ≡ slice_index (path_of nodes.now ends) k }
+    ensures at { result ≡ slice_index (path_of nodes.now ends) k }
+    ensures within { result < length nodes.now }
 {
     let mut at = ends.first;
     'steps: for _step in 0..k {
@@ -113,7 +116,8 @@ fn index_from_last<T>(nodes: &[Node<T>], ends: Ends, k: usize) -> usize
     requires list { IsList nodes.now ends (path_of nodes.now ends) }
     requires apart { IsApart (length nodes.now) (path_of nodes.now ends) }
     requires inside { k < ends.len }
-    ensures { result ≡ slice_index (path_of nodes.now ends) k }
+    ensures at { result ≡ slice_index (path_of nodes.now ends) k }
+    ensures within { result < length nodes.now }
 {
     let mut at = ends.last;
     'steps: for _step in k + 1..ends.len {
@@ -127,7 +131,8 @@ pub fn index_at<T>(nodes: &[Node<T>], ends: Ends, k: usize) -> usize
     requires list { IsList nodes.now ends (path_of nodes.now ends) }
     requires apart { IsApart (length nodes.now) (path_of nodes.now ends) }
     requires inside { k < ends.len }
-    ensures { result ≡ slice_index (path_of nodes.now ends) k }
+    ensures at { result ≡ slice_index (path_of nodes.now ends) k }
+    ensures within { result < length nodes.now }
 {
     if k < ends.len / 2 {
         index_from_first(nodes, ends, k)
