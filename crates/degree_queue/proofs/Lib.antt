@@ -1,6 +1,10 @@
+pub mod Changing
 pub mod Counting
+pub mod Items
 pub mod Linking
+pub mod Listed
 pub mod Moving
+pub mod Partition
 pub mod Paths
 pub mod Unlinking
 pub mod Walking

@@ -1,10 +1,10 @@
 -- A node that moves from one list to another.
-use Rattle.std.proofs.Common.{◌≡◌, ℕ, ◌+◌, ◌-◌, ◌<◌, ◌≤◌, List, [], ◌∷◌, ◌++◌, length, subst, sym, ap, ◌∙◌, arith}
+use Rattle.std.proofs.Common.{◌≡◌, ℕ, ◌+◌, ◌-◌, ◌<◌, ◌≤◌, List, [], ◌∷◌, ◌++◌, Option, length, subst, sym, ap, ◌∙◌, arith}
 use Rattle.std.specs.List.{remove, slice_index}
 use Rattle.std.proofs.lemmas.List.Edits.{length-remove}
 use Rattle.degree_queue.specs.declared.links.Node.{Node}
 use Rattle.degree_queue.specs.declared.links.Ends.{Ends}
-use Rattle.degree_queue.specs.Links.{times, path_of, IsApart, IsList, ChangesLinks}
+use Rattle.degree_queue.specs.Links.{times, path_of, IsApart, IsList, ChangesLinks, SetsItem, Moves}
 use Rattle.degree_queue.proofs.Counting.{here, here_same, times-append, times-cons, times-remove, times-slice_index, IsApart-moved}
 use Rattle.degree_queue.proofs.Paths.{path_of_is, IsList-path_of, IsList-kept}
 
@@ -53,3 +53,16 @@ module _ {T : Type 0} (old mid new : List (Node T)) (from to : Ends) (p q : List
   pub changes_both : ChangesLinks (q ++ at ∷ []) mid new → ChangesLinks (p ++ q) old new
   changes_both links =
       ChangesLinks-trans old mid new p (q ++ at ∷ []) (p ++ q) (λ i none. omega (arith, times-append i p q)) (λ i none. omega (arith, moved i, times-append i p q, times-remove i p k inside)) unlinks links
+
+-- a move and then a change of the item
+module _ {T : Type 0} where
+  pub moves : (old mid new : List (Node T)) (from to : Ends) (p q : List ℕ) (k at : ℕ) (item : Option T) → IsList mid from (remove p k) → IsList mid to (q ++ at ∷ []) → ChangesLinks (p ++ q) old mid → SetsItem at item mid new → Moves p q k at item old new from to
+  moves old mid new from to p q k at item leaves joins links sets = record {
+    long = sets.long ∙ links.long;
+    leaves = IsList-kept mid new from (remove p k) (λ j inside. sets.next _) (λ j inside. sets.prev _) leaves;
+    joins = IsList-kept mid new to (q ++ at ∷ []) (λ j inside. sets.next _) (λ j inside. sets.prev _) joins;
+    next = λ i none. sets.next i ∙ links.next i none;
+    prev = λ i none. sets.prev i ∙ links.prev i none;
+    here = sets.here;
+    others = λ i other. sets.others i other ∙ links.items i;
+  }

@@ -1,5 +1,5 @@
 -- Doubly linked lists by index over one list of nodes.
-use Rattle.std.specs.Prelude.{◌≡◌, ◌≢◌, ℕ, zero, suc, ◌+◌, ◌-◌, ◌<◌, ◌≤◌, ◌==◌, List, [], ◌∷◌, Option, None, length, slice_index, slice_index_or, count_by}
+use Rattle.std.specs.Prelude.{◌≡◌, ◌≢◌, ℕ, zero, suc, ◌+◌, ◌-◌, ◌<◌, ◌≤◌, ◌==◌, List, [], ◌∷◌, ◌++◌, Option, None, length, remove, slice_index, slice_index_or, count_by}
 use Rattle.degree_queue.specs.declared.links.Node.{Node}
 use Rattle.degree_queue.specs.declared.links.Ends.{Ends}
 
@@ -64,3 +64,21 @@ module _ {T : Type 0} where
     pub next : (i : ℕ) → times i p ≡ 0 → next_at new i ≡ next_at old i
     pub prev : (i : ℕ) → times i p ≡ 0 → prev_at new i ≡ prev_at old i
     pub items : (i : ℕ) → item_at new i ≡ item_at old i
+
+  -- only the item of a node changes
+  pub record SetsItem (at : ℕ) (item : Option T) (old new : List (Node T)) : Type 0 where
+    pub long : length new ≡ length old
+    pub next : (i : ℕ) → next_at new i ≡ next_at old i
+    pub prev : (i : ℕ) → prev_at new i ≡ prev_at old i
+    pub here : item_at new at ≡ item
+    pub others : (i : ℕ) → i ≢ at → item_at new i ≡ item_at old i
+
+  -- node number k of a list is now behind the last of another list, and has this item; no other list or item changes
+  pub record Moves (from to : List ℕ) (k at : ℕ) (item : Option T) (old new : List (Node T)) (from_ends to_ends : Ends) : Type 0 where
+    pub long : length new ≡ length old
+    pub leaves : IsList new from_ends (remove from k)
+    pub joins : IsList new to_ends (to ++ at ∷ [])
+    pub next : (i : ℕ) → times i (from ++ to) ≡ 0 → next_at new i ≡ next_at old i
+    pub prev : (i : ℕ) → times i (from ++ to) ≡ 0 → prev_at new i ≡ prev_at old i
+    pub here : item_at new at ≡ item
+    pub others : (i : ℕ) → i ≢ at → item_at new i ≡ item_at old i

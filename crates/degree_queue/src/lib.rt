@@ -2,4 +2,5 @@
 #![tactic(auto)]
 
 mod links;
+mod lists;
 

@@ -1,6 +1,6 @@
 //! Doubly linked lists by index over one vector of nodes.
-ghost use Rattle.std.specs.Prelude.{◌≡◌, ◌<◌, ◌++◌, [], ◌∷◌, length, remove, slice_index};
-ghost use Rattle.degree_queue.specs.Links.{no_ends, path_of, IsList, IsApart, Joins, ChangesLinks};
+ghost use Rattle.std.specs.Prelude.{◌≡◌, ◌<◌, ◌++◌, [], ◌∷◌, length, remove, slice_index, IsSome, IsNone};
+ghost use Rattle.degree_queue.specs.Links.{no_ends, path_of, item_at, IsList, IsApart, Joins, ChangesLinks, SetsItem, Moves};
 
 /// A node of a list. An end's link outwards means nothing.
 #[derive(Drop)]
@@ -42,7 +42,7 @@ fn join<T>(nodes: &mut [Node<T>], a: usize, b: usize)
 }
 
 /// Takes the node at index `at`, which is number k on its list, off the list.
-pub fn unlink<T>(nodes: &mut [Node<T>], ends: &mut Ends, k: usize, at: usize)
+fn unlink<T>(nodes: &mut [Node<T>], ends: &mut Ends, k: usize, at: usize)
     requires list { IsList nodes.old ends.old (path_of nodes.old ends.old) }
     requires apart { IsApart (length nodes.old) (path_of nodes.old ends.old) }
     requires inside { k < ends.old.len }
@@ -64,7 +64,7 @@ pub fn unlink<T>(nodes: &mut [Node<T>], ends: &mut Ends, k: usize, at: usize)
 }
 
 /// Puts the node at index `at`, which is on no list, behind the last node of the list.
-pub fn link_last<T>(nodes: &mut [Node<T>], ends: &mut Ends, at: usize)
+fn link_last<T>(nodes: &mut [Node<T>], ends: &mut Ends, at: usize)
     requires list { IsList nodes.old ends.old (path_of nodes.old ends.old) }
     requires apart { IsApart (length nodes.old) (path_of nodes.old ends.old ++ at ∷ []) }
     ensures list { IsList nodes.new ends.new (path_of nodes.old ends.old ++ at ∷ []) }
@@ -80,8 +80,8 @@ pub fn link_last<T>(nodes: &mut [Node<T>], ends: &mut Ends, at: usize)
     }
 }
 
-/// Moves node number k of one list behind the last node of another, and answers its index.
-pub fn move_last<T>(nodes: &mut [Node<T>], from: &mut Ends, k: usize, to: &mut Ends, at: usize)
+/// Moves the node at index `at`, which is number k of one list, behind the last node of another.
+fn move_last<T>(nodes: &mut [Node<T>], from: &mut Ends, k: usize, to: &mut Ends, at: usize)
     requires from { IsList nodes.old from.old (path_of nodes.old from.old) }
     requires to { IsList nodes.old to.old (path_of nodes.old to.old) }
     requires apart { IsApart (length nodes.old) (path_of nodes.old from.old ++ path_of nodes.old to.old) }
@@ -139,4 +139,75 @@ pub fn index_at<T>(nodes: &[Node<T>], ends: Ends, k: usize) -> usize
     } else {
         index_from_last(nodes, ends, k)
     }
+}
+
+/// Puts an item into a node that has none.
+fn put_item<T>(nodes: &mut [Node<T>], at: usize, item: T)
+    requires within { at < length nodes.old }
+    requires empty { IsNone (item_at nodes.old at) }
+    ensures { SetsItem at (Some item) nodes.old nodes.new }
+{
+    match nodes[at].item.replace(item) {
+        None => {}
+        Some(_) => unreachable!(),
+    }
+}
+
+/// Takes the item out of a node that has one.
+fn take_item<T>(nodes: &mut [Node<T>], at: usize) -> T
+    requires within { at < length nodes.old }
+    requires full { IsSome (item_at nodes.old at) }
+    ensures item { item_at nodes.old at ≡ Some result }
+    ensures others { SetsItem at None nodes.old nodes.new }
+{
+    match nodes[at].item.take() {
+        Some(item) => item,
+        None => unreachable!(),
+    }
+}
+
+/// Moves a node without item from one list behind the last node of another, and puts an item into it.
+pub fn move_and_put<T>(
+    nodes: &mut [Node<T>],
+    from: &mut Ends,
+    k: usize,
+    to: &mut Ends,
+    at: usize,
+    item: T,
+)
+    requires from { IsList nodes.old from.old (path_of nodes.old from.old) }
+    requires to { IsList nodes.old to.old (path_of nodes.old to.old) }
+    requires apart { IsApart (length nodes.old) (path_of nodes.old from.old ++ path_of nodes.old to.old) }
+    requires inside { k < from.old.len }
+    requires at { at ≡ slice_index (path_of nodes.old from.old) k }
+    requires within { at < length nodes.old }
+    requires empty { IsNone (item_at nodes.old at) }
+    ensures { Moves (path_of nodes.old from.old) (path_of nodes.old to.old) k at (Some item)
+        nodes.old nodes.new from.new to.new }
+{
+    move_last(nodes, from, k, to, at);
+    put_item(nodes, at, item);
+}
+
+/// Moves a node from one list behind the last node of another, and takes its item.
+pub fn move_and_take<T>(
+    nodes: &mut [Node<T>],
+    from: &mut Ends,
+    k: usize,
+    to: &mut Ends,
+    at: usize,
+) -> T
+    requires from { IsList nodes.old from.old (path_of nodes.old from.old) }
+    requires to { IsList nodes.old to.old (path_of nodes.old to.old) }
+    requires apart { IsApart (length nodes.old) (path_of nodes.old from.old ++ path_of nodes.old to.old) }
+    requires inside { k < from.old.len }
+    requires at { at ≡ slice_index (path_of nodes.old from.old) k }
+    requires within { at < length nodes.old }
+    requires full { IsSome (item_at nodes.old at) }
+    ensures item { item_at nodes.old at ≡ Some result }
+    ensures moves { Moves (path_of nodes.old from.old) (path_of nodes.old to.old) k at None
+        nodes.old nodes.new from.new to.new }
+{
+    move_last(nodes, from, k, to, at);
+    take_item(nodes, at)
 }
