@@ -3,4 +3,7 @@
 
 mod links;
 mod lists;
+mod queue;
+
+pub use queue::{DEGREE_MAX, DegreeQueue};
 
