@@ -1,16 +1,16 @@
 -- Puts and takes, as the code reads the nodes and the ends of a degree.
-use Rattle.std.proofs.Common.{◌≡◌, ◌≢◌, ℕ, suc, ◌+◌, ◌-◌, ◌<◌, ◌≤◌, List, [], ◌∷◌, ◌++◌, Option, Some, None, length, get_or, set, refl, sym, ap, ◌∙◌, arith, subst}
+use Rattle.std.proofs.Common.{◌≡◌, ◌≢◌, ℕ, ◌-◌, ◌<◌, List, [], ◌∷◌, ◌++◌, Some, None, length, get_or, set, sym, ap, ◌∙◌, arith, subst}
 use Rattle.std.specs.List.{slice_index, slice_get, remove}
 use Rattle.std.specs.Option.{IsSome, IsNone}
 use Rattle.std.proofs.lemmas.List.{get_or_default}
 use Rattle.degree_queue.specs.declared.links.Node.{Node}
 use Rattle.degree_queue.specs.declared.links.Ends.{Ends}
 use Rattle.degree_queue.specs.DegreeQueue.{list_of}
-use Rattle.degree_queue.specs.Links.{no_ends, no_node, times, path_of, item_at, IsApart, IsList, Moves}
-use Rattle.degree_queue.specs.Lists.{ends_at, items_on, listed, IsPartition}
+use Rattle.degree_queue.specs.Links.{no_ends, no_node, path_of, item_at, IsApart, IsList, Moves}
+use Rattle.degree_queue.specs.Lists.{ends_at, IsPartition}
 use Rattle.degree_queue.proofs.Changing.{Changes, IsPartition-changed, other_lists, changed_list}
 use Rattle.degree_queue.proofs.Moved.{put_changes, put_items, take_changes, take_items, item_read}
-use Rattle.degree_queue.proofs.Partition.{all_items, degree_within, IsApart-path, IsApart-path_free, IsApart-free_path, path_full, number_within, length-list, free_empty, free_within}
+use Rattle.degree_queue.proofs.Partition.{all_items, IsApart-path, IsApart-path_free, IsApart-free_path, path_full, number_within, length-list, free_empty, free_within}
 
 -- ns are the nodes, and e the ends of the degree
 module _ {T : Type 0} (nodes ns : List (Node T)) (heads : List Ends) (free e : Ends) (d : ℕ) (sound : IsPartition nodes heads free) (ns_is : ns ≡ nodes) (read : e ≡ get_or heads d e) (inside : d < length heads) where

@@ -1,18 +1,18 @@
 -- One list of a degree and the free list change.
-use Rattle.std.proofs.Common.{◌≡◌, ◌≢◌, ◌⊎◌, ℕ, zero, suc, ◌+◌, ◌-◌, ◌<◌, ◌≤◌, List, [], ◌∷◌, ◌++◌, Option, Some, None, length, get_or, set, map, refl, sym, ap, ◌∙◌, inl, inr, arith, subst}
-use Rattle.std.specs.List.{slice_index, slice_get, remove}
+use Rattle.std.proofs.Common.{◌≡◌, ◌≢◌, ℕ, ◌+◌, ◌<◌, List, ◌++◌, Option, length, set, sym, ap, ◌∙◌, inl, inr, arith, subst}
+use Rattle.std.specs.List.{slice_index}
 use Rattle.std.specs.Option.{IsSome, IsNone}
 use Rattle.std.proofs.lemmas.Bool.{cases_eq, cases_lt}
 use Rattle.std.proofs.lemmas.List.{get_or-set_same, get_or-set_other}
 use Rattle.degree_queue.specs.declared.links.Node.{Node}
 use Rattle.degree_queue.specs.declared.links.Ends.{Ends}
 use Rattle.degree_queue.specs.DegreeQueue.{list_of}
-use Rattle.degree_queue.specs.Links.{no_ends, times, path_of, next_at, prev_at, item_at, IsApart, IsList, Moves}
+use Rattle.degree_queue.specs.Links.{no_ends, times, path_of, next_at, prev_at, item_at, IsList}
 use Rattle.degree_queue.specs.Lists.{ends_at, items_on, listed, IsPartition}
-use Rattle.degree_queue.proofs.Counting.{here, here_same, here_other, times-append, times-cons, times-remove, times-slice_index}
-use Rattle.degree_queue.proofs.Items.{AllFull, filter_map_same, filter_map_push, filter_map-remove, slice_get-filter_map}
+use Rattle.degree_queue.proofs.Counting.{times-append, times-slice_index}
+use Rattle.degree_queue.proofs.Items.{filter_map_same}
 use Rattle.degree_queue.proofs.Listed.{times-set}
-use Rattle.degree_queue.proofs.Partition.{all_items, list_of_is, path_le, two_paths_le, at_most_once, within_nodes, path_full}
+use Rattle.degree_queue.proofs.Partition.{all_items, list_of_is, two_paths_le, at_most_once}
 use Rattle.degree_queue.proofs.Paths.{path_of_is, IsList-path_of, IsList-kept}
 
 -- the list of the degree and the free list are now p and q

@@ -1,5 +1,5 @@
 -- A node that moves between a list of a degree and the free list.
-use Rattle.std.proofs.Common.{◌≡◌, ◌≢◌, ◌⊎◌, ℕ, zero, suc, ◌+◌, ◌-◌, ◌<◌, ◌≤◌, List, [], ◌∷◌, ◌++◌, Option, Some, None, length, set, refl, sym, ap, ◌∙◌, inl, inr, arith, subst}
+use Rattle.std.proofs.Common.{◌≡◌, ◌≢◌, ◌⊎◌, ℕ, ◌+◌, ◌<◌, ◌≤◌, List, [], ◌∷◌, ◌++◌, Option, Some, None, length, refl, sym, ap, ◌∙◌, inl, inr, arith, subst}
 use Rattle.std.specs.List.{slice_index, slice_get, remove}
 use Rattle.std.specs.Option.{IsSome, IsNone}
 use Rattle.std.proofs.lemmas.Bool.{cases_eq}
@@ -7,11 +7,11 @@ use Rattle.degree_queue.specs.declared.links.Node.{Node}
 use Rattle.degree_queue.specs.declared.links.Ends.{Ends}
 use Rattle.degree_queue.specs.DegreeQueue.{list_of}
 use Rattle.degree_queue.specs.Links.{times, path_of, item_at, Moves}
-use Rattle.degree_queue.specs.Lists.{ends_at, items_on, listed, IsPartition}
-use Rattle.degree_queue.proofs.Changing.{Changes, changed_list}
+use Rattle.degree_queue.specs.Lists.{ends_at, items_on, IsPartition}
+use Rattle.degree_queue.proofs.Changing.{Changes}
 use Rattle.degree_queue.proofs.Counting.{here, here_same, here_other, times-append, times-cons, times-remove, times-slice_index}
 use Rattle.degree_queue.proofs.Items.{filter_map_same, filter_map_push, filter_map-remove, slice_get-filter_map}
-use Rattle.degree_queue.proofs.Partition.{all_items, list_of_is, path_le, at_most_once, path_full, number_within}
+use Rattle.degree_queue.proofs.Partition.{all_items, list_of_is, path_le, at_most_once, path_full}
 
 -- the counts of two lists of indexes, of which one loses what the other gains
 module _ (p q : List ℕ) (k at : ℕ) (inside : k < length p) (at_is : at ≡ slice_index p k) where

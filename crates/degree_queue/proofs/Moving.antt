@@ -1,12 +1,11 @@
 -- A node that moves from one list to another.
-use Rattle.std.proofs.Common.{◌≡◌, ℕ, ◌+◌, ◌-◌, ◌<◌, ◌≤◌, List, [], ◌∷◌, ◌++◌, Option, length, subst, sym, ap, ◌∙◌, arith}
+use Rattle.std.proofs.Common.{◌≡◌, ℕ, ◌+◌, ◌<◌, ◌≤◌, List, [], ◌∷◌, ◌++◌, Option, length, subst, sym, ap, ◌∙◌, arith}
 use Rattle.std.specs.List.{remove, slice_index}
-use Rattle.std.proofs.lemmas.List.Edits.{length-remove}
 use Rattle.degree_queue.specs.declared.links.Node.{Node}
 use Rattle.degree_queue.specs.declared.links.Ends.{Ends}
 use Rattle.degree_queue.specs.Links.{times, path_of, IsApart, IsList, ChangesLinks, SetsItem, Moves}
-use Rattle.degree_queue.proofs.Counting.{here, here_same, times-append, times-cons, times-remove, times-slice_index, IsApart-moved}
-use Rattle.degree_queue.proofs.Paths.{path_of_is, IsList-path_of, IsList-kept}
+use Rattle.degree_queue.proofs.Counting.{here, times-append, times-cons, times-remove, times-slice_index, IsApart-moved}
+use Rattle.degree_queue.proofs.Paths.{path_of_is, IsList-kept}
 
 module _ {T : Type 0} where
   -- a list none of whose links change

@@ -1,18 +1,17 @@
 -- What it means for each node to be on exactly one list.
-use Rattle.std.proofs.Common.{◌≡◌, ◌≢◌, ◌⊎◌, ℕ, zero, suc, ◌+◌, ◌-◌, ◌<◌, ◌≤◌, List, [], ◌∷◌, ◌++◌, Option, Some, None, length, get_or, set, map, refl, sym, ap, ◌∙◌, inl, inr, arith, subst}
+use Rattle.std.proofs.Common.{◌≡◌, ◌≢◌, ℕ, ◌+◌, ◌<◌, ◌≤◌, List, [], ◌++◌, length, map, refl, sym, ap, ◌∙◌, inl, inr, arith}
 use Rattle.std.specs.List.{slice_index}
-use Rattle.std.specs.Option.{IsSome, IsNone}
+use Rattle.std.specs.Option.{IsNone}
 use Rattle.std.proofs.lemmas.Bool.{cases_lt}
 use Rattle.std.proofs.lemmas.List.{get_or_past, length-map}
 use Rattle.degree_queue.specs.declared.links.Node.{Node}
 use Rattle.degree_queue.specs.declared.links.Ends.{Ends}
 use Rattle.degree_queue.specs.DegreeQueue.{list_of}
-use Rattle.degree_queue.specs.Links.{no_ends, times, path_of, item_at, IsApart, IsList}
+use Rattle.degree_queue.specs.Links.{no_ends, times, path_of, item_at, IsApart}
 use Rattle.degree_queue.specs.Lists.{ends_at, items_on, listed, IsPartition}
 use Rattle.degree_queue.proofs.Counting.{times-append, times-slice_index}
 use Rattle.degree_queue.proofs.Items.{AllFull, length-filter_map}
 use Rattle.degree_queue.proofs.Listed.{get_or-map_no, times_one, times_two}
-use Rattle.degree_queue.proofs.Paths.{length-path}
 
 module _ {T : Type 0} (nodes : List (Node T)) (heads : List Ends) where
   -- the items of each degree

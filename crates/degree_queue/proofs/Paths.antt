@@ -1,13 +1,12 @@
 -- Doubly linked lists, and how links that change keep them.
-use Rattle.std.proofs.Common.{◌≡◌, ◌≢◌, ◌⊎◌, ℕ, zero, suc, ◌+◌, ◌-◌, ◌<◌, ◌≤◌, List, [], ◌∷◌, ◌++◌, length, get_or, set, refl, sym, ap, ◌∙◌, inl, inr, arith, subst, add-zero, add-one}
-use Rattle.std.specs.List.{remove, slice_index}
-use Rattle.std.proofs.lemmas.Bool.{cases_eq, cases_lt, cases_order}
-use Rattle.std.proofs.lemmas.List.{get_or_append_left, get_or_push, get_or_default, length_push, length-set, get_or-set_same, get_or-set_other}
-use Rattle.std.proofs.lemmas.List.Edits.{length-remove, get_or-remove_below, get_or-remove_above}
+use Rattle.std.proofs.Common.{◌≡◌, ◌≢◌, ℕ, zero, suc, ◌<◌, List, [], ◌∷◌, length, get_or, set, refl, sym, ap, ◌∙◌, inl, inr, arith, subst}
+use Rattle.std.specs.List.{slice_index}
+use Rattle.std.proofs.lemmas.Bool.{cases_eq}
+use Rattle.std.proofs.lemmas.List.{get_or_default, length-set, get_or-set_same, get_or-set_other}
 use Rattle.degree_queue.specs.declared.links.Node.{Node}
 use Rattle.degree_queue.specs.declared.links.Ends.{Ends}
-use Rattle.degree_queue.specs.Links.{times, path, path_of, no_node, next_at, prev_at, item_at, IsApart, IsList, Joins, ChangesLinks}
-use Rattle.degree_queue.proofs.Counting.{times-slice_index, times-append, times-cons, same_place, slice_index-lt}
+use Rattle.degree_queue.specs.Links.{times, path, path_of, no_node, next_at, prev_at, IsList, Joins, ChangesLinks}
+use Rattle.degree_queue.proofs.Counting.{times-slice_index}
 
 pub length-path : (f : ℕ → ℕ) (a n : ℕ) → length (path f a n) ≡ n
 length-path f a zero = refl

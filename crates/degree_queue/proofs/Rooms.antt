@@ -1,5 +1,5 @@
 -- One more free node, and ends for more degrees.
-use Rattle.std.proofs.Common.{◌≡◌, ◌≢◌, ◌⊎◌, ℕ, zero, suc, ◌+◌, ◌-◌, ◌<◌, ◌≤◌, List, [], ◌∷◌, ◌++◌, Option, Some, None, length, get_or, map, replicate, refl, sym, ap, ◌∙◌, inl, inr, arith, subst}
+use Rattle.std.proofs.Common.{◌≡◌, ℕ, ◌+◌, ◌<◌, List, [], ◌∷◌, ◌++◌, Option, None, length, get_or, replicate, refl, sym, ap, ◌∙◌, inl, inr, arith, subst}
 use Rattle.std.specs.List.{slice_index}
 use Rattle.std.specs.Option.{IsSome, IsNone}
 use Rattle.std.proofs.lemmas.Bool.{cases_eq, cases_lt}
@@ -7,13 +7,13 @@ use Rattle.std.proofs.lemmas.List.{get_or_append_left, get_or_push, length_push}
 use Rattle.degree_queue.specs.declared.links.Node.{Node}
 use Rattle.degree_queue.specs.declared.links.Ends.{Ends}
 use Rattle.degree_queue.specs.DegreeQueue.{list_of}
-use Rattle.degree_queue.specs.Links.{no_ends, no_node, times, path_of, next_at, prev_at, item_at, IsList}
+use Rattle.degree_queue.specs.Links.{no_ends, no_node, times, path_of, item_at, IsList}
 use Rattle.degree_queue.specs.Lists.{ends_at, items_on, listed, IsPartition}
 use Rattle.degree_queue.proofs.Counting.{here, here_same, here_other, times-append, times-cons, times-slice_index}
 use Rattle.degree_queue.proofs.Items.{filter_map_same}
 use Rattle.degree_queue.proofs.Listed.{map_same, flat_map_same, flat_map-empty, get_or-more_empty}
-use Rattle.degree_queue.proofs.Partition.{all_items, list_of_is, path_le, at_most_once, within_nodes}
-use Rattle.degree_queue.proofs.Paths.{path_of_is, IsList-path_of, IsList-kept, length-path}
+use Rattle.degree_queue.proofs.Partition.{all_items, list_of_is, path_le, within_nodes}
+use Rattle.degree_queue.proofs.Paths.{path_of_is, IsList-path_of, IsList-kept}
 
 -- one more node, the only free one
 module _ {T : Type 0} (nodes : List (Node T)) (heads : List Ends) (free : Ends) (x : Node T) (sound : IsPartition nodes heads free) (none_free : free.len ≡ 0) (without : x.item ≡ None) where

@@ -1,5 +1,5 @@
 -- One doubly linked list for each degree and a list of free nodes, over one list of nodes.
-use Rattle.std.specs.Prelude.{◌≡◌, ℕ, ◌<◌, List, [], ◌++◌, Option, length, map, slice_index_or, IsSome, IsNone}
+use Rattle.std.specs.Prelude.{◌≡◌, ℕ, ◌<◌, List, ◌++◌, length, map, slice_index_or, IsSome, IsNone}
 use Rattle.std.specs.List.{flat_map, filter_map}
 use Rattle.degree_queue.specs.declared.links.Node.{Node}
 use Rattle.degree_queue.specs.declared.links.Ends.{Ends}

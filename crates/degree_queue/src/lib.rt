@@ -6,4 +6,3 @@ mod lists;
 mod queue;
 
 pub use queue::{DEGREE_MAX, DegreeQueue};
-

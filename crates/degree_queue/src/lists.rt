@@ -135,13 +135,7 @@ impl<T> Lists<T> {
     {
         let mut ends = self.heads[degree];
         let at = index_at(self.nodes.as_slice(), ends, k);
-        let item = move_and_take(
-            self.nodes.as_mut_slice(),
-            &mut ends,
-            k,
-            &mut self.free,
-            at,
-        );
+        let item = move_and_take(self.nodes.as_mut_slice(), &mut ends, k, &mut self.free, at);
         self.heads[degree] = ends;
         item
     }

@@ -1,4 +1,4 @@
-use Rattle.std.proofs.Common.{◌+◌, ◌<◌, ◌≤◌, ◌++◌, ◌∷◌, [], length, arith}
+use Rattle.std.proofs.Common.{◌++◌, ◌∷◌, [], arith}
 use Rattle.std.proofs.lemmas.List.{length_push}
 use Rattle.degree_queue.specs.Links.{path_of}
 use Rattle.degree_queue.proofs.Counting.{length-le}

@@ -1,5 +1,3 @@
-use Rattle.std.proofs.Common.{◌++◌, ◌∷◌, [], ◌≡◌, List, ℕ, length, subst, sym}
-use Rattle.degree_queue.specs.Links.{path_of, IsApart, IsList, ChangesLinks}
 use Rattle.degree_queue.proofs.Counting.{IsApart-left}
 use Rattle.degree_queue.proofs.Paths.{IsList-path_of}
 use Rattle.degree_queue.proofs.Moving.{to_kept, to_path, to_apart, from_kept, changes_both}

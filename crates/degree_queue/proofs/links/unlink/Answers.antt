@@ -1,4 +1,3 @@
-use Rattle.degree_queue.specs.Links.{path_of}
 use Rattle.degree_queue.proofs.Unlinking.{without_first, without_last, without_inner, changes_inner, prev_within, next_within}
 use Rattle.degree_queue.proofs.links.unlink.Goals as goal
 

@@ -1,4 +1,4 @@
-use Rattle.std.proofs.Common.{◌≡◌, List, ap, sym, ◌∙◌, get_or}
+use Rattle.std.proofs.Common.{List, ap, sym, ◌∙◌, get_or}
 use Rattle.degree_queue.specs.declared.links.Ends.{Ends}
 use Rattle.degree_queue.specs.Links.{no_ends}
 use Rattle.degree_queue.proofs.Partition.{length-list}

@@ -1,6 +1,6 @@
 use Rattle.std.proofs.Common.{◌∙◌}
 use Rattle.std.proofs.lemmas.List.{with_items_is}
-use Rattle.degree_queue.proofs.AsRead.{list_read, apart_free_read, last_within, last_is, last_empty, put_sound, put_last, put_others}
+use Rattle.degree_queue.proofs.AsRead.{list_read, apart_free_read, last_within, last_empty, put_sound, put_last, put_others}
 use Rattle.degree_queue.proofs.lists.Lists.put.Goals as goal
 
 pub move_and_put-requires-clause-to : goal.move_and_put-requires-clause-to
