@@ -6,7 +6,7 @@ use Rattle.std.proofs.lemmas.List.{get_or_default}
 use Rattle.degree_queue.specs.declared.links.Node.{Node}
 use Rattle.degree_queue.specs.declared.links.Ends.{Ends}
 use Rattle.degree_queue.specs.DegreeQueue.{list_of}
-use Rattle.degree_queue.specs.Links.{no_ends, no_node, path_of, item_at, IsApart, IsList, Moves}
+use Rattle.degree_queue.specs.Links.{no_ends, no_node, path_of, item_at, IsApart, IsList, HasNode, CanMove, Moves}
 use Rattle.degree_queue.specs.Lists.{ends_at, IsPartition}
 use Rattle.degree_queue.proofs.Changing.{Changes, IsPartition-changed, other_lists, changed_list}
 use Rattle.degree_queue.proofs.Moved.{put_changes, put_items, take_changes, take_items, item_read}
@@ -20,37 +20,32 @@ module _ {T : Type 0} (nodes ns : List (Node T)) (heads : List Ends) (free e : E
   ns_sound : IsPartition ns heads free
   ns_sound = subst (λ (x : List (Node T)). IsPartition x heads free) (sym ns_is) sound
 
-  pub list_read : IsList ns e (path_of ns e)
+  list_read : IsList ns e (path_of ns e)
   list_read = subst (λ (x : Ends). IsList ns x (path_of ns x)) e_is (ns_sound.lists d)
-
-  pub apart_read : IsApart (length ns) (path_of ns e)
-  apart_read = subst (λ (x : Ends). IsApart (length ns) (path_of ns x)) e_is (IsApart-path ns heads free ns_sound d)
 
   same_items : list_of (all_items nodes heads) d ≡ list_of (all_items ns heads) d
   same_items = ap (λ (x : List (Node T)). list_of (all_items x heads) d) (sym ns_is)
 
-  pub length_read : length (list_of (all_items nodes heads) d) ≡ e.len
+  length_read : length (list_of (all_items nodes heads) d) ≡ e.len
   length_read = ap length same_items ∙ length-list ns heads free ns_sound d ∙ ap (λ (x : Ends). x.len) e_is
-
-  pub apart_free_read : IsApart (length ns) (path_of ns free ++ path_of ns e)
-  apart_free_read = subst (λ (x : Ends). IsApart (length ns) (path_of ns free ++ path_of ns x)) e_is (IsApart-free_path ns heads free ns_sound d)
-
-  pub apart_read_free : IsApart (length ns) (path_of ns e ++ path_of ns free)
-  apart_read_free = subst (λ (x : Ends). IsApart (length ns) (path_of ns x ++ path_of ns free)) e_is (IsApart-path_free ns heads free ns_sound d)
-
-  pub free_list_read : IsList ns free (path_of ns free)
-  free_list_read = ns_sound.free_list
 
   -- a put
   module _ (some : 0 < free.len) where
     last_number : free.len - 1 < length (path_of ns free)
     last_number = omega (arith, ns_sound.free_list.len)
 
-    pub last_is : free.last ≡ slice_index (path_of ns free) (free.len - 1)
+    last_is : free.last ≡ slice_index (path_of ns free) (free.len - 1)
     last_is = ns_sound.free_list.last (omega (arith, ns_sound.free_list.len)) ∙ ap (slice_index (path_of ns free)) (omega (arith, ns_sound.free_list.len))
 
-    pub last_within : free.last < length ns
-    last_within = omega (arith, last_is, free_within ns heads free ns_sound (free.len - 1) last_number)
+    pub can_put : CanMove ns free e (free.len - 1) free.last
+    can_put = record {
+      from_list = ns_sound.free_list;
+      to_list = list_read;
+      apart = subst (λ (x : Ends). IsApart (length ns) (path_of ns free ++ path_of ns x)) e_is (IsApart-free_path ns heads free ns_sound d);
+      inside = omega arith;
+      at_is = last_is;
+      within = omega (arith, last_is, free_within ns heads free ns_sound (free.len - 1) last_number);
+    }
 
     pub last_empty : IsNone (item_at ns free.last)
     last_empty = subst (λ (i : ℕ). IsNone (item_at ns i)) (sym last_is) (free_empty ns heads free ns_sound (free.len - 1) last_number)
@@ -79,13 +74,31 @@ module _ {T : Type 0} (nodes ns : List (Node T)) (heads : List Ends) (free e : E
           ∙ other_lists ns new heads free new_ends new_free d _ _ ns_sound inside put_change c other
           ∙ ap (λ (x : List (Node T)). list_of (all_items x heads) c) ns_is
 
-  -- a look and a take
+  -- a look
+  pub has_node : (k : ℕ) → k < length (list_of (all_items nodes heads) d) → HasNode ns e k
+  has_node k within = record {
+    list = list_read;
+    apart = subst (λ (x : Ends). IsApart (length ns) (path_of ns x)) e_is (IsApart-path ns heads free ns_sound d);
+    inside = omega (arith, length_read);
+  }
+
+  -- a look and a take at an index
   module _ (k at : ℕ) (within : k < length (list_of (all_items nodes heads) d)) (at_is : at ≡ slice_index (path_of ns e) k) where
     own_is : at ≡ slice_index (path_of ns (ends_at heads d)) k
     own_is = at_is ∙ ap (λ (x : Ends). slice_index (path_of ns x) k) (sym e_is)
 
     number : k < length (path_of ns (ends_at heads d))
     number = number_within ns heads free ns_sound d k (omega (arith, ap length same_items))
+
+    pub can_take : at < length ns → CanMove ns e free k at
+    can_take in_nodes = record {
+      from_list = list_read;
+      to_list = ns_sound.free_list;
+      apart = subst (λ (x : Ends). IsApart (length ns) (path_of ns x ++ path_of ns free)) e_is (IsApart-path_free ns heads free ns_sound d);
+      inside = omega (arith, length_read);
+      at_is = at_is;
+      within = in_nodes;
+    }
 
     pub item_full : IsSome (item_at ns at)
     item_full = subst (λ (i : ℕ). IsSome (item_at ns i)) (sym own_is) (path_full ns heads free ns_sound d k number)

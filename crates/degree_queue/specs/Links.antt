@@ -49,6 +49,21 @@ module _ {T : Type 0} where
     pub next : (k : ℕ) → suc k < length p → next_at nodes (slice_index p k) ≡ slice_index p (suc k)
     pub prev : (k : ℕ) → suc k < length p → prev_at nodes (slice_index p (suc k)) ≡ slice_index p k
 
+  -- the list has a node number k
+  pub record HasNode (nodes : List (Node T)) (ends : Ends) (k : ℕ) : Type 0 where
+    pub list : IsList nodes ends (path_of nodes ends)
+    pub apart : IsApart (length nodes) (path_of nodes ends)
+    pub inside : k < ends.len
+
+  -- node number k of a list, at this index, can move to another list, which has none of its nodes
+  pub record CanMove (nodes : List (Node T)) (from to : Ends) (k at : ℕ) : Type 0 where
+    pub from_list : IsList nodes from (path_of nodes from)
+    pub to_list : IsList nodes to (path_of nodes to)
+    pub apart : IsApart (length nodes) (path_of nodes from ++ path_of nodes to)
+    pub inside : k < from.len
+    pub at_is : at ≡ slice_index (path_of nodes from) k
+    pub within : at < length nodes
+
   -- b is now the node after a; nothing else changes
   pub record Joins (old new : List (Node T)) (a b : ℕ) : Type 0 where
     pub long : length new ≡ length old

@@ -1,6 +1,6 @@
 //! Doubly linked lists by index over one vector of nodes.
 ghost use Rattle.std.specs.Prelude.{◌≡◌, ◌<◌, ◌++◌, [], ◌∷◌, length, remove, slice_index, IsSome, IsNone};
-ghost use Rattle.degree_queue.specs.Links.{no_ends, path_of, item_at, IsList, IsApart, Joins, ChangesLinks, SetsItem, Moves};
+ghost use Rattle.degree_queue.specs.Links.{no_ends, path_of, item_at, IsList, IsApart, HasNode, CanMove, Joins, ChangesLinks, SetsItem, Moves};
 
 /// A node of a list. An end's link outwards means nothing.
 #[derive(Drop)]
@@ -43,9 +43,7 @@ fn join<T>(nodes: &mut [Node<T>], a: usize, b: usize)
 
 /// Takes the node at index `at`, which is number k on its list, off the list.
 fn unlink<T>(nodes: &mut [Node<T>], ends: &mut Ends, k: usize, at: usize)
-    requires list { IsList nodes.old ends.old (path_of nodes.old ends.old) }
-    requires apart { IsApart (length nodes.old) (path_of nodes.old ends.old) }
-    requires inside { k < ends.old.len }
+    requires node { HasNode nodes.old ends.old k }
     requires at { at ≡ slice_index (path_of nodes.old ends.old) k }
     requires within { at < length nodes.old }
     ensures list { IsList nodes.new ends.new (remove (path_of nodes.old ends.old) k) }
@@ -82,12 +80,7 @@ fn link_last<T>(nodes: &mut [Node<T>], ends: &mut Ends, at: usize)
 
 /// Moves the node at index `at`, which is number k of one list, behind the last node of another.
 fn move_last<T>(nodes: &mut [Node<T>], from: &mut Ends, k: usize, to: &mut Ends, at: usize)
-    requires from { IsList nodes.old from.old (path_of nodes.old from.old) }
-    requires to { IsList nodes.old to.old (path_of nodes.old to.old) }
-    requires apart { IsApart (length nodes.old) (path_of nodes.old from.old ++ path_of nodes.old to.old) }
-    requires inside { k < from.old.len }
-    requires at { at ≡ slice_index (path_of nodes.old from.old) k }
-    requires within { at < length nodes.old }
+    requires { CanMove nodes.old from.old to.old k at }
     ensures from { IsList nodes.new from.new (remove (path_of nodes.old from.old) k) }
     ensures to { IsList nodes.new to.new (path_of nodes.old to.old ++ at ∷ []) }
     ensures others { ChangesLinks (path_of nodes.old from.old ++ path_of nodes.old to.old) nodes.old nodes.new }
@@ -98,9 +91,7 @@ fn move_last<T>(nodes: &mut [Node<T>], from: &mut Ends, k: usize, to: &mut Ends,
 
 /// The index of node number k, by the links forwards.
 fn index_from_first<T>(nodes: &[Node<T>], ends: Ends, k: usize) -> usize
-    requires list { IsList nodes.now ends (path_of nodes.now ends) }
-    requires apart { IsApart (length nodes.now) (path_of nodes.now ends) }
-    requires inside { k < ends.len }
+    requires { HasNode nodes.now ends k }
     ensures at { result ≡ slice_index (path_of nodes.now ends) k }
     ensures within { result < length nodes.now }
 {
@@ -113,9 +104,7 @@ fn index_from_first<T>(nodes: &[Node<T>], ends: Ends, k: usize) -> usize
 
 /// The index of node number k, by the links backwards.
 fn index_from_last<T>(nodes: &[Node<T>], ends: Ends, k: usize) -> usize
-    requires list { IsList nodes.now ends (path_of nodes.now ends) }
-    requires apart { IsApart (length nodes.now) (path_of nodes.now ends) }
-    requires inside { k < ends.len }
+    requires { HasNode nodes.now ends k }
     ensures at { result ≡ slice_index (path_of nodes.now ends) k }
     ensures within { result < length nodes.now }
 {
@@ -128,9 +117,7 @@ fn index_from_last<T>(nodes: &[Node<T>], ends: Ends, k: usize) -> usize
 
 /// The index of node number k, from the nearer end.
 pub fn index_at<T>(nodes: &[Node<T>], ends: Ends, k: usize) -> usize
-    requires list { IsList nodes.now ends (path_of nodes.now ends) }
-    requires apart { IsApart (length nodes.now) (path_of nodes.now ends) }
-    requires inside { k < ends.len }
+    requires { HasNode nodes.now ends k }
     ensures at { result ≡ slice_index (path_of nodes.now ends) k }
     ensures within { result < length nodes.now }
 {
@@ -175,12 +162,7 @@ pub fn move_and_put<T>(
     at: usize,
     item: T,
 )
-    requires from { IsList nodes.old from.old (path_of nodes.old from.old) }
-    requires to { IsList nodes.old to.old (path_of nodes.old to.old) }
-    requires apart { IsApart (length nodes.old) (path_of nodes.old from.old ++ path_of nodes.old to.old) }
-    requires inside { k < from.old.len }
-    requires at { at ≡ slice_index (path_of nodes.old from.old) k }
-    requires within { at < length nodes.old }
+    requires can { CanMove nodes.old from.old to.old k at }
     requires empty { IsNone (item_at nodes.old at) }
     ensures { Moves (path_of nodes.old from.old) (path_of nodes.old to.old) k at (Some item)
         nodes.old nodes.new from.new to.new }
@@ -197,12 +179,7 @@ pub fn move_and_take<T>(
     to: &mut Ends,
     at: usize,
 ) -> T
-    requires from { IsList nodes.old from.old (path_of nodes.old from.old) }
-    requires to { IsList nodes.old to.old (path_of nodes.old to.old) }
-    requires apart { IsApart (length nodes.old) (path_of nodes.old from.old ++ path_of nodes.old to.old) }
-    requires inside { k < from.old.len }
-    requires at { at ≡ slice_index (path_of nodes.old from.old) k }
-    requires within { at < length nodes.old }
+    requires can { CanMove nodes.old from.old to.old k at }
     requires full { IsSome (item_at nodes.old at) }
     ensures item { item_at nodes.old at ≡ Some result }
     ensures moves { Moves (path_of nodes.old from.old) (path_of nodes.old to.old) k at None

@@ -11,7 +11,7 @@ pub const DEGREE_MAX: u32 = 30000;
 
 /// A list of items for each degree. A degree that was never used has the empty list.
 ///
-/// All items are in one block of memory, and a popped item leaves its place there to a later one.
+/// All items are in one block of memory. That of a popped item is used again.
 #[derive(Drop)]
 pub struct DegreeQueue<T> {
     lists: Lists<T>,

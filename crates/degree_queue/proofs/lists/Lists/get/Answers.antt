@@ -1,19 +1,11 @@
 use Rattle.std.proofs.Common.{◌≡◌, Option, is_some, true, false, ◌∙◌, subst, arith}
 use Rattle.degree_queue.proofs.Partition.{degree_within}
-use Rattle.degree_queue.proofs.AsRead.{list_read, apart_read, length_read, item_full, item_found, item_of}
+use Rattle.degree_queue.proofs.AsRead.{has_node, item_full, item_found, item_of}
 use Rattle.degree_queue.proofs.lists.Lists.get.Goals as goal
 
-pub index_at-at-requires-clause-list : goal.index_at-at-requires-clause-list
-index_at-at-requires-clause-list g c =
-    list_read c.args.self.now.nodes.items _ c.args.self.now.heads.items c.args.self.now.free _ c.args.degree c.requires.sound c.as_slice.ensures.value c.index.ensures (degree_within _ c.args.self.now.heads.items c.args.degree c.args.k c.requires.inside)
-
-pub index_at-at-requires-clause-apart : goal.index_at-at-requires-clause-apart
-index_at-at-requires-clause-apart g c =
-    apart_read c.args.self.now.nodes.items _ c.args.self.now.heads.items c.args.self.now.free _ c.args.degree c.requires.sound c.as_slice.ensures.value c.index.ensures (degree_within _ c.args.self.now.heads.items c.args.degree c.args.k c.requires.inside)
-
-pub index_at-at-requires-clause-inside : goal.index_at-at-requires-clause-inside
-index_at-at-requires-clause-inside g c =
-    omega (arith, c.requires.inside, length_read c.args.self.now.nodes.items _ c.args.self.now.heads.items c.args.self.now.free _ c.args.degree c.requires.sound c.as_slice.ensures.value c.index.ensures (degree_within _ c.args.self.now.heads.items c.args.degree c.args.k c.requires.inside))
+pub index_at-at-requires : goal.index_at-at-requires
+index_at-at-requires g c =
+    has_node c.args.self.now.nodes.items _ c.args.self.now.heads.items c.args.self.now.free _ c.args.degree c.requires.sound c.as_slice.ensures.value c.index.ensures (degree_within _ c.args.self.now.heads.items c.args.degree c.args.k c.requires.inside) c.args.k c.requires.inside
 
 pub unreachable-requires : goal.unreachable-requires
 unreachable-requires g c =

@@ -1,19 +1,11 @@
 use Rattle.std.proofs.Common.{◌∙◌}
 use Rattle.std.proofs.lemmas.List.{with_items_is}
-use Rattle.degree_queue.proofs.AsRead.{list_read, apart_free_read, last_within, last_empty, put_sound, put_last, put_others}
+use Rattle.degree_queue.proofs.AsRead.{can_put, last_empty, put_sound, put_last, put_others}
 use Rattle.degree_queue.proofs.lists.Lists.put.Goals as goal
 
-pub move_and_put-requires-clause-to : goal.move_and_put-requires-clause-to
-move_and_put-requires-clause-to g c =
-    list_read c.args.self.now.nodes.items _ c.args.self.now.heads.items c.args.self.now.free _ c.args.degree c.requires.sound c.as_mut_slice.ensures.value c.index.ensures c.requires.room.ends
-
-pub move_and_put-requires-clause-apart : goal.move_and_put-requires-clause-apart
-move_and_put-requires-clause-apart g c =
-    apart_free_read c.args.self.now.nodes.items _ c.args.self.now.heads.items c.args.self.now.free _ c.args.degree c.requires.sound c.as_mut_slice.ensures.value c.index.ensures c.requires.room.ends
-
-pub move_and_put-requires-clause-within : goal.move_and_put-requires-clause-within
-move_and_put-requires-clause-within g c =
-    last_within c.args.self.now.nodes.items _ c.args.self.now.heads.items c.args.self.now.free _ c.args.degree c.requires.sound c.as_mut_slice.ensures.value c.index.ensures c.requires.room.ends c.requires.room.node
+pub move_and_put-requires-clause-can : goal.move_and_put-requires-clause-can
+move_and_put-requires-clause-can g c =
+    can_put c.args.self.now.nodes.items _ c.args.self.now.heads.items c.args.self.now.free _ c.args.degree c.requires.sound c.as_mut_slice.ensures.value c.index.ensures c.requires.room.ends c.requires.room.node
 
 pub move_and_put-requires-clause-empty : goal.move_and_put-requires-clause-empty
 move_and_put-requires-clause-empty g c =

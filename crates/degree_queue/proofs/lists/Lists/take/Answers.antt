@@ -4,32 +4,17 @@ use Rattle.degree_queue.specs.declared.links.Node.{Node}
 use Rattle.degree_queue.specs.Links.{path_of}
 use Rattle.std.specs.List.{slice_index}
 use Rattle.degree_queue.proofs.Partition.{degree_within}
-use Rattle.degree_queue.proofs.AsRead.{list_read, apart_read, length_read, apart_read_free, item_full, item_found, take_sound, take_rest, take_others}
+use Rattle.degree_queue.proofs.AsRead.{has_node, can_take, item_full, item_found, take_sound, take_rest, take_others}
 use Rattle.degree_queue.proofs.lists.Lists.take.Goals as goal
 
-pub index_at-at-requires-clause-list : goal.index_at-at-requires-clause-list
-index_at-at-requires-clause-list g c =
-    list_read c.args.self.now.nodes.items _ c.args.self.now.heads.items c.args.self.now.free _ c.args.degree c.requires.sound c.as_slice.ensures.value c.index.ensures (degree_within _ c.args.self.now.heads.items c.args.degree c.args.k c.requires.inside)
+pub index_at-at-requires : goal.index_at-at-requires
+index_at-at-requires g c =
+    has_node c.args.self.now.nodes.items _ c.args.self.now.heads.items c.args.self.now.free _ c.args.degree c.requires.sound c.as_slice.ensures.value c.index.ensures (degree_within _ c.args.self.now.heads.items c.args.degree c.args.k c.requires.inside) c.args.k c.requires.inside
 
-pub index_at-at-requires-clause-apart : goal.index_at-at-requires-clause-apart
-index_at-at-requires-clause-apart g c =
-    apart_read c.args.self.now.nodes.items _ c.args.self.now.heads.items c.args.self.now.free _ c.args.degree c.requires.sound c.as_slice.ensures.value c.index.ensures (degree_within _ c.args.self.now.heads.items c.args.degree c.args.k c.requires.inside)
-
-pub index_at-at-requires-clause-inside : goal.index_at-at-requires-clause-inside
-index_at-at-requires-clause-inside g c =
-    omega (arith, c.requires.inside, length_read c.args.self.now.nodes.items _ c.args.self.now.heads.items c.args.self.now.free _ c.args.degree c.requires.sound c.as_slice.ensures.value c.index.ensures (degree_within _ c.args.self.now.heads.items c.args.degree c.args.k c.requires.inside))
-
-pub move_and_take-item-requires-clause-from : goal.move_and_take-item-requires-clause-from
-move_and_take-item-requires-clause-from g c =
-    list_read c.args.self.now.nodes.items _ c.args.self.now.heads.items c.args.self.now.free _ c.args.degree c.requires.sound c.as_mut_slice.ensures.value c.index.ensures (degree_within _ c.args.self.now.heads.items c.args.degree c.args.k c.requires.inside)
-
-pub move_and_take-item-requires-clause-apart : goal.move_and_take-item-requires-clause-apart
-move_and_take-item-requires-clause-apart g c =
-    apart_read_free c.args.self.now.nodes.items _ c.args.self.now.heads.items c.args.self.now.free _ c.args.degree c.requires.sound c.as_mut_slice.ensures.value c.index.ensures (degree_within _ c.args.self.now.heads.items c.args.degree c.args.k c.requires.inside)
-
-pub move_and_take-item-requires-clause-inside : goal.move_and_take-item-requires-clause-inside
-move_and_take-item-requires-clause-inside g c =
-    omega (arith, c.requires.inside, length_read c.args.self.now.nodes.items _ c.args.self.now.heads.items c.args.self.now.free _ c.args.degree c.requires.sound c.as_mut_slice.ensures.value c.index.ensures (degree_within _ c.args.self.now.heads.items c.args.degree c.args.k c.requires.inside))
+pub move_and_take-item-requires-clause-can : goal.move_and_take-item-requires-clause-can
+move_and_take-item-requires-clause-can g c =
+    let at = c.index_at-at.ensures.at ∙ ap (λ (x : List (Node g.row.T.Denot)). slice_index (path_of x c.index.result.now) c.args.k) (c.as_slice.ensures.value ∙ sym c.as_mut_slice.ensures.value) in
+    can_take c.args.self.now.nodes.items _ c.args.self.now.heads.items c.args.self.now.free _ c.args.degree c.requires.sound c.as_mut_slice.ensures.value c.index.ensures (degree_within _ c.args.self.now.heads.items c.args.degree c.args.k c.requires.inside) c.args.k c.index_at-at.result c.requires.inside at (omega (arith, c.index_at-at.ensures.within, c.as_slice.ensures.len, c.as_mut_slice.ensures.len))
 
 pub move_and_take-item-requires-clause-full : goal.move_and_take-item-requires-clause-full
 move_and_take-item-requires-clause-full g c =
