@@ -13,7 +13,7 @@ use Rattle.degree_queue.proofs.Counting.{times-append, times-slice_index}
 use Rattle.degree_queue.proofs.Items.{filter_map_same}
 use Rattle.degree_queue.proofs.Listed.{times-set}
 use Rattle.degree_queue.proofs.Partition.{all_items, list_of_is, two_paths_le, at_most_once}
-use Rattle.degree_queue.proofs.Paths.{path_of_is, IsList-path_of, IsList-kept}
+use Rattle.degree_queue.proofs.Paths.{path_of_is, IsList-path_of, IsList-same_links}
 
 -- the list of the degree and the free list are now p and q
 pub record Changes {T : Type 0} (nodes new : List (Node T)) (old_p old_q p q : List ℕ) (ends free : Ends) : Type 0 where
@@ -45,15 +45,15 @@ module _ {T : Type 0} (nodes new : List (Node T)) (heads : List Ends) (free new_
     outside k within =
         omega (arith, times-slice_index path k within, two_paths_le nodes heads (slice_index path k) c d other, at_most_once nodes heads free sound (slice_index path k))
 
-    kept_list : IsList new (ends_at heads c) path
-    kept_list =
-        IsList-kept nodes new (ends_at heads c) path (λ k within. changes.next _ (outside k within)) (λ k within. changes.prev _ (outside k within)) (sound.lists c)
+    same_list : IsList new (ends_at heads c) path
+    same_list =
+        IsList-same_links nodes new (ends_at heads c) path (λ k within. changes.next _ (outside k within)) (λ k within. changes.prev _ (outside k within)) (sound.lists c)
 
-    kept_path : path_of new (ends_at heads c) ≡ path
-    kept_path = path_of_is new (ends_at heads c) path kept_list
+    same_path : path_of new (ends_at heads c) ≡ path
+    same_path = path_of_is new (ends_at heads c) path same_list
 
-    kept_items : items_on new (path_of new (ends_at heads c)) ≡ items_on nodes path
-    kept_items = ap (items_on new) kept_path ∙ filter_map_same (item_at new) (item_at nodes) path (λ k within. changes.items _ (outside k within))
+    same_items : items_on new (path_of new (ends_at heads c)) ≡ items_on nodes path
+    same_items = ap (items_on new) same_path ∙ filter_map_same (item_at new) (item_at nodes) path (λ k within. changes.items _ (outside k within))
 
   new_path : path_of new new_ends ≡ p
   new_path = path_of_is new new_ends p changes.list
@@ -62,7 +62,7 @@ module _ {T : Type 0} (nodes new : List (Node T)) (heads : List Ends) (free new_
   new_free_path = path_of_is new new_free q changes.free_list
 
   counts : (i : ℕ) → times i (listed new new_heads) + times i old_p ≡ times i (listed nodes heads) + times i p
-  counts i = times-set no_ends i (path_of nodes) (path_of new) heads d new_ends inside kept_path ∙ ap (λ (xs : List ℕ). times i (listed nodes heads) + times i xs) new_path
+  counts i = times-set no_ends i (path_of nodes) (path_of new) heads d new_ends inside same_path ∙ ap (λ (xs : List ℕ). times i (listed nodes heads) + times i xs) new_path
 
   total : (i : ℕ) → times i (listed new new_heads ++ path_of new new_free) ≡ times i (listed nodes heads ++ old_q)
   total i =
@@ -85,7 +85,7 @@ module _ {T : Type 0} (nodes new : List (Node T)) (heads : List Ends) (free new_
       lists c =
           elim (cases_eq c d) [
             | inl same ↦ subst (λ (e : Ends). IsList new e (path_of new e)) (sym (ap (ends_at new_heads) same ∙ get_or-set_same heads d new_ends no_ends inside)) (IsList-path_of new new_ends p changes.list)
-            | inr other ↦ subst (λ (e : Ends). IsList new e (path_of new e)) (sym (get_or-set_other heads d c new_ends no_ends other)) (IsList-path_of new (ends_at heads c) (path_of nodes (ends_at heads c)) (kept_list c other))
+            | inr other ↦ subst (λ (e : Ends). IsList new e (path_of new e)) (sym (get_or-set_other heads d c new_ends no_ends other)) (IsList-path_of new (ends_at heads c) (path_of nodes (ends_at heads c)) (same_list c other))
           ]
 
       full : (i : ℕ) → 0 < times i (listed new new_heads) → IsSome (item_at new i)
@@ -99,7 +99,7 @@ module _ {T : Type 0} (nodes new : List (Node T)) (heads : List Ends) (free new_
 
   pub other_lists : (c : ℕ) → c ≢ d → list_of (all_items new (set heads d new_ends)) c ≡ list_of (all_items nodes heads) c
   other_lists c other =
-      list_of_is new new_heads c ∙ ap (λ (e : Ends). items_on new (path_of new e)) (get_or-set_other heads d c new_ends no_ends other) ∙ kept_items c other ∙ sym (list_of_is nodes heads c)
+      list_of_is new new_heads c ∙ ap (λ (e : Ends). items_on new (path_of new e)) (get_or-set_other heads d c new_ends no_ends other) ∙ same_items c other ∙ sym (list_of_is nodes heads c)
 
   pub changed_list : list_of (all_items new (set heads d new_ends)) d ≡ items_on new p
   changed_list =

@@ -41,18 +41,18 @@ slice_index-counted i (x ∷ xs) counted =
           (suc later.0, omega (arith, later.1), later.2)
     ]
 
--- no number stands at two places of a list without repeats
-pub same_place : (xs : List ℕ) (j k : ℕ) → ((i : ℕ) → times i xs ≤ 1) → j < length xs → k < length xs → slice_index xs j ≡ slice_index xs k → j ≡ k
-same_place [] j k once a b same = absurd (omega arith)
-same_place (x ∷ xs) zero zero once a b same = refl
-same_place (x ∷ xs) zero (suc k) once a b same =
+-- no number is at two indexes of a list without repeats
+pub same_index : (xs : List ℕ) (j k : ℕ) → ((i : ℕ) → times i xs ≤ 1) → j < length xs → k < length xs → slice_index xs j ≡ slice_index xs k → j ≡ k
+same_index [] j k once a b same = absurd (omega arith)
+same_index (x ∷ xs) zero zero once a b same = refl
+same_index (x ∷ xs) zero (suc k) once a b same =
     let counted : 0 < times x xs = subst (λ (y : ℕ). 0 < times y xs) (sym same) (times-slice_index xs k (omega arith)) in
     absurd (omega (arith, once x, times-cons x x xs, here_same x))
-same_place (x ∷ xs) (suc j) zero once a b same =
+same_index (x ∷ xs) (suc j) zero once a b same =
     let counted : 0 < times x xs = subst (λ (y : ℕ). 0 < times y xs) same (times-slice_index xs j (omega arith)) in
     absurd (omega (arith, once x, times-cons x x xs, here_same x))
-same_place (x ∷ xs) (suc j) (suc k) once a b same =
-    ap suc (same_place xs j k (λ i. omega (arith, once i, times-cons i x xs)) (omega arith) (omega arith) same)
+same_index (x ∷ xs) (suc j) (suc k) once a b same =
+    ap suc (same_index xs j k (λ i. omega (arith, once i, times-cons i x xs)) (omega arith) (omega arith) same)
 
 any_counted : (i : ℕ) (xs : List ℕ) → list_any (λ x. i == x) xs ≡ true → 0 < times i xs
 any_counted i [] found = absurd (cc)

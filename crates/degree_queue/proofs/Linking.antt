@@ -6,7 +6,7 @@ use Rattle.std.proofs.lemmas.List.{get_or_append_left, get_or_push, length_push}
 use Rattle.degree_queue.specs.declared.links.Node.{Node}
 use Rattle.degree_queue.specs.declared.links.Ends.{Ends}
 use Rattle.degree_queue.specs.Links.{times, next_at, prev_at, IsApart, IsList, Joins, ChangesLinks}
-use Rattle.degree_queue.proofs.Counting.{same_place, slice_index-lt}
+use Rattle.degree_queue.proofs.Counting.{same_index, slice_index-lt}
 use Rattle.degree_queue.proofs.Paths.{ChangesLinks-joined}
 
 module _ {T : Type 0} (nodes new : List (Node T)) (ends : Ends) (p : List ℕ) (at : ℕ) (list : IsList nodes ends p) (some : 0 < length p) where
@@ -28,24 +28,24 @@ module _ {T : Type 0} (nodes new : List (Node T)) (ends : Ends) (p : List ℕ) (
     len = omega (arith, long, list.len);
     first = λ _. list.first some ∙ sym (front 0 some);
     last = λ _. sym (back (length more - 1) (omega (arith, long)));
-    next = next_kept;
-    prev = prev_kept;
+    next = next_links;
+    prev = prev_links;
   }
     where
       last_is : (j : ℕ) → suc j ≡ length p → slice_index more j ≡ ends.last
       last_is j end = front j (omega arith) ∙ ap (slice_index p) (omega arith) ∙ sym (list.last some)
 
-      next_kept : (j : ℕ) → suc j < length more → next_at new (slice_index more j) ≡ slice_index more (suc j)
-      next_kept j within =
+      next_links : (j : ℕ) → suc j < length more → next_at new (slice_index more j) ≡ slice_index more (suc j)
+      next_links j within =
           elim (cases_lt (suc j) (length p)) [
-            | inl lower ↦ joins.other_next (slice_index more j) (λ equal. absurd (omega (arith, same_place more j (length p - 1) once (omega arith) (omega (arith, long)) (equal ∙ sym (last_is (length p - 1) (omega arith)))))) ∙ ap (next_at nodes) (front j (omega arith)) ∙ list.next j lower ∙ sym (front (suc j) lower)
+            | inl lower ↦ joins.other_next (slice_index more j) (λ equal. absurd (omega (arith, same_index more j (length p - 1) once (omega arith) (omega (arith, long)) (equal ∙ sym (last_is (length p - 1) (omega arith)))))) ∙ ap (next_at nodes) (front j (omega arith)) ∙ list.next j lower ∙ sym (front (suc j) lower)
             | inr upper ↦ ap (next_at new) (last_is j (omega (arith, long))) ∙ joins.next ∙ sym (back (suc j) (omega (arith, long)))
           ]
 
-      prev_kept : (j : ℕ) → suc j < length more → prev_at new (slice_index more (suc j)) ≡ slice_index more j
-      prev_kept j within =
+      prev_links : (j : ℕ) → suc j < length more → prev_at new (slice_index more (suc j)) ≡ slice_index more j
+      prev_links j within =
           elim (cases_lt (suc j) (length p)) [
-            | inl lower ↦ joins.other_prev (slice_index more (suc j)) (λ equal. absurd (omega (arith, same_place more (suc j) (length p) once within (omega (arith, long)) (equal ∙ sym (back (length p) refl))))) ∙ ap (prev_at nodes) (front (suc j) lower) ∙ list.prev j lower ∙ sym (front j (omega arith))
+            | inl lower ↦ joins.other_prev (slice_index more (suc j)) (λ equal. absurd (omega (arith, same_index more (suc j) (length p) once within (omega (arith, long)) (equal ∙ sym (back (length p) refl))))) ∙ ap (prev_at nodes) (front (suc j) lower) ∙ list.prev j lower ∙ sym (front j (omega arith))
             | inr upper ↦ ap (prev_at new) (back (suc j) (omega (arith, long))) ∙ joins.prev ∙ sym (last_is j (omega (arith, long)))
           ]
 

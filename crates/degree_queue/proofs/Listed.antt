@@ -5,7 +5,7 @@ use Rattle.degree_queue.specs.Links.{times}
 use Rattle.degree_queue.proofs.Counting.{times-append}
 
 module _ {E X : Type 0} (no : E) where
-  -- functions that agree at each place of a list
+  -- functions that agree at each member of a list
   pub map_same : (f g : E → X) (es : List E) → ((c : ℕ) → f (get_or es c no) ≡ g (get_or es c no)) → map f es ≡ map g es
   map_same f g [] same = refl
   map_same f g (e ∷ es) same = ap (λ (x : X). x ∷ map f es) (same 0) ∙ ap (λ (xs : List X). g e ∷ xs) (map_same f g es (λ c. same (suc c)))
@@ -47,7 +47,7 @@ module _ {E : Type 0} (no : E) where
     times_two (e ∷ es) (suc c) zero differ = omega (arith, times-append i (f e) (flat_map f es), times_one es c)
     times_two (e ∷ es) (suc c) (suc d) differ = omega (arith, times-append i (f e) (flat_map f es), times_two es c d (λ same. differ (ap suc same)))
 
-  -- a list in place of another
+  -- one list instead of another
   pub times-set : (i : ℕ) (f g : E → List ℕ) (es : List E) (d : ℕ) (x : E) → d < length es → ((c : ℕ) → c ≢ d → g (get_or es c no) ≡ f (get_or es c no)) → times i (flat_map g (set es d x)) + times i (f (get_or es d no)) ≡ times i (flat_map f es) + times i (g x)
   times-set i f g [] d x inside same = absurd (omega arith)
   times-set i f g (e ∷ es) zero x inside same =

@@ -35,8 +35,8 @@ module _ {T : Type 0} where
   IsList-path_of nodes ends p list = subst (λ (q : List ℕ). IsList nodes ends q) (sym (path_of_is nodes ends p list)) list
 
   -- links of nodes that are not on a list do not matter to it
-  pub IsList-kept : (old new : List (Node T)) (ends : Ends) (p : List ℕ) → ((k : ℕ) → k < length p → next_at new (slice_index p k) ≡ next_at old (slice_index p k)) → ((k : ℕ) → k < length p → prev_at new (slice_index p k) ≡ prev_at old (slice_index p k)) → IsList old ends p → IsList new ends p
-  IsList-kept old new ends p same_next same_prev list = record {
+  pub IsList-same_links : (old new : List (Node T)) (ends : Ends) (p : List ℕ) → ((k : ℕ) → k < length p → next_at new (slice_index p k) ≡ next_at old (slice_index p k)) → ((k : ℕ) → k < length p → prev_at new (slice_index p k) ≡ prev_at old (slice_index p k)) → IsList old ends p → IsList new ends p
+  IsList-same_links old new ends p same_next same_prev list = record {
     len = list.len;
     first = list.first;
     last = list.last;
@@ -60,16 +60,16 @@ module _ {T : Type 0} where
       let b_within : b < length first = omega (arith, length-set nodes a v) in
       let read_a = get_or_default nodes a x no_node a_in in
       let read_b = get_or_default first b y no_node b_within in
-      let next_kept = field-set (λ (n : Node T). n.next) first b w b_within (ap (λ (n : Node T). n.next) read_b) in
-      let prev_kept = field-set (λ (n : Node T). n.prev) nodes a v a_in (ap (λ (n : Node T). n.prev) read_a) in
+      let next_same = field-set (λ (n : Node T). n.next) first b w b_within (ap (λ (n : Node T). n.next) read_b) in
+      let prev_same = field-set (λ (n : Node T). n.prev) nodes a v a_in (ap (λ (n : Node T). n.prev) read_a) in
       let item_first = field-set (λ (n : Node T). n.item) nodes a v a_in (ap (λ (n : Node T). n.item) read_a) in
       let item_second = field-set (λ (n : Node T). n.item) first b w b_within (ap (λ (n : Node T). n.item) read_b) in
       record {
         long = length-set first b w ∙ length-set nodes a v;
-        next = next_kept a ∙ ap (λ (n : Node T). n.next) (get_or-set_same nodes a v no_node a_in);
+        next = next_same a ∙ ap (λ (n : Node T). n.next) (get_or-set_same nodes a v no_node a_in);
         prev = ap (λ (n : Node T). n.prev) (get_or-set_same first b w no_node b_within);
-        other_next = λ i other. next_kept i ∙ ap (λ (n : Node T). n.next) (get_or-set_other nodes a i v no_node other);
-        other_prev = λ i other. ap (λ (n : Node T). n.prev) (get_or-set_other first b i w no_node other) ∙ prev_kept i;
+        other_next = λ i other. next_same i ∙ ap (λ (n : Node T). n.next) (get_or-set_other nodes a i v no_node other);
+        other_prev = λ i other. ap (λ (n : Node T). n.prev) (get_or-set_other first b i w no_node other) ∙ prev_same i;
         items = λ i. item_second i ∙ item_first i;
       }
 

@@ -13,7 +13,7 @@ use Rattle.degree_queue.proofs.Counting.{here, here_same, here_other, times-appe
 use Rattle.degree_queue.proofs.Items.{filter_map_same}
 use Rattle.degree_queue.proofs.Listed.{map_same, flat_map_same, flat_map-empty, get_or-more_empty}
 use Rattle.degree_queue.proofs.Partition.{all_items, list_of_is, path_le, within_nodes}
-use Rattle.degree_queue.proofs.Paths.{path_of_is, IsList-path_of, IsList-kept}
+use Rattle.degree_queue.proofs.Paths.{path_of_is, IsList-path_of, IsList-same_links}
 
 -- one more node, the only free one
 module _ {T : Type 0} (nodes : List (Node T)) (heads : List Ends) (free : Ends) (x : Node T) (sound : IsPartition nodes heads free) (none_free : free.len ≡ 0) (without : x.item ≡ None) where
@@ -39,18 +39,18 @@ module _ {T : Type 0} (nodes : List (Node T)) (heads : List Ends) (free : Ends) 
     below : (k : ℕ) → k < length path → slice_index path k < n
     below k inside = within_nodes nodes heads free sound _ (omega (arith, times-slice_index path k inside, path_le nodes heads (slice_index path k) c))
 
-    kept_list : IsList more (ends_at heads c) path
-    kept_list =
-        IsList-kept nodes more (ends_at heads c) path (λ k inside. ap (λ (m : Node T). m.next) (same_node _ (below k inside))) (λ k inside. ap (λ (m : Node T). m.prev) (same_node _ (below k inside))) (sound.lists c)
+    old_list : IsList more (ends_at heads c) path
+    old_list =
+        IsList-same_links nodes more (ends_at heads c) path (λ k inside. ap (λ (m : Node T). m.next) (same_node _ (below k inside))) (λ k inside. ap (λ (m : Node T). m.prev) (same_node _ (below k inside))) (sound.lists c)
 
-    kept_path : path_of more (ends_at heads c) ≡ path
-    kept_path = path_of_is more (ends_at heads c) path kept_list
+    old_path : path_of more (ends_at heads c) ≡ path
+    old_path = path_of_is more (ends_at heads c) path old_list
 
-    kept_items : items_on more (path_of more (ends_at heads c)) ≡ items_on nodes path
-    kept_items = ap (items_on more) kept_path ∙ filter_map_same (item_at more) (item_at nodes) path (λ k inside. ap (λ (m : Node T). m.item) (same_node _ (below k inside)))
+    old_items : items_on more (path_of more (ends_at heads c)) ≡ items_on nodes path
+    old_items = ap (items_on more) old_path ∙ filter_map_same (item_at more) (item_at nodes) path (λ k inside. ap (λ (m : Node T). m.item) (same_node _ (below k inside)))
 
   same_listed : listed more heads ≡ listed nodes heads
-  same_listed = flat_map_same no_ends (path_of more) (path_of nodes) heads kept_path
+  same_listed = flat_map_same no_ends (path_of more) (path_of nodes) heads old_path
 
   total : (i : ℕ) → times i (listed more heads ++ path_of more only) ≡ times i (listed nodes heads) + here i n
   total i = omega (arith, times-append i (listed more heads) (n ∷ []), ap (times i) same_listed, times-cons i n [])
@@ -59,11 +59,11 @@ module _ {T : Type 0} (nodes : List (Node T)) (heads : List Ends) (free : Ends) 
   old_total i = omega (arith, times-append i (listed nodes heads) (path_of nodes free), none_counted i)
 
   pub same_lists : all_items more heads ≡ all_items nodes heads
-  same_lists = map_same no_ends (λ (e : Ends). items_on more (path_of more e)) (λ (e : Ends). items_on nodes (path_of nodes e)) heads kept_items
+  same_lists = map_same no_ends (λ (e : Ends). items_on more (path_of more e)) (λ (e : Ends). items_on nodes (path_of nodes e)) heads old_items
 
   pub IsPartition-one_free : IsPartition (nodes ++ x ∷ []) heads (record { first = length nodes; last = length nodes; len = 1 })
   IsPartition-one_free = record {
-    lists = λ c. IsList-path_of more (ends_at heads c) _ (kept_list c);
+    lists = λ c. IsList-path_of more (ends_at heads c) _ (old_list c);
     free_list = record { len = refl; first = λ some. refl; last = λ some. refl; next = λ k inside. absurd (omega arith); prev = λ k inside. absurd (omega arith) };
     once = once;
     within = within;

@@ -6,8 +6,8 @@ use Rattle.std.proofs.lemmas.List.Edits.{length-remove, get_or-remove_below, get
 use Rattle.degree_queue.specs.declared.links.Node.{Node}
 use Rattle.degree_queue.specs.declared.links.Ends.{Ends}
 use Rattle.std.proofs.lemmas.List.{get_or_default}
-use Rattle.degree_queue.specs.Links.{times, no_node, next_at, prev_at, IsApart, IsList, Joins, ChangesLinks}
-use Rattle.degree_queue.proofs.Counting.{same_place, slice_index-lt}
+use Rattle.degree_queue.specs.Links.{times, no_node, next_at, prev_at, IsList, Joins, ChangesLinks, HasNode, path_of}
+use Rattle.degree_queue.proofs.Counting.{same_index, slice_index-lt}
 use Rattle.degree_queue.proofs.Paths.{ChangesLinks-joined}
 
 module _ {T : Type 0} (nodes : List (Node T)) (ends : Ends) (p : List ℕ) (k : ℕ) (list : IsList nodes ends p) (inside : k < length p) where
@@ -59,30 +59,36 @@ module _ {T : Type 0} (nodes : List (Node T)) (ends : Ends) (p : List ℕ) (k : 
     len = omega (arith, long, list.len);
     first = λ some. list.first (omega arith) ∙ sym (below 0 behind);
     last = λ some. list.last (omega arith) ∙ at_index (length p - 1) (suc (length rest - 1)) (omega (arith, long)) ∙ sym (above (length rest - 1) (omega (arith, long)));
-    next = next_kept;
-    prev = prev_kept;
+    next = next_links;
+    prev = prev_links;
   }
     where
-      next_kept : (j : ℕ) → suc j < length rest → next_at new (slice_index rest j) ≡ slice_index rest (suc j)
-      next_kept j within =
+      next_links : (j : ℕ) → suc j < length rest → next_at new (slice_index rest j) ≡ slice_index rest (suc j)
+      next_links j within =
           elim (cases_order (suc j) k) [
             | inl same ↦ ap (next_at new) (below j (omega arith) ∙ at_index j (k - 1) (omega arith) ∙ sym (prev_is behind)) ∙ joins.next ∙ next_is before ∙ at_index (suc k) (suc (suc j)) (omega arith) ∙ sym (above (suc j) (omega arith))
-            | inr (inl lower) ↦ ap (next_at new) (below j (omega arith)) ∙ joins.other_next (slice_index p j) (λ equal. absurd (omega (arith, same_place p j (k - 1) once (omega arith) (omega arith) (equal ∙ prev_is behind)))) ∙ list.next j (omega arith) ∙ sym (below (suc j) lower)
-            | inr (inr upper) ↦ ap (next_at new) (above j (omega arith)) ∙ joins.other_next (slice_index p (suc j)) (λ equal. absurd (omega (arith, same_place p (suc j) (k - 1) once (omega (arith, long)) (omega arith) (equal ∙ prev_is behind)))) ∙ list.next (suc j) (omega (arith, long)) ∙ sym (above (suc j) (omega arith))
+            | inr (inl lower) ↦ ap (next_at new) (below j (omega arith)) ∙ joins.other_next (slice_index p j) (λ equal. absurd (omega (arith, same_index p j (k - 1) once (omega arith) (omega arith) (equal ∙ prev_is behind)))) ∙ list.next j (omega arith) ∙ sym (below (suc j) lower)
+            | inr (inr upper) ↦ ap (next_at new) (above j (omega arith)) ∙ joins.other_next (slice_index p (suc j)) (λ equal. absurd (omega (arith, same_index p (suc j) (k - 1) once (omega (arith, long)) (omega arith) (equal ∙ prev_is behind)))) ∙ list.next (suc j) (omega (arith, long)) ∙ sym (above (suc j) (omega arith))
           ]
 
-      prev_kept : (j : ℕ) → suc j < length rest → prev_at new (slice_index rest (suc j)) ≡ slice_index rest j
-      prev_kept j within =
+      prev_links : (j : ℕ) → suc j < length rest → prev_at new (slice_index rest (suc j)) ≡ slice_index rest j
+      prev_links j within =
           elim (cases_order (suc j) k) [
             | inl same ↦ ap (prev_at new) (above (suc j) (omega arith) ∙ at_index (suc (suc j)) (suc k) (omega arith) ∙ sym (next_is before)) ∙ joins.prev ∙ prev_is behind ∙ at_index (k - 1) j (omega arith) ∙ sym (below j (omega arith))
-            | inr (inl lower) ↦ ap (prev_at new) (below (suc j) lower) ∙ joins.other_prev (slice_index p (suc j)) (λ equal. absurd (omega (arith, same_place p (suc j) (suc k) once (omega arith) before (equal ∙ next_is before)))) ∙ list.prev j (omega arith) ∙ sym (below j (omega arith))
-            | inr (inr upper) ↦ ap (prev_at new) (above (suc j) (omega arith)) ∙ joins.other_prev (slice_index p (suc (suc j))) (λ equal. absurd (omega (arith, same_place p (suc (suc j)) (suc k) once (omega (arith, long)) before (equal ∙ next_is before)))) ∙ list.prev (suc j) (omega (arith, long)) ∙ sym (above j (omega arith))
+            | inr (inl lower) ↦ ap (prev_at new) (below (suc j) lower) ∙ joins.other_prev (slice_index p (suc j)) (λ equal. absurd (omega (arith, same_index p (suc j) (suc k) once (omega arith) before (equal ∙ next_is before)))) ∙ list.prev j (omega arith) ∙ sym (below j (omega arith))
+            | inr (inr upper) ↦ ap (prev_at new) (above (suc j) (omega arith)) ∙ joins.other_prev (slice_index p (suc (suc j))) (λ equal. absurd (omega (arith, same_index p (suc (suc j)) (suc k) once (omega (arith, long)) before (equal ∙ next_is before)))) ∙ list.prev (suc j) (omega (arith, long)) ∙ sym (above j (omega arith))
           ]
 
 -- the same, as the code reads the node at an index
-module _ {T : Type 0} (nodes : List (Node T)) (ends : Ends) (p : List ℕ) (k at : ℕ) (x : Node T) (list : IsList nodes ends p) (apart : IsApart (length nodes) p) (within : k < ends.len) (at_is : at ≡ slice_index p k) (in_nodes : at < length nodes) where
+module _ {T : Type 0} (nodes : List (Node T)) (ends : Ends) (k at : ℕ) (x : Node T) (node : HasNode nodes ends k) (at_is : at ≡ slice_index (path_of nodes ends) k) (in_nodes : at < length nodes) where
+  abbrev p : List ℕ
+  p = path_of nodes ends
+
+  list : IsList nodes ends p
+  list = node.list
+
   inside : k < length p
-  inside = omega (arith, list.len)
+  inside = omega (arith, node.inside, list.len)
 
   next_read : next_at nodes (slice_index p k) ≡ (get_or nodes at x).next
   next_read = ap (next_at nodes) (sym at_is) ∙ ap (λ (n : Node T). n.next) (get_or_default nodes at no_node x in_nodes)
@@ -90,11 +96,11 @@ module _ {T : Type 0} (nodes : List (Node T)) (ends : Ends) (p : List ℕ) (k at
   prev_read : prev_at nodes (slice_index p k) ≡ (get_or nodes at x).prev
   prev_read = ap (prev_at nodes) (sym at_is) ∙ ap (λ (n : Node T). n.prev) (get_or_default nodes at no_node x in_nodes)
 
-  pub without_first : k ≡ 0 → IsList nodes (record { first = (get_or nodes at x).next; last = ends.last; len = ends.len - 1 }) (remove p k)
+  pub without_first : k ≡ 0 → IsList nodes (record { first = (get_or nodes at x).next; last = ends.last; len = ends.len - 1 }) (remove (path_of nodes ends) k)
   without_first start =
       subst (λ (i : ℕ). IsList nodes (record { first = i; last = ends.last; len = ends.len - 1 }) (remove p k)) next_read (IsList-without_first nodes ends p k list inside start)
 
-  pub without_last : k ≡ ends.len - 1 → IsList nodes (record { first = ends.first; last = (get_or nodes at x).prev; len = ends.len - 1 }) (remove p k)
+  pub without_last : k ≡ ends.len - 1 → IsList nodes (record { first = ends.first; last = (get_or nodes at x).prev; len = ends.len - 1 }) (remove (path_of nodes ends) k)
   without_last end =
       subst (λ (i : ℕ). IsList nodes (record { first = ends.first; last = i; len = ends.len - 1 }) (remove p k)) prev_read (IsList-without_last nodes ends p k list inside (omega (arith, list.len)))
 
@@ -105,22 +111,22 @@ module _ {T : Type 0} (nodes : List (Node T)) (ends : Ends) (p : List ℕ) (k at
     more : suc k < length p
     more = omega (arith, list.len)
 
-    pub prev_found : (get_or nodes at x).prev ≡ slice_index p (k - 1)
+    prev_found : (get_or nodes at x).prev ≡ slice_index p (k - 1)
     prev_found = sym prev_read ∙ prev_is nodes ends p k list inside positive
 
-    pub next_found : (get_or nodes at x).next ≡ slice_index p (suc k)
+    next_found : (get_or nodes at x).next ≡ slice_index p (suc k)
     next_found = sym next_read ∙ next_is nodes ends p k list inside more
 
     pub prev_within : (get_or nodes at x).prev < length nodes
-    prev_within = omega (arith, prev_found, slice_index-lt (length nodes) p apart (k - 1) (omega arith))
+    prev_within = omega (arith, prev_found, slice_index-lt (length nodes) p node.apart (k - 1) (omega arith))
 
     pub next_within : (get_or nodes at x).next < length nodes
-    next_within = omega (arith, next_found, slice_index-lt (length nodes) p apart (suc k) more)
+    next_within = omega (arith, next_found, slice_index-lt (length nodes) p node.apart (suc k) more)
 
     module _ (new : List (Node T)) (joins : Joins nodes new (get_or nodes at x).prev (get_or nodes at x).next) where
-      pub without_inner : IsList new (record { first = ends.first; last = ends.last; len = ends.len - 1 }) (remove p k)
+      pub without_inner : IsList new (record { first = ends.first; last = ends.last; len = ends.len - 1 }) (remove (path_of nodes ends) k)
       without_inner =
-          IsList-without_inner nodes ends p k list inside apart.once new positive more (subst (λ (i : ℕ). Joins nodes new i (next_at nodes (slice_index p k))) (sym prev_read) (subst (λ (i : ℕ). Joins nodes new (get_or nodes at x).prev i) (sym next_read) joins))
+          IsList-without_inner nodes ends p k list inside node.apart.once new positive more (subst (λ (i : ℕ). Joins nodes new i (next_at nodes (slice_index p k))) (sym prev_read) (subst (λ (i : ℕ). Joins nodes new (get_or nodes at x).prev i) (sym next_read) joins))
 
-      pub changes_inner : ChangesLinks p nodes new
+      pub changes_inner : ChangesLinks (path_of nodes ends) nodes new
       changes_inner = ChangesLinks-joined nodes new p _ _ (k - 1) (suc k) (omega arith) more prev_found next_found joins

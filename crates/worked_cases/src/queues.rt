@@ -88,7 +88,7 @@ fn queues_are_their_lists(rt: HostRuntime) -> Result<(), Fail> {
         // on both sides of the middle
         "push 2 a = a, push 2 b = b, push 2 c = c, push 2 d = d, push 2 e = e, push 2 f = f, push 2 g = g, \
          at 2 4 = e, at 2 2 = c, at 2 3 = f, all 2 =  a b d g",
-        // one node after another from the same place
+        // one node after another from the same index
         "push 1 a = a, push 1 b = b, push 1 c = c, push 1 d = d, at 1 1 = b, at 1 1 = c, at 1 1 = d, at 1 0 = a, \
          all 1 = , push 1 e = e, all 1 =  e",
         // free nodes are used again in the same degree and in another

@@ -1,4 +1,4 @@
-use Rattle.std.proofs.Common.{◌≡◌, Option, is_some, true, false, ◌∙◌, subst, arith}
+use Rattle.std.proofs.Common.{◌≡◌, Option, is_some, true, false, ◌∙◌, subst}
 use Rattle.degree_queue.proofs.Partition.{degree_within}
 use Rattle.degree_queue.proofs.AsRead.{has_node, item_full, item_found, item_of}
 use Rattle.degree_queue.proofs.lists.Lists.get.Goals as goal
