@@ -15,6 +15,8 @@ mod operations;
 mod orders;
 #[cfg(test)]
 mod products;
+#[cfg(test)]
+mod queues;
 pub mod rings;
 pub mod rows;
 #[cfg(test)]

@@ -1,0 +1,13 @@
+pub mod AsRead
+pub mod Changing
+pub mod Counting
+pub mod Items
+pub mod Linking
+pub mod Listed
+pub mod Moved
+pub mod Moving
+pub mod Partition
+pub mod Paths
+pub mod Rooms
+pub mod Unlinking
+pub mod Walking

@@ -1,0 +1,14 @@
+use Rattle.std.proofs.Common.{arith, ◌∙◌, ap}
+use Rattle.std.specs.List.{slice_index}
+use Rattle.degree_queue.specs.Links.{path_of}
+use Rattle.degree_queue.proofs.Walking.{at_first, at_next}
+use Rattle.degree_queue.proofs.links.index_from_first.Goals as goal
+
+pub steps-init : goal.steps-init
+steps-init g c = at_first c.args.nodes.now c.args.ends _ c.requires.list c.requires.apart (omega arith)
+
+pub steps-preserved : goal.steps-preserved
+steps-preserved g c = at_next c.args.nodes.now c.args.ends _ c.requires.list c.requires.apart c.steps._step c.steps.at _ c.steps.invariant (omega arith)
+
+pub returns-clause-at : goal.returns-clause-at
+returns-clause-at g c = c.steps.invariant.here ∙ ap (slice_index (path_of c.args.nodes.now c.args.ends)) (omega arith)

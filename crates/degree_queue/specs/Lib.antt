@@ -1,0 +1,3 @@
+pub mod DegreeQueue
+pub mod Links
+pub mod Lists
