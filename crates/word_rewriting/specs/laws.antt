@@ -1,0 +1,4 @@
+-- Lemmas on rewriting of words that proofs here and in the crates above cite.
+pub mod Rewriting
+pub mod Confluence
+pub mod Criterion
