@@ -2,3 +2,5 @@
 pub mod Rewriting
 pub mod Confluence
 pub mod Criterion
+pub mod Letters
+pub mod NormalForms
