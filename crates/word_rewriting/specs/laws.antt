@@ -4,3 +4,6 @@ pub mod Confluence
 pub mod Criterion
 pub mod Letters
 pub mod NormalForms
+pub mod Pairs
+pub mod Complete
+pub mod Existence
