@@ -1,5 +1,5 @@
 -- Rules for words with images, and what makes them complete.
-use Rattle.std.specs.Prelude.{◌≡◌, ℕ, ◌+◌, ◌≤◌, ◌<◌, List, [], length, get_or, Contains, Some, None}
+use Rattle.std.specs.Prelude.{◌≡◌, ℕ, ◌+◌, ◌≤◌, ◌<◌, List, [], ◌++◌, length, get_or, Contains, Some, None}
 use Rattle.monomial_order.specs.Monomial.{Exponents, IsMonomial, Divides, variable, weighted_degree}
 use Rattle.word_laws.specs.Words.{Letters, word_order_of, image_of, IsWord, IsSmaller, IsReducible, IsLeast}
 use Rattle.word_rewriting.specs.Rewriting.{WordOrZero, RewriteRule, Rewrites, AreJoinable, HasLeftDivisor, JoinsPairs}
@@ -7,6 +7,10 @@ use Rattle.word_rewriting.specs.Rewriting.{WordOrZero, RewriteRule, Rewrites, Ar
 -- the letter of the lead at an index
 abbrev pub lead_letter : Letters → ℕ → Exponents
 lead_letter L i = variable (length L.degrees + i)
+
+-- the letters of further leads come at the end
+abbrev pub with_leads : Letters → List Exponents → Letters
+with_leads L leads = record { degrees = L.degrees; leads = L.leads ++ leads }
 
 -- the list has monomials in the x
 abbrev pub AreInX : Letters → List Exponents → Type 0

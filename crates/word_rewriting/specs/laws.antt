@@ -7,3 +7,4 @@ pub mod NormalForms
 pub mod Pairs
 pub mod Complete
 pub mod Existence
+pub mod MoreLeads
