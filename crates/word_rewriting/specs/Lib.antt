@@ -1,3 +1,4 @@
 pub mod Rewriting
 pub mod Completeness
+pub mod Statements
 pub mod laws

@@ -1,5 +1,5 @@
 -- The criterion: rules are complete exactly if their left sides generate the reducible words.
-use Rattle.std.proofs.Common.{◌≡◌, ℕ, ◌+◌, ◌≤◌, ◌<◌, ◌↔◌, refl, sym, ◌∙◌, ap, subst, List, [], length, get_or, arith, ⊎_elim, Some, None, Contains}
+use Rattle.std.proofs.Common.{◌≡◌, ℕ, ◌+◌, ◌≤◌, ◌↔◌, refl, subst, List, [], length, get_or, arith, Some, None, Contains}
 use Rattle.monomial_order.specs.Monomial.{Exponents, product, Divides, IsMonomial, IsMultiple, least_common_multiple as lcm, weighted_degree}
 use Rattle.monomial_order.specs.laws.Monomial.{IsTrimmed-product, IsTrimmed-least_common_multiple as IsTrimmed-lcm}
 use Rattle.monomial_order.specs.laws.Cofactors.{Divides-product, Divides-trans, least_common_multiple_least}

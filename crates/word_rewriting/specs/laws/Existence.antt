@@ -1,5 +1,5 @@
 -- To each degree there are rules whose left sides generate the reducible words: one for each of these.
-use Rattle.std.proofs.Common.{ℕ, ◌≤◌, sym, subst, List, [], ◌∷◌, arith, ⊎_elim, Some, None, Contains, length}
+use Rattle.std.proofs.Common.{ℕ, sym, subst, List, [], ◌∷◌, arith, ⊎_elim, Some, None, Contains, length}
 use Rattle.monomial_order.specs.Monomial.{Exponents, Divides}
 use Rattle.monomial_order.specs.laws.Lists.{contains_cases, contains_here, contains_there, contains_none}
 use Rattle.monomial_order.specs.laws.Comparing.{monomial_or_not}

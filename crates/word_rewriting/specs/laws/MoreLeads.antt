@@ -1,7 +1,7 @@
 -- Further leads at the end of the letters.
 use Rattle.std.proofs.Common.{◌≡◌, ◌≢◌, ℕ, zero, suc, ◌+◌, ◌≤◌, ◌<◌, refl, sym, ◌∙◌, ap, subst, List, [], ◌∷◌, ◌++◌, length, get_or, length-append, append_assoc, arith, ⊎_elim, Some, None, Contains}
 use Rattle.std.specs.Prelude.{map, take, drop, sum}
-use Rattle.std.proofs.lemmas.List.{map-append, length-map, get_or-append-add}
+use Rattle.std.proofs.lemmas.List.{map-append, get_or-append-add}
 use Rattle.std.proofs.lemmas.List.Elements.{Contains-append_cases}
 use Rattle.std.proofs.lemmas.List.Sums.{sum_by-cons}
 use Rattle.std.proofs.lemmas.Bool.Decides.{nat_tests}

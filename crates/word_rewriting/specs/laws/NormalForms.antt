@@ -26,6 +26,9 @@ module _ (IsZero : Exponents → Type 0) (L : Letters) (H : AreLetters L) where
     pub image_normal_form : (m : Exponents) (a : WordOrZero) → HasImage IsZero L m a → (b : WordOrZero) × IsNormalForm R a b
     image_normal_form m a h = normal_form ((word_order_of L).degree m) a (image_within m a h)
 
+    pub word_normal_form : (w : Exponents) → IsWord L w → (a : WordOrZero) × IsNormalForm R (Some w) a
+    word_normal_form w hw = image_normal_form (image_of L w) (Some w) (hw, refl)
+
     module _ (closed : IsZeroClosed (length L.degrees) IsZero) where
       -- a multiple of the right side has the image of the multiple of the left word
       pub multiple_image : (k u w : Exponents) (a : WordOrZero) → IsWord L k → IsWord L u → product k u ≡ w → IsRightSide IsZero L u a → HasImage IsZero L (image_of L w) (multiple k a)
@@ -89,6 +92,13 @@ module _ (IsZero : Exponents → Type 0) (L : Letters) (H : AreLetters L) where
           let u = image_normal_form m a ha in
           let v = image_normal_form m b hb in
           difference_shows m a b u.0 v.0 ha hb u.1 v.1 (λ e. apart (u.0, u.1.rewrites, subst (Rewrites R b) (sym e) v.1.rewrites))
+
+      pub pair_shows : (r s : RewriteRule) → Contains R r → Contains R s → (a b : WordOrZero) → IsCriticalPair r s a b → ¬ AreJoinable R a b →
+          (w : Exponents) × IsMissedWord IsZero L R ((word_order_of L).degree (lcm r.left s.left)) w
+      pair_shows r s hr hs a b p apart =
+          let i = pair_images r s hr hs a b p in
+          let u = unjoinable_shows (image_of L (lcm r.left s.left)) a b i.0 i.1 apart in
+          (u.0, subst (λ d. IsMissedWord IsZero L R d u.0) (degree_image L H (lcm r.left s.left)) u.1)
 
       -- if no word of its degree is missed, what has one image is joinable
       pub generated_joinable : (c : ℕ) → GeneratesReducible IsZero L R c →
