@@ -1,4 +1,5 @@
 pub mod Rewriting
 pub mod Completeness
+pub mod Renumbering
 pub mod Statements
 pub mod laws

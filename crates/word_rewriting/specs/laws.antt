@@ -8,3 +8,4 @@ pub mod Pairs
 pub mod Complete
 pub mod Existence
 pub mod MoreLeads
+pub mod Renumbering

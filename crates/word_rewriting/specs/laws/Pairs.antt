@@ -73,7 +73,7 @@ coprime_or_not (a ∷ m) (b ∷ n) =
     both a b m n z h zero = z
     both a b m n z h (suc i) = h i
 
-trichotomy : (i j : ℕ) → (i < j) ⊎ ((i ≡ j) ⊎ (j < i))
+pub trichotomy : (i j : ℕ) → (i < j) ⊎ ((i ≡ j) ⊎ (j < i))
 trichotomy i j = ⊎_elim (λ l. ⊎_elim (λ k. inr (inl (omega arith))) (λ k. inl (omega (arith, k))) (le_or_not j i)) (λ l. inr (inr (omega (arith, l)))) (le_or_not i j)
 
 module _ (O : MonomialOrder) (R : List RewriteRule) (decreasing : (r : RewriteRule) → Contains R r → IsDecreasingRule O r) where
