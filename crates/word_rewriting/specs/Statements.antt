@@ -3,6 +3,7 @@ use Rattle.std.specs.Prelude.{◌≡◌, ◌≢◌, ◌↔◌, ℕ, ◌+◌, ◌
 use Rattle.monomial_order.specs.Monomial.{Exponents, IsMonomial, IsMultiple, Divides, AreCoprime, least_common_multiple, weighted_degree}
 use Rattle.word_laws.specs.Words.{Letters, AreLetters, word_order_of, image_of, IsWord, IsSWord, IsSmaller, IsReducible, IsMinimalReducible, IsLeast}
 use Rattle.word_rewriting.specs.Rewriting.{WordOrZero, RewriteRule, AreJoinable, HasLeftDivisor, IsNormalForm, IsCriticalPair, JoinsPair, JoinsPairs}
+use Rattle.word_rewriting.specs.Renumbering.{AreRenumbered, AreRenumberedRules, IsRenumbered}
 use Rattle.word_rewriting.specs.Completeness.{lead_letter, with_leads, AreInX, AreRewriteRules, HasImage, IsLeastOrZero, GeneratesReducible, IsMissedWord, AreComplete, HaveDegreesTo, IsMinimalLeftSide}
 
 -- What a law holds of: rules R over letters L, with the multiples of Z as zero.
@@ -110,3 +111,35 @@ module _ (L : Letters) (leads : List Exponents) where
   NewLettersAreSmaller = (j : ℕ) → j < length leads →
       (u : Exponents) → IsWord L u → image_of L u ≡ get_or leads j [] →
       IsSmaller (with_leads L leads) u (lead_letter L (length L.leads + j))
+
+-- leads of degree d at the end, and the same ones in another order
+abbrev pub ForRenumberedLeads : (Letters → ℕ → List Exponents → List Exponents → Type 0) → Type 0
+ForRenumberedLeads Law = (L : Letters) (d : ℕ) (before after : List Exponents) →
+    AreLetters L → AreRenumbered L d before after → Law L d before after
+
+module _ (L : Letters) (d : ℕ) (before after : List Exponents) where
+  -- to the degree d each word has one renumbered word, and this has the same image
+  abbrev pub WordsAreRenumbered : Type 0
+  WordsAreRenumbered = (v : Exponents) → IsWord (with_leads L before) v → (word_order_of (with_leads L before)).degree v ≤ d →
+      (w : Exponents) × IsRenumbered L before after v w × IsWord (with_leads L after) w ×
+      (image_of (with_leads L after) w ≡ image_of (with_leads L before) v) ×
+      ((u : Exponents) → IsRenumbered L before after v u → u ≡ w)
+
+  -- it is reducible exactly if the word is
+  abbrev pub ReducibleWordsAreRenumbered : Type 0
+  ReducibleWordsAreRenumbered = (Z : List Exponents) (v w : Exponents) →
+      (word_order_of (with_leads L before)).degree v ≤ d → IsRenumbered L before after v w →
+      IsReducible (IsMultiple Z) (with_leads L before) v ↔ IsReducible (IsMultiple Z) (with_leads L after) w
+
+  -- and the least word with an image exactly if the word is
+  abbrev pub LeastWordsAreRenumbered : Type 0
+  LeastWordsAreRenumbered = (m v w : Exponents) →
+      (word_order_of (with_leads L before)).degree v ≤ d → IsRenumbered L before after v w →
+      IsLeast (with_leads L before) m v ↔ IsLeast (with_leads L after) m w
+
+  -- renumbered rules are rules, and their left sides generate the reducible words to d if the old ones do
+  abbrev pub RulesAreRenumbered : Type 0
+  RulesAreRenumbered = (Z : List Exponents) (R S : List RewriteRule) →
+      AreRewriteRules (IsMultiple Z) (with_leads L before) R → AreRenumberedRules L before after R S →
+      AreRewriteRules (IsMultiple Z) (with_leads L after) S ×
+      (GeneratesReducible (IsMultiple Z) (with_leads L before) R d → GeneratesReducible (IsMultiple Z) (with_leads L after) S d)

@@ -9,7 +9,7 @@ ghost use Rattle.monomial_order.specs.Monomial.{Exponents, IsMonomial, IsMultipl
 ghost use Rattle.word_laws.specs.Words.{AreLetters, Letters};
 ghost use Rattle.word_rewriting.specs.Rewriting.{RewriteRule};
 ghost use Rattle.word_rewriting.specs.Completeness.{AreRewriteRules};
-ghost use Rattle.word_rewriting.specs.Statements.{CompleteIfClosed, CompletenessIsExact, CoprimePairsAreJoinable, DifferencesShowMissedWords, ForGeneratingRules, ForRules, JoinableStays, LaterPairsAreEnough, MinimalLeftSidesAreExact, NewLettersAreSmaller, NormalFormsAreFactors, NormalFormsAreLeast, NormalFormsExist, PairsHaveOneImage, PairsShowMissedWords, RulesExist, RulesStay, TwiceTheDegreeIsEnough};
+ghost use Rattle.word_rewriting.specs.Statements.{CompleteIfClosed, CompletenessIsExact, CoprimePairsAreJoinable, DifferencesShowMissedWords, ForGeneratingRules, ForRenumberedLeads, ForRules, JoinableStays, LaterPairsAreEnough, LeastWordsAreRenumbered, MinimalLeftSidesAreExact, NewLettersAreSmaller, NormalFormsAreFactors, NormalFormsAreLeast, NormalFormsExist, PairsHaveOneImage, PairsShowMissedWords, ReducibleWordsAreRenumbered, RulesAreRenumbered, RulesExist, RulesStay, TwiceTheDegreeIsEnough, WordsAreRenumbered};
 
 /// Rules are complete exactly if their left sides generate the reducible words.
 pub fn criterion()
@@ -53,4 +53,12 @@ pub fn growing()
     ensures letters { (L : Letters) (leads : List Exponents) → AreLetters L →
         ((m : Exponents) → Contains leads m → IsMonomial (length L.degrees) m × (m ≢ [])) →
         NewLettersAreSmaller L leads }
+{}
+
+/// Leads at the end, all of one degree d, are numbered again: what stays to the degree d.
+pub fn renumbering()
+    ensures words { ForRenumberedLeads WordsAreRenumbered }
+    ensures reducible { ForRenumberedLeads ReducibleWordsAreRenumbered }
+    ensures least { ForRenumberedLeads LeastWordsAreRenumbered }
+    ensures rules { ForRenumberedLeads RulesAreRenumbered }
 {}

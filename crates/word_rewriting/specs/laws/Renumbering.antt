@@ -1,5 +1,5 @@
 -- What renumbering of the last leads keeps.
-use Rattle.std.proofs.Common.{◌≡◌, ◌≢◌, ℕ, zero, suc, ◌+◌, ◌-◌, ◌≤◌, ◌<◌, ◌↔◌, refl, sym, ◌∙◌, ap, subst, List, [], ◌∷◌, ◌++◌, length, get_or, length-append, arith, ◌⊎◌, inl, inr, ⊎_elim, Some, None, Contains}
+use Rattle.std.proofs.Common.{◌≡◌, ◌≢◌, ℕ, zero, suc, ◌+◌, ◌-◌, ◌≤◌, ◌<◌, ◌↔◌, refl, sym, ◌∙◌, ap, subst, List, [], ◌∷◌, length, get_or, length-append, arith, ◌⊎◌, inl, inr, ⊎_elim, Some, None, Contains}
 use Rattle.std.specs.Prelude.{AllPairs}
 use Rattle.std.proofs.lemmas.List.{get_or_default}
 use Rattle.std.specs.declared.cmp.Ordering.TheVariants.{Less}
@@ -10,9 +10,9 @@ use Rattle.monomial_order.specs.laws.Lists.{contains_at}
 use Rattle.word_laws.specs.Words.{Letters, AreLetters, word_order_of, image_of, IsWord, IsSmaller, IsReducible, IsLeast}
 use Rattle.word_laws.specs.laws.Images.{variable_trimmed, variable_length}
 use Rattle.word_laws.specs.laws.Words.{word_laws, image_x, degree_image, degree_same, degree_x}
-use Rattle.word_rewriting.specs.Rewriting.{WordOrZero, RewriteRule, HasLeftDivisor}
+use Rattle.word_rewriting.specs.Rewriting.{WordOrZero, RewriteRule}
 use Rattle.word_rewriting.specs.Completeness.{lead_letter, with_leads, IsRightSide, AreRewriteRules, GeneratesReducible}
-use Rattle.word_rewriting.specs.Renumbering.{AreLastLeads, AreRenumbered, AreLettersOfOneLead, IsRenumbered, IsRenumberedSide, IsRenumberedRule, AreRenumberedRules}
+use Rattle.word_rewriting.specs.Renumbering.{AreLastLeads, AreRenumbered, AreLettersOfOneLead, IsRenumbered, IsRenumberedSide, AreRenumberedRules}
 use Rattle.word_rewriting.specs.laws.Letters.{places_count, letter_word}
 use Rattle.word_rewriting.specs.laws.MoreLeads.{word_stays, image_stays, compare_stays, letters_stay, new_image, new_letter_smaller}
 use Rattle.word_rewriting.specs.laws.Pairs.{trichotomy}
@@ -79,12 +79,15 @@ module _ (L : Letters) (H : AreLetters L) (d : ℕ) (leads : List Exponents) (K 
           let w = hv.within in
           let l : j < length leads = omega arith in
           let n : length v ≡ suc (length L.degrees + (length L.leads + j)) = omega arith in
-          let divides = variable_divides (length L.degrees + (length L.leads + j)) v (last_exponent v (length L.degrees + (length L.leads + j)) hv.trimmed n) in
-          (j, l, ⊎_elim (λ s. sym s)
-          (λ ne. absurd
-          (let x = (proper_divisor (word_order_of (with_leads L leads)) (word_laws (with_leads L leads) last_letters) (lead_letter L (length L.leads + j)) v hv (variable_trimmed (length L.degrees + (length L.leads + j))) divides ne).1 in
-          let y = letter_degree j l in omega arith))
-          (equal_or_not (lead_letter L (length L.leads + j)) v))
+          let divides = variable_divides (length L.degrees + (length L.leads + j)) v (last_exponent v (length L.degrees + (length L.leads + j)) hv.trimmed n) in (
+            j,
+            l,
+            ⊎_elim (λ s. sym s)
+                (λ ne. absurd
+                (let x = (proper_divisor (word_order_of (with_leads L leads)) (word_laws (with_leads L leads) last_letters) (lead_letter L (length L.leads + j)) v hv (variable_trimmed (length L.degrees + (length L.leads + j))) divides ne).1 in
+                let y = letter_degree j l in omega arith))
+                (equal_or_not (lead_letter L (length L.leads + j)) v),
+          )
 
 module _ (L : Letters) (H : AreLetters L) (d : ℕ) (before after : List Exponents) (K : AreRenumbered L d before after) where
   old_new : (m : Exponents) → Contains before m → IsMonomial (length L.degrees) m × (m ≢ [])
@@ -98,8 +101,7 @@ module _ (L : Letters) (H : AreLetters L) (d : ℕ) (before after : List Exponen
   renumbered v hv hd =
       ⊎_elim (λ s. (v, inl (s, refl)))
       (λ s.
-      let k = (K.members (get_or before s.0 [])).0 (contains_at before s.0 [] s.1) in
-      (
+      let k = (K.members (get_or before s.0 [])).0 (contains_at before s.0 [] s.1) in (
         lead_letter L (length L.leads + k.0),
         inr (record {
           old = s.0;
@@ -267,6 +269,27 @@ module _ (L : Letters) (H : AreLetters L) (d : ℕ) (before after : List Exponen
         let u = smaller_renumbered L H d after before (turned L d before after K) w x v (omega arith) (renumbered_turned L before after v w h) s in
         k.least u.0 u.2;
   }
+
+  pub renumbered_least_exactly : (m v w : Exponents) → (word_order_of (with_leads L before)).degree v ≤ d → IsRenumbered L before after v w →
+      IsLeast (with_leads L before) m v ↔ IsLeast (with_leads L after) m w
+  renumbered_least_exactly m v w hd h = (renumbered_least m v w hd h, λ k. back k)
+    where
+      back : IsLeast (with_leads L after) m w → IsLeast (with_leads L before) m v
+      back k =
+          let e = renumbered_degree v w h in
+          let T = turned L d before after K in
+          record {
+            word = renumbered_word L H d after before T w v (renumbered_turned L before after v w h);
+            image = sym (renumbered_image L H d before after K v w h) ∙ k.image;
+            least = λ u s. let x = smaller_renumbered L H d before after K v u w hd h s in k.least x.0 x.2;
+          }
+
+  pub renumbered_reducible_exactly : (IsZero : Exponents → Type 0) (v w : Exponents) → (word_order_of (with_leads L before)).degree v ≤ d → IsRenumbered L before after v w →
+      IsReducible IsZero (with_leads L before) v ↔ IsReducible IsZero (with_leads L after) w
+  renumbered_reducible_exactly IsZero v w hd h = (
+    renumbered_reducible L H d before after K IsZero v w hd h,
+    renumbered_reducible L H d after before (turned L d before after K) IsZero w v (let e = renumbered_degree v w h in omega arith) (renumbered_turned L before after v w h),
+  )
 
   -- left sides that generate the reducible words to d generate them after the renumbering
   pub renumbered_generates : (IsZero : Exponents → Type 0) (R S : List RewriteRule) → AreRenumberedRules L before after R S → AreRewriteRules IsZero (with_leads L before) R →
