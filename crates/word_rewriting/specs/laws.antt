@@ -9,3 +9,4 @@ pub mod Complete
 pub mod Existence
 pub mod MoreLeads
 pub mod Renumbering
+pub mod Completion

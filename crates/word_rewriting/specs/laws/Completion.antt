@@ -1,0 +1,129 @@
+-- How a completion begins, goes on and ends.
+use Rattle.std.proofs.Common.{◌≡◌, ◌≢◌, ℕ, zero, suc, ◌+◌, ◌≤◌, ◌<◌, refl, sym, ◌∙◌, ap, subst, List, [], ◌∷◌, ◌++◌, length, get_or, length-append, arith, ◌⊎◌, inl, inr, ⊎_elim, Some, None, Contains}
+use Rattle.std.specs.Prelude.{map, AllPairs}
+use Rattle.std.proofs.lemmas.List.{get_or_append_left, get_or-append-add}
+use Rattle.std.proofs.lemmas.List.Elements.{Contains-append_cases}
+use Rattle.std.proofs.lemmas.List.Quantifiers.{all_pairs_push}
+use Rattle.monomial_order.specs.Monomial.{Exponents, IsMonomial, AreCoprime, variable, weighted_degree, least_common_multiple as lcm}
+use Rattle.monomial_order.specs.laws.Comparing.{le_or_not, three_ways}
+use Rattle.monomial_order.specs.laws.Lists.{contains_at, contains_cases, contains_here, contains_there, contains_none, contains_left, contains_right, contains_map}
+use Rattle.word_laws.specs.Words.{Letters, AreLetters, word_order_of, image_of, IsWord, IsZeroClosed}
+use Rattle.word_laws.specs.laws.Words.{word_laws, x_word, image_same}
+use Rattle.word_rewriting.specs.Rewriting.{WordOrZero, RewriteRule, Rewrites, stays, steps, AreJoinable, IsCriticalPair, multiple}
+use Rattle.word_rewriting.specs.Completeness.{lead_letter, with_leads, AreInX, IsRightSide, AreRewriteRules, HasImage, GeneratesReducible, AreComplete}
+use Rattle.word_rewriting.specs.Completion.{RulePair, HasJoinablePair, IsJoinableOrListed, IsCompletion, lead_rules, zero_rules, first_rules, Orients}
+use Rattle.word_rewriting.specs.laws.Rewriting.{rewrites_trans, more_rewrites, more_joinable}
+use Rattle.word_rewriting.specs.laws.Criterion.{decreasing_rules}
+use Rattle.word_rewriting.specs.laws.NormalForms.{rewrites_image}
+use Rattle.word_rewriting.specs.laws.Pairs.{pairs_enough}
+use Rattle.word_rewriting.specs.laws.Complete.{AreZeros, generates_complete}
+use Rattle.word_rewriting.specs.laws.MoreLeads.{word_stays, rules_stay, new_letter_smaller}
+
+-- a rule rewrites its left side
+pub rule_rewrites : (R : List RewriteRule) (t : RewriteRule) → Contains R t → Rewrites R (Some t.left) t.right
+rule_rewrites R t h = steps (record { rule = t; listed = h; by = record { cofactor = []; trimmed = tt; word = refl; result = once t.right } }) stays
+  where
+    once : (a : WordOrZero) → multiple [] a ≡ a
+    once None = refl
+    once (Some v) = refl
+
+abbrev Grows : List RewriteRule → List RewriteRule → Type 0
+Grows R S = (r : RewriteRule) → Contains R r → Contains S r
+
+more_pair : (R S : List RewriteRule) → Grows R S → (r s : RewriteRule) → HasJoinablePair R r s → HasJoinablePair S r s
+more_pair R S h r s k a b p = more_joinable R S h a b (k a b p)
+
+more_listed : (R S : List RewriteRule) (old new : List RulePair) → Grows R S → ((p : RulePair) → Contains old p → Contains new p) →
+    (r s : RewriteRule) → IsJoinableOrListed R old r s → IsJoinableOrListed S new r s
+more_listed R S old new h k r s j = ⊎_elim inl (λ x. ⊎_elim (λ l. inr (inl (k (r, s) l))) (λ y. inr (inr (more_pair R S h r s y))) x) j
+
+-- the pairs of the rules with one more
+pub pairs_push : (R : List RewriteRule) (t : RewriteRule) (old new : List RulePair) → ((p : RulePair) → Contains old p → Contains new p) →
+    ((r : RewriteRule) → Contains R r → IsJoinableOrListed (R ++ t ∷ []) new r t) →
+    AllPairs (IsJoinableOrListed R old) R → AllPairs (IsJoinableOrListed (R ++ t ∷ []) new) (R ++ t ∷ [])
+pairs_push R t old new h k all =
+    all_pairs_push (IsJoinableOrListed (R ++ t ∷ []) new) R t
+    (λ i j d l n. more_listed R (R ++ t ∷ []) old new (contains_left R (t ∷ [])) h (get_or R i d) (get_or R j d) (all i j d l n))
+    (λ i d l. k (get_or R i d) (contains_at R i d l))
+
+rules_push : (IsZero : Exponents → Type 0) (L : Letters) (R : List RewriteRule) (t : RewriteRule) → AreRewriteRules IsZero L R → IsWord L t.left × IsRightSide IsZero L t.left t.right → AreRewriteRules IsZero L (R ++ t ∷ [])
+rules_push IsZero L R t rules h r k =
+    ⊎_elim (rules r) (λ b. ⊎_elim (λ e. subst (λ x. IsWord L x.left × IsRightSide IsZero L x.left x.right) e h) (λ n. absurd (contains_none r n)) (contains_cases t [] r b))
+    (Contains-append_cases R (t ∷ []) r k)
+
+module _ (IsZero : Exponents → Type 0) (Z : List Exponents) (L : Letters) where
+  -- a rule is added
+  pub adds : (R : List RewriteRule) (t : RewriteRule) (old new : List RulePair) → IsCompletion IsZero Z L R old →
+      IsWord L t.left × IsRightSide IsZero L t.left t.right → ((p : RulePair) → Contains old p → Contains new p) →
+      ((r : RewriteRule) → Contains R r → IsJoinableOrListed (R ++ t ∷ []) new r t) → IsCompletion IsZero Z L (R ++ t ∷ []) new
+  adds R t old new h rule more pairs = record {
+    rules = rules_push IsZero L R t h.rules rule;
+    leads = λ i l. more_joinable R (R ++ t ∷ []) (contains_left R (t ∷ [])) (Some (get_or L.leads i [])) (Some (lead_letter L i)) (h.leads i l);
+    zeros = λ z k. more_rewrites R (R ++ t ∷ []) (contains_left R (t ∷ [])) (h.zeros z k);
+    pairs = pairs_push R t old new more pairs h.pairs;
+  }
+
+  -- pairs are joined
+  pub joins : (R : List RewriteRule) (old new : List RulePair) → IsCompletion IsZero Z L R old →
+      ((r s : RewriteRule) → Contains old (r, s) → IsJoinableOrListed R new r s) → IsCompletion IsZero Z L R new
+  joins R old new h k = record {
+    rules = h.rules;
+    leads = h.leads;
+    zeros = h.zeros;
+    pairs = λ i j d l n. ⊎_elim inl (λ x. ⊎_elim (k (get_or R i d) (get_or R j d)) (λ y. inr (inr y)) x) (h.pairs i j d l n);
+  }
+
+  -- if the pairs in the list are above the degree c, the rules are complete to c
+  pub ends : (R : List RewriteRule) (listed : List RulePair) (c : ℕ) → IsCompletion IsZero Z L R listed →
+      ((r s : RewriteRule) → Contains listed (r, s) → c < (word_order_of L).degree (lcm r.left s.left)) → AreComplete Z L R c
+  ends R listed c h high = record {
+    leads = λ i l e. h.leads i l;
+    zeros = λ z k e. h.zeros z k;
+    pairs = pairs_enough (word_order_of L) R (decreasing_rules IsZero L R h.rules) c
+        (λ i j d l n co low a b p. ⊎_elim (λ x. absurd (co x))
+        (λ x. ⊎_elim (λ y. absurd (let z = high (get_or R i d) (get_or R j d) y in omega arith)) (λ y. y a b p) x) (h.pairs i j d l n));
+  }
+
+  -- rules whose left sides generate the reducible words to c go on with the pairs above c
+  pub restarts : AreLetters L → IsZeroClosed (length L.degrees) IsZero → (R : List RewriteRule) (listed : List RulePair) (c : ℕ) → AreRewriteRules IsZero L R → AreZeros IsZero L Z c → GeneratesReducible IsZero L R c →
+      ((m : Exponents) → Contains L.leads m → weighted_degree L.degrees m ≤ c) → ((z : Exponents) → Contains Z z → weighted_degree L.degrees z ≤ c) →
+      AllPairs (λ r s. c < (word_order_of L).degree (lcm r.left s.left) → AreCoprime r.left s.left ⊎ Contains listed (r, s)) R →
+      IsCompletion IsZero Z L R listed
+  restarts H closed R listed c rules zs generates low_leads low_zeros above =
+      let k = generates_complete IsZero L H R rules Z closed c zs generates in
+      record {
+        rules = rules;
+        leads = λ i l. k.leads i l (low_leads (get_or L.leads i []) (contains_at L.leads i [] l));
+        zeros = λ z n. k.zeros z n (low_zeros z n);
+        pairs = λ i j d l n. ⊎_elim
+            (λ low. inr (inr (k.pairs (get_or R i d) (get_or R j d) (contains_at R i d (omega arith)) (contains_at R j d n) low)))
+            (λ high. ⊎_elim inl (λ y. inr (inl y)) (above i j d l n (omega (arith, high))))
+            (le_or_not ((word_order_of L).degree (lcm (get_or R i d).left (get_or R j d).left)) c);
+      }
+
+  -- two normal forms of one image that differ make a rule
+  pub orients : AreLetters L → (m : Exponents) (u v : WordOrZero) → HasImage IsZero L m u → HasImage IsZero L m v → u ≢ v →
+      (t : RewriteRule) × Orients t u v × (IsWord L t.left × IsRightSide IsZero L t.left t.right)
+  orients H m None None hu hv ne = absurd (ne refl)
+  orients H m None (Some v) hu hv ne = (record { left = v; right = None }, inr (refl, refl), (hv.0, subst IsZero (sym hv.1) hu))
+  orients H m (Some u) None hu hv ne = (record { left = u; right = None }, inl (refl, refl), (hu.0, subst IsZero (sym hu.1) hv))
+  orients H m (Some u) (Some v) hu hv ne =
+      ⊎_elim
+      (λ l. (record { left = v; right = Some u }, inr (refl, refl), (hv.0, record { word = hu.0; image = hu.1 ∙ sym hv.1; less = l })))
+      (λ b. ⊎_elim (λ e. absurd (ne (ap Some e)))
+      (λ l. (record { left = u; right = Some v }, inl (refl, refl), (hu.0, record { word = hv.0; image = hv.1 ∙ sym hu.1; less = l }))) b)
+      (three_ways (word_order_of L) (word_laws L H) u v)
+
+-- and this rule joins what rewrites to them
+pub oriented_joins : (R : List RewriteRule) (t : RewriteRule) (a b u v : WordOrZero) → Orients t u v → Rewrites R a u → Rewrites R b v → AreJoinable (R ++ t ∷ []) a b
+oriented_joins R t a b u v o ha hb =
+    ⊎_elim
+    (λ s. (v, rewrites_trans (R ++ t ∷ []) (old ha) (subst (λ x. Rewrites (R ++ t ∷ []) x v) s.0 (subst (Rewrites (R ++ t ∷ []) (Some t.left)) s.1 last)), old hb))
+    (λ s. (u, old ha, rewrites_trans (R ++ t ∷ []) (old hb) (subst (λ x. Rewrites (R ++ t ∷ []) x u) s.0 (subst (Rewrites (R ++ t ∷ []) (Some t.left)) s.1 last))))
+    o
+  where
+    old : {x y : WordOrZero} → Rewrites R x y → Rewrites (R ++ t ∷ []) x y
+    old h = more_rewrites R (R ++ t ∷ []) (contains_left R (t ∷ [])) h
+
+    last : Rewrites (R ++ t ∷ []) (Some t.left) t.right
+    last = rule_rewrites (R ++ t ∷ []) t (contains_right R (t ∷ []) t (contains_here t []))
