@@ -7,7 +7,7 @@ use Rattle.std.proofs.lemmas.List.Quantifiers.{all_pairs_push}
 use Rattle.monomial_order.specs.Monomial.{Exponents, IsMonomial, AreCoprime, variable, weighted_degree, least_common_multiple as lcm}
 use Rattle.monomial_order.specs.laws.Comparing.{le_or_not, three_ways}
 use Rattle.monomial_order.specs.laws.Lists.{contains_at, contains_cases, contains_here, contains_there, contains_none, contains_left, contains_right, contains_map}
-use Rattle.word_laws.specs.Words.{Letters, AreLetters, word_order_of, image_of, IsWord, IsZeroClosed}
+use Rattle.word_laws.specs.Words.{Letters, AreLetters, word_order_of, image_of, IsWord, IsSmaller, IsZeroClosed}
 use Rattle.word_laws.specs.laws.Words.{word_laws, x_word, image_same}
 use Rattle.word_rewriting.specs.Rewriting.{WordOrZero, RewriteRule, Rewrites, stays, steps, AreJoinable, IsCriticalPair, multiple}
 use Rattle.word_rewriting.specs.Completeness.{lead_letter, with_leads, AreInX, IsRightSide, AreRewriteRules, HasImage, GeneratesReducible, AreComplete}
@@ -127,3 +127,67 @@ oriented_joins R t a b u v o ha hb =
 
     last : Rewrites (R ++ t ∷ []) (Some t.left) t.right
     last = rule_rewrites (R ++ t ∷ []) t (contains_right R (t ∷ []) t (contains_here t []))
+
+-- the rules of leads and zeros
+lead_rule : (n : ℕ) (ms : List Exponents) (i : ℕ) → i < length ms → Contains (lead_rules n ms) (record { left = get_or ms i []; right = Some (variable (n + i)) })
+lead_rule n [] i l = absurd (omega arith)
+lead_rule n (m ∷ ms) zero l =
+    subst (λ k. Contains (lead_rules n (m ∷ ms)) (record { left = m; right = Some (variable k) })) (let e : n ≡ n + 0 = omega arith in e) (contains_here (record { left = m; right = Some (variable n) }) (lead_rules (suc n) ms))
+lead_rule n (m ∷ ms) (suc i) l =
+    subst (λ k. Contains (lead_rules n (m ∷ ms)) (record { left = get_or ms i []; right = Some (variable k) })) (let e : suc n + i ≡ n + suc i = omega arith in e)
+    (contains_there (record { left = m; right = Some (variable n) }) (lead_rules (suc n) ms) (record { left = get_or ms i []; right = Some (variable (suc n + i)) }) (lead_rule (suc n) ms i (omega arith)))
+
+-- what holds of the rule of each lead holds of all
+lead_rules_all : (P : RewriteRule → Type 0) (n : ℕ) (ms : List Exponents) → ((i : ℕ) → i < length ms → P (record { left = get_or ms i []; right = Some (variable (n + i)) })) →
+    (r : RewriteRule) → Contains (lead_rules n ms) r → P r
+lead_rules_all P n [] h r k = absurd (contains_none r k)
+lead_rules_all P n (m ∷ ms) h r k =
+    ⊎_elim (λ e. subst P e (subst (λ j. P (record { left = m; right = Some (variable j) })) (let e : n + 0 ≡ n = omega arith in e) (h 0 (omega arith))))
+    (λ b. lead_rules_all P (suc n) ms (λ i l. subst (λ j. P (record { left = get_or ms i []; right = Some (variable j) })) (let e : n + suc i ≡ suc n + i = omega arith in e) (h (suc i) (omega arith))) r b)
+    (contains_cases (record { left = m; right = Some (variable n) }) (lead_rules (suc n) ms) r k)
+
+zero_rules_all : (P : RewriteRule → Type 0) (zs : List Exponents) → ((z : Exponents) → Contains zs z → P (record { left = z; right = None })) →
+    (r : RewriteRule) → Contains (zero_rules zs) r → P r
+zero_rules_all P [] h r k = absurd (contains_none r k)
+zero_rules_all P (z ∷ zs) h r k =
+    ⊎_elim (λ e. subst P e (h z (contains_here z zs))) (λ b. zero_rules_all P zs (λ y n. h y (contains_there z zs y n)) r b)
+    (contains_cases (record { left = z; right = None }) (zero_rules zs) r k)
+
+module _ (L : Letters) (H : AreLetters L) where
+  abbrev without_leads : Letters
+  without_leads = record { degrees = L.degrees; leads = [] }
+
+  without_leads_letters : AreLetters without_leads
+  without_leads_letters = record { positive = H.positive; leads = λ m k. absurd (contains_none m k); not_one = λ m k. absurd (contains_none m k) }
+
+  -- the letter of a lead is smaller than the lead, written in the x
+  pub letter_smaller : (i : ℕ) → i < length L.leads → IsSmaller L (get_or L.leads i []) (lead_letter L i)
+  letter_smaller i l =
+      let m = H.leads (get_or L.leads i []) (contains_at L.leads i [] l) in
+      subst (λ j. IsSmaller L (get_or L.leads i []) (lead_letter L j)) (let e : 0 + i ≡ i = omega arith in e)
+      (new_letter_smaller without_leads without_leads_letters L.leads (λ x k. (H.leads x k, H.not_one x k)) i l (get_or L.leads i []) (x_word without_leads without_leads_letters (get_or L.leads i []) m) (image_same without_leads without_leads_letters (get_or L.leads i []) m))
+
+  module _ (IsZero : Exponents → Type 0) (Z : List Exponents) (in_x : AreInX L Z) (zero : (z : Exponents) → Contains Z z → IsZero z) where
+    first_rules_rules : AreRewriteRules IsZero L (first_rules Z L)
+    first_rules_rules r k =
+        ⊎_elim
+        (lead_rules_all (λ r. IsWord L r.left × IsRightSide IsZero L r.left r.right) (length L.degrees) L.leads
+        (λ i l. (x_word L H (get_or L.leads i []) (H.leads (get_or L.leads i []) (contains_at L.leads i [] l)), letter_smaller i l)) r)
+        (zero_rules_all (λ r. IsWord L r.left × IsRightSide IsZero L r.left r.right) Z
+        (λ z n. (x_word L H z (in_x z n), subst IsZero (sym (image_same L H z (in_x z n))) (zero z n))) r)
+        (Contains-append_cases (lead_rules (length L.degrees) L.leads) (zero_rules Z) r k)
+
+    -- a completion begins with the rules of leads and zeros
+    pub begins : (listed : List RulePair) → AllPairs (IsJoinableOrListed (first_rules Z L) listed) (first_rules Z L) → IsCompletion IsZero Z L (first_rules Z L) listed
+    begins listed pairs = record {
+      rules = first_rules_rules;
+      leads = λ i l. (
+        Some (lead_letter L i),
+        rule_rewrites (first_rules Z L) (record { left = get_or L.leads i []; right = Some (lead_letter L i) })
+            (contains_left (lead_rules (length L.degrees) L.leads) (zero_rules Z) _ (lead_rule (length L.degrees) L.leads i l)),
+        stays,
+      );
+      zeros = λ z k. rule_rewrites (first_rules Z L) (record { left = z; right = None })
+          (contains_right (lead_rules (length L.degrees) L.leads) (zero_rules Z) _ (contains_map (λ (z : Exponents). record { left = z; right = None }) Z z k));
+      pairs = pairs;
+    }
