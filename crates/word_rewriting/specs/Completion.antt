@@ -40,3 +40,10 @@ first_rules Z L = lead_rules (length L.degrees) L.leads ++ zero_rules Z
 -- the rule rewrites one of u and v to the other
 abbrev pub Orients : RewriteRule → WordOrZero → WordOrZero → Type 0
 Orients t u v = ((Some t.left ≡ u) × (t.right ≡ v)) ⊎ ((Some t.left ≡ v) × (t.right ≡ u))
+
+-- the rules of a new lead, behind those of L, and of a new zero, that rewrite to the word u
+abbrev pub lead_rule_of : Letters → Exponents → RewriteRule
+lead_rule_of L u = record { left = u; right = Some (lead_letter L (length L.leads)) }
+
+abbrev pub zero_rule_of : Exponents → RewriteRule
+zero_rule_of u = record { left = u; right = None }

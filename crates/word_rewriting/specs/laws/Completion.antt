@@ -11,7 +11,7 @@ use Rattle.word_laws.specs.Words.{Letters, AreLetters, word_order_of, image_of, 
 use Rattle.word_laws.specs.laws.Words.{word_laws, x_word, image_same}
 use Rattle.word_rewriting.specs.Rewriting.{WordOrZero, RewriteRule, Rewrites, stays, steps, AreJoinable, IsCriticalPair, multiple}
 use Rattle.word_rewriting.specs.Completeness.{lead_letter, with_leads, AreInX, IsRightSide, AreRewriteRules, HasImage, GeneratesReducible, AreComplete}
-use Rattle.word_rewriting.specs.Completion.{RulePair, HasJoinablePair, IsJoinableOrListed, IsCompletion, lead_rules, zero_rules, first_rules, Orients}
+use Rattle.word_rewriting.specs.Completion.{RulePair, HasJoinablePair, IsJoinableOrListed, IsCompletion, lead_rules, zero_rules, first_rules, Orients, lead_rule_of, zero_rule_of}
 use Rattle.word_rewriting.specs.laws.Rewriting.{rewrites_trans, more_rewrites, more_joinable}
 use Rattle.word_rewriting.specs.laws.Criterion.{decreasing_rules}
 use Rattle.word_rewriting.specs.laws.NormalForms.{rewrites_image}
@@ -191,3 +191,91 @@ module _ (L : Letters) (H : AreLetters L) where
           (contains_right (lead_rules (length L.degrees) L.leads) (zero_rules Z) _ (contains_map (λ (z : Exponents). record { left = z; right = None }) Z z k));
       pairs = pairs;
     }
+
+module _ (IsZero : Exponents → Type 0) (L : Letters) (H : AreLetters L) (closed : IsZeroClosed (length L.degrees) IsZero) (Z : List Exponents) where
+  -- what a monomial in the x rewrites to has it for image
+  x_image : (R : List RewriteRule) → AreRewriteRules IsZero L R → (m : Exponents) (a : WordOrZero) → IsMonomial (length L.degrees) m → Rewrites R (Some m) a → HasImage IsZero L m a
+  x_image R rules m a hm h = rewrites_image IsZero L H R rules closed h m (x_word L H m hm, image_same L H m hm)
+
+  -- a lead is added at the end, with the rule of its letter
+  pub adds_lead : (R : List RewriteRule) (old new : List RulePair) (m u : Exponents) → IsCompletion IsZero Z L R old →
+      IsMonomial (length L.degrees) m → m ≢ [] → Rewrites R (Some m) (Some u) → ((p : RulePair) → Contains old p → Contains new p) →
+      ((r : RewriteRule) → Contains R r → IsJoinableOrListed (R ++ lead_rule_of L u ∷ []) new r (lead_rule_of L u)) →
+      IsCompletion IsZero Z (with_leads L (m ∷ [])) (R ++ lead_rule_of L u ∷ []) new
+  adds_lead R old new m u h hm ne to more pairs = record {
+    rules = rules_push IsZero (with_leads L (m ∷ [])) R t (rules_stay L (m ∷ []) IsZero IsZero (λ x z. z) R h.rules) (
+      word_stays L (m ∷ []) u image.0,
+      subst (λ j. IsSmaller (with_leads L (m ∷ [])) u (lead_letter L j)) (let e : length L.leads + 0 ≡ length L.leads = omega arith in e)
+          (new_letter_smaller L H (m ∷ []) one 0 (omega arith) u image.0 image.1),
+    );
+    leads = λ i l. ⊎_elim (λ k. older i (let z = k in omega arith)) (λ k. newer i (let z = length-append L.leads (m ∷ []) in omega (arith, k))) (le_or_not (suc i) (length L.leads));
+    zeros = λ z k. more_rewrites R (R ++ t ∷ []) (contains_left R (t ∷ [])) (h.zeros z k);
+    pairs = pairs_push R t old new more pairs h.pairs;
+  }
+    where
+      t : RewriteRule
+      t = lead_rule_of L u
+
+      image : IsWord L u × (image_of L u ≡ m)
+      image = x_image R h.rules m (Some u) hm to
+
+      one : (x : Exponents) → Contains (m ∷ []) x → IsMonomial (length L.degrees) x × (x ≢ [])
+      one x k = ⊎_elim (λ e. subst (λ y. IsMonomial (length L.degrees) y × (y ≢ [])) e (hm, ne)) (λ n. absurd (contains_none x n)) (contains_cases m [] x k)
+
+      older : (i : ℕ) → i < length L.leads → AreJoinable (R ++ t ∷ []) (Some (get_or (L.leads ++ m ∷ []) i [])) (Some (lead_letter L i))
+      older i l =
+          subst (λ x. AreJoinable (R ++ t ∷ []) (Some x) (Some (lead_letter L i))) (sym (get_or_append_left L.leads (m ∷ []) [] i l))
+          (more_joinable R (R ++ t ∷ []) (contains_left R (t ∷ [])) (Some (get_or L.leads i [])) (Some (lead_letter L i)) (h.leads i l))
+
+      newer : (i : ℕ) → i ≡ length L.leads → AreJoinable (R ++ t ∷ []) (Some (get_or (L.leads ++ m ∷ []) i [])) (Some (lead_letter L i))
+      newer i e =
+          subst (λ j. AreJoinable (R ++ t ∷ []) (Some (get_or (L.leads ++ m ∷ []) j [])) (Some (lead_letter L j))) (sym e)
+          (subst (λ x. AreJoinable (R ++ t ∷ []) (Some x) (Some (lead_letter L (length L.leads))))
+          (sym (ap (λ j. get_or (L.leads ++ m ∷ []) j []) (let q : length L.leads ≡ length L.leads + 0 = omega arith in q) ∙ get_or-append-add L.leads (m ∷ []) 0 []))
+          (
+            Some (lead_letter L (length L.leads)),
+            rewrites_trans (R ++ t ∷ []) (more_rewrites R (R ++ t ∷ []) (contains_left R (t ∷ [])) to) (rule_rewrites (R ++ t ∷ []) t (contains_right R (t ∷ []) t (contains_here t []))),
+            stays,
+          ))
+
+  -- what counts as zero grows
+  pub more_zeros : (Y : Exponents → Type 0) → ((m : Exponents) → IsZero m → Y m) → (R : List RewriteRule) → AreRewriteRules IsZero L R → AreRewriteRules Y L R
+  more_zeros Y more R rules r k = ((rules r k).0, side r.right (rules r k).1)
+    where
+      side : (a : WordOrZero) → IsRightSide IsZero L r.left a → IsRightSide Y L r.left a
+      side None z = more (image_of L r.left) z
+      side (Some v) s = s
+
+  -- a zero that rewrites to zero is added
+  pub adds_zero : (Y : Exponents → Type 0) → ((m : Exponents) → IsZero m → Y m) → (R : List RewriteRule) (listed : List RulePair) (z : Exponents) →
+      IsCompletion IsZero Z L R listed → Rewrites R (Some z) None → IsCompletion Y (Z ++ z ∷ []) L R listed
+  adds_zero Y more R listed z h to = record {
+    rules = more_zeros Y more R h.rules;
+    leads = h.leads;
+    zeros = λ y k. ⊎_elim (h.zeros y) (λ b. ⊎_elim (λ e. subst (λ x. Rewrites R (Some x) None) e to) (λ n. absurd (contains_none y n)) (contains_cases z [] y b))
+        (Contains-append_cases Z (z ∷ []) y k);
+    pairs = h.pairs;
+  }
+
+  -- a zero is added, with the rule of a word to which it rewrites
+  pub adds_zero_rule : (Y : Exponents → Type 0) → ((m : Exponents) → IsZero m → Y m) → (R : List RewriteRule) (old new : List RulePair) (z u : Exponents) →
+      IsCompletion IsZero Z L R old → IsMonomial (length L.degrees) z → Y z → Rewrites R (Some z) (Some u) → ((p : RulePair) → Contains old p → Contains new p) →
+      ((r : RewriteRule) → Contains R r → IsJoinableOrListed (R ++ zero_rule_of u ∷ []) new r (zero_rule_of u)) →
+      IsCompletion Y (Z ++ z ∷ []) L (R ++ zero_rule_of u ∷ []) new
+  adds_zero_rule Y bigger R old new z u h hz yz to more pairs = record {
+    rules = rules_push Y L R t (more_zeros Y bigger R h.rules) (image.0, subst Y (sym image.1) yz);
+    leads = λ i l. more_joinable R (R ++ t ∷ []) (contains_left R (t ∷ [])) (Some (get_or L.leads i [])) (Some (lead_letter L i)) (h.leads i l);
+    zeros = λ y k. ⊎_elim (λ a. more_rewrites R (R ++ t ∷ []) (contains_left R (t ∷ [])) (h.zeros y a))
+        (λ b. ⊎_elim (λ e. subst (λ x. Rewrites (R ++ t ∷ []) (Some x) None) e last) (λ n. absurd (contains_none y n)) (contains_cases z [] y b))
+        (Contains-append_cases Z (z ∷ []) y k);
+    pairs = pairs_push R t old new more pairs h.pairs;
+  }
+    where
+      t : RewriteRule
+      t = zero_rule_of u
+
+      image : IsWord L u × (image_of L u ≡ z)
+      image = x_image R h.rules z (Some u) hz to
+
+      last : Rewrites (R ++ t ∷ []) (Some z) None
+      last = rewrites_trans (R ++ t ∷ []) (more_rewrites R (R ++ t ∷ []) (contains_left R (t ∷ [])) to) (rule_rewrites (R ++ t ∷ []) t (contains_right R (t ∷ []) t (contains_here t [])))
