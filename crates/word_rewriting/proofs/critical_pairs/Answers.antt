@@ -1,0 +1,17 @@
+use Rattle.std.specs.Prelude.{length}
+use Rattle.monomial_order.specs.Monomial.{IsMultiple}
+use Rattle.word_laws.specs.Words.{word_order_of}
+use Rattle.word_laws.specs.laws.Reducible.{multiple_closed}
+use Rattle.word_rewriting.specs.laws.Criterion.{decreasing_rules}
+use Rattle.word_rewriting.specs.laws.Pairs.{coprime_joinable, pairs_enough}
+use Rattle.word_rewriting.specs.laws.NormalForms.{pair_images}
+use Rattle.word_rewriting.proofs.critical_pairs.Goals as goal
+
+pub returns-clause-coprime : goal.returns-clause-coprime
+returns-clause-coprime g Z L R rules = coprime_joinable (word_order_of L) R (decreasing_rules (IsMultiple Z) L R rules)
+
+pub returns-clause-later : goal.returns-clause-later
+returns-clause-later g Z L R rules = pairs_enough (word_order_of L) R (decreasing_rules (IsMultiple Z) L R rules)
+
+pub returns-clause-image : goal.returns-clause-image
+returns-clause-image g Z L R H rules = pair_images (IsMultiple Z) L H R rules (multiple_closed (length L.degrees) Z)

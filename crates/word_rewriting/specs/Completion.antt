@@ -1,0 +1,49 @@
+-- The state of a completion: rules, and the critical pairs that are still to be joined.
+use Rattle.std.specs.Prelude.{◌≡◌, ◌⊎◌, ℕ, suc, ◌<◌, List, [], ◌∷◌, ◌++◌, length, get_or, map, Contains, AllPairs, Some, None}
+use Rattle.monomial_order.specs.Monomial.{Exponents, AreCoprime, variable}
+use Rattle.word_laws.specs.Words.{Letters}
+use Rattle.word_rewriting.specs.Rewriting.{WordOrZero, RewriteRule, Rewrites, AreJoinable, IsCriticalPair}
+use Rattle.word_rewriting.specs.Completeness.{lead_letter, AreRewriteRules}
+
+-- two rules, for their critical pair
+abbrev pub RulePair : Type 0
+RulePair = RewriteRule × RewriteRule
+
+abbrev pub HasJoinablePair : List RewriteRule → RewriteRule → RewriteRule → Type 0
+HasJoinablePair R r s = (a b : WordOrZero) → IsCriticalPair r s a b → AreJoinable R a b
+
+-- the left sides are coprime, the pair is in the list, or it is joinable
+abbrev pub IsJoinableOrListed : List RewriteRule → List RulePair → RewriteRule → RewriteRule → Type 0
+IsJoinableOrListed R pairs r s = AreCoprime r.left s.left ⊎ (Contains pairs (r, s) ⊎ HasJoinablePair R r s)
+
+-- Each lead, written in the x, is joinable with its letter, each member of Z rewrites to zero, and the critical pairs
+-- are joinable or in the list, except those of coprime left sides.
+pub record IsCompletion (IsZero : Exponents → Type 0) (Z : List Exponents) (L : Letters) (R : List RewriteRule)
+    (listed : List RulePair) : Type 0 where
+  pub rules : AreRewriteRules IsZero L R
+  pub leads : (i : ℕ) → i < length L.leads → AreJoinable R (Some (get_or L.leads i [])) (Some (lead_letter L i))
+  pub zeros : (z : Exponents) → Contains Z z → Rewrites R (Some z) None
+  pub pairs : AllPairs (IsJoinableOrListed R listed) R
+
+-- each lead is rewritten to its letter; the first letter is at the place n
+abbrev pub lead_rules : ℕ → List Exponents → List RewriteRule
+lead_rules n [] = []
+lead_rules n (m ∷ ms) = record { left = m; right = Some (variable n) } ∷ lead_rules (suc n) ms
+
+abbrev pub zero_rules : List Exponents → List RewriteRule
+zero_rules Z = map (λ z. record { left = z; right = None }) Z
+
+-- the rules that a completion begins with
+abbrev pub first_rules : List Exponents → Letters → List RewriteRule
+first_rules Z L = lead_rules (length L.degrees) L.leads ++ zero_rules Z
+
+-- the rule rewrites one of u and v to the other
+abbrev pub Orients : RewriteRule → WordOrZero → WordOrZero → Type 0
+Orients t u v = ((Some t.left ≡ u) × (t.right ≡ v)) ⊎ ((Some t.left ≡ v) × (t.right ≡ u))
+
+-- the rules of a new lead, behind those of L, and of a new zero, that rewrite to the word u
+abbrev pub lead_rule_of : Letters → Exponents → RewriteRule
+lead_rule_of L u = record { left = u; right = Some (lead_letter L (length L.leads)) }
+
+abbrev pub zero_rule_of : Exponents → RewriteRule
+zero_rule_of u = record { left = u; right = None }

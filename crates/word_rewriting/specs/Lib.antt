@@ -1,0 +1,6 @@
+pub mod Rewriting
+pub mod Completeness
+pub mod Renumbering
+pub mod Completion
+pub mod Statements
+pub mod laws
