@@ -8,6 +8,10 @@ use Rattle.quotient_gb.specs.declared.critical_pair.CriticalPair.{CriticalPair}
 use Rattle.quotient_gb.specs.IdealBasis.{IsIdealBasis}
 use Rattle.quotient_gb.specs.CriticalPairs.{HasPairsAbove}
 
+-- the greatest degree of a quotient that may be asked whether it is closed
+abbrev pub closing_max : ℕ
+closing_max = 15000
+
 -- A quotient as its contracts see it: its degree, the members of a basis with their leads, the critical pairs above the
 -- degree, and whether it is known to be closed.
 pub record QuotientState (E : Type 0) : Type 0 where

@@ -5,7 +5,7 @@ ghost use Rattle.poly_core.specs.Presentation.{presented, AreCanonicalGenerators
 ghost use Rattle.polynomials.specs.Subalgebra.{IsPresentation};
 ghost use Rattle.quotient_gb.specs.CriticalPairs.{IsCriticalPair};
 ghost use Rattle.quotient_gb.specs.DegreeStep.{IsBasisTo, ReducesPairOf};
-ghost use Rattle.quotient_gb.specs.Quotient.{HasGeneratorAbove, HasOtherLead};
+ghost use Rattle.quotient_gb.specs.Quotient.{closing_max, HasGeneratorAbove, HasOtherLead};
 ghost use Rattle.quotient_gb.specs.declared.critical_pair.CriticalPair.{CriticalPair};
 
 use crate::basis::Basis;
@@ -53,7 +53,7 @@ fn reduces_to_zero<F: Field, O: Order>(
     pair: &CriticalPair,
 ) -> Result<bool, Memory>
     requires presentation { IsPresentation (presented F.ops O.order p.now) }
-    requires basis { (c : ℕ) × (c ≤ 15000) × IsBasisTo (presented F.ops O.order p.now) c basis.now }
+    requires basis { (c : ℕ) × (c ≤ closing_max) × IsBasisTo (presented F.ops O.order p.now) c basis.now }
     requires pair { IsCriticalPair (O.order p.now.order) basis.now.leads.items pair.now }
     ensures yes { IfOk result (λ r. r ≡ true →
         ReducesPairOf (presented F.ops O.order p.now) basis.now.members.items pair.now) }
@@ -78,7 +78,7 @@ pub(crate) fn all_reduce_to_zero<F: Field, O: Order>(
     pairs: &[CriticalPair],
 ) -> Result<bool, Memory>
     requires presentation { IsPresentation (presented F.ops O.order p.now) }
-    requires basis { (c : ℕ) × (c ≤ 15000) × IsBasisTo (presented F.ops O.order p.now) c basis.now }
+    requires basis { (c : ℕ) × (c ≤ closing_max) × IsBasisTo (presented F.ops O.order p.now) c basis.now }
     requires pairs { (w : CriticalPair) → Contains pairs.now w →
         IsCriticalPair (O.order p.now.order) basis.now.leads.items w }
     ensures yes { IfOk result (λ r. r ≡ true → (w : CriticalPair) → Contains pairs.now w →

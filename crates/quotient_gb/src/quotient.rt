@@ -7,7 +7,7 @@ ghost use Rattle.poly_core.specs.Presentation.{presented, AreCanonicalGenerators
 ghost use Rattle.polynomials.specs.Subalgebra.{Presented, IsPresentation, LeadsIdeal, IsStandard, IsNormalForm};
 ghost use Rattle.monomial_order.specs.MonomialOrder.{IsIncreasing};
 ghost use Rattle.quotient_gb.specs.IdealBasis.{IsMinimalLead};
-ghost use Rattle.quotient_gb.specs.Quotient.{IsQuotientOf, IsExtension, IsClosed, HasGeneratorAbove, HasOtherLead, with_degree, with_closed};
+ghost use Rattle.quotient_gb.specs.Quotient.{closing_max, IsQuotientOf, IsExtension, IsClosed, HasGeneratorAbove, HasOtherLead, with_degree, with_closed};
 ghost use Rattle.quotient_gb.specs.Remainder.{IsCanonicalIn};
 
 use crate::basis::Basis;
@@ -200,7 +200,7 @@ impl<F: Field, O: Order> Quotient<F, O> {
         requires presentation { IsPresentation (presented F.ops O.order p.now) }
         requires ideal { AreCanonicalGenerators (F.ops p.now.field) (O.order p.now.order) p.now.ideal.items }
         requires quotient { IsQuotientOf (presented F.ops O.order p.now) self.old }
-        requires small { self.old.degree ≤ 15000 }
+        requires small { self.old.degree ≤ closing_max }
         ensures quotient { IsQuotientOf (presented F.ops O.order p.now) self.new }
         ensures yes { IfOk result (λ r. r ≡ true →
             IsClosed (presented F.ops O.order p.now) self.old.degree self.old.leads) }
