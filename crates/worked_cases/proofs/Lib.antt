@@ -1,2 +1,3 @@
+pub mod ShortMonomials
 pub mod SmallWords
 pub mod Sums

@@ -5,25 +5,18 @@ ghost use Rattle.worked_cases.specs.Rings.{IsIn, IsRing};
 use crate::rings::{Ring, X_AND_Y, polynomial, ring};
 use crate::rows::number;
 use linked_terms::TermChain;
-use monomial_order::{Monomial, Order, Term};
+use monomial_order::{Monomial, Term};
 use std::alloc::Global;
 use std::process::Abort;
 use std::test::Fail;
 use word_field::{Field, WordField};
 
 /// Adds a product such as `2*x times x + y`.
-fn add(
-    rt: &impl Abort,
-    alloc: Global,
-    p: &Ring,
-    chain: &mut TermChain<WordField>,
-    product: &str,
-) -> Result<(), Fail>
+fn add(alloc: Global, p: &Ring, chain: &mut TermChain<WordField>, product: &str) -> Result<(), Fail>
     requires ring { IsRing p.now }
     requires chain { IsIn p.now chain.old.terms }
     ensures { OnOk result (IsIn p.now chain.new.terms) }
 {
-    assert!(rt; p.order.places() <= 32);
     let Some((factor, terms)) = product.split_once(" times ") else {
         return Err(Fail::new("no product"));
     };
@@ -61,18 +54,16 @@ fn pop(
 }
 
 /// Takes all terms out, and compares them.
-fn pop_all(
-    rt: &impl Abort,
-    chain: &mut TermChain<WordField>,
-    expected: &[Term<u32>],
-    step: &str,
-)
+fn pop_all(rt: &impl Abort, chain: &mut TermChain<WordField>, expected: &[Term<u32>], step: &str)
     ensures { chain.new.terms ≡ [] }
 {
     assert_eq!(rt; chain.len(), expected.len(), "{step}");
     for e in expected {
         let found = chain.pop_lead();
-        assert!(rt; found.is_some_and(|t| t.at == e.at && t.by == e.by), "{step}");
+        assert!(rt;
+            found.is_some_and(|t| t.at == e.at && t.by == e.by),
+            "{step}"
+        );
     }
     assert!(rt; chain.pop_lead().is_none(), "{step}");
 }
@@ -94,7 +85,7 @@ fn follow(
     };
     match word {
         "reserve" => Ok(chain.reserve(number(operand)? as usize)?),
-        "add" => add(rt, alloc, p, chain, operand),
+        "add" => add(alloc, p, chain, operand),
         "pop" => {
             let expected = polynomial(alloc, p, operand)?;
             pop(rt, p, chain, expected.lead(), step);
