@@ -49,8 +49,7 @@ fn unlink<T>(nodes: &mut [Node<T>], ends: &mut Ends, k: usize, at: usize)
     ensures list { IsList nodes.new ends.new (remove (path_of nodes.old ends.old) k) }
     ensures others { ChangesLinks (path_of nodes.old ends.old) nodes.old nodes.new }
 {
-    let Node { prev, next, .. } = &nodes[at];
-    let (prev, next) = (*prev, *next);
+    let &Node { prev, next, .. } = &nodes[at];
     ends.len -= 1;
     if k == 0 {
         ends.first = next;
