@@ -80,15 +80,6 @@ module _ (n : ℕ) (listed : is_listed n ≡ true) (O : MonomialOrder) (L : IsMo
           by true is rest = (each t.at (found_coefficient t is), rest)
           by false is rest = rest
 
-  judged_ok : (constant : TextKind) → is_one_degree (degrees n O sum) ≡ true → AllByRecursion (λ e. e ≢ 0) (degrees n O sum) → judged n O constant sum ≡ Ok sum
-  unfolding judged
-  judged_ok constant one positive = rw (one, none_zero (degrees n O sum) positive) refl
-
-  -- a sum whose monomials all have a positive degree d passes
-  pub judged_graded : (constant : TextKind) (d : ℕ) → 1 ≤ d → ((m : List ℕ) → coefficient (residues n) sum m ≢ 0 → O.degree m ≡ d) → judged n O constant sum ≡ Ok sum
-  judged_graded constant d positive graded =
-      judged_ok constant (all_one d (degrees n O sum) (of_each (λ e. e ≡ d) graded)) (of_each (λ e. e ≢ 0) (λ m c z. omega (arith, positive, graded m c, z)))
-
   module _ (p : Polynomial ℕ) (s : Same (residues n) p sum) where
     in_poly : (m : List ℕ) → coefficient (residues n) sum m ≢ 0 → coefficient (residues n) p m ≢ 0
     in_poly m c z = c (sym (s m) ∙ z)
@@ -116,6 +107,10 @@ module _ (n : ℕ) (listed : is_listed n ≡ true) (O : MonomialOrder) (L : IsMo
         let other : is_one_degree (degrees n O sum) ≡ false =
         elim (is_one_degree (degrees n O sum)) as (λ b. is_one_degree (degrees n O sum) ≡ b → b ≡ false) [ true ↦ λ e. absurd (mixed (is_homogeneous canonical e)) | false ↦ λ e. refl ] refl in
         rw other refl
+
+    judged_ok : (constant : TextKind) → is_one_degree (degrees n O sum) ≡ true → AllByRecursion (λ e. e ≢ 0) (degrees n O sum) → judged n O constant sum ≡ Ok sum
+    unfolding judged
+    judged_ok constant one positive = rw (one, none_zero (degrees n O sum) positive) refl
 
     pub judged_zero : (constant : TextKind) → p ≡ [] → judged n O constant sum ≡ Ok sum
     unfolding coefficient
@@ -161,3 +156,25 @@ module _ (n : ℕ) (listed : is_listed n ≡ true) (O : MonomialOrder) (L : IsMo
             let nonzero : O.degree same.some.0 ≢ 0 = every (λ k. k ≢ 0) (zero_none (degrees n O sum) positive) same.some.0 there in
             let top : O.degree same.some.0 ≤ degree_max = all_found (residues n) (residues_field n listed) O L (λ m. O.degree m ≤ degree_max) sum low same.some.0 there in
             inr (d, omega (arith, nonzero, at), omega (arith, top, at), same)
+
+-- ---- generators
+
+module _ (n : ℕ) (listed : is_listed n ≡ true) (O : MonomialOrder) (L : IsMonomialOrder O) (p : Polynomial ℕ) (canonical : IsCanonical (residues n) O p) where
+  pub zero_generator : p ≡ [] → IsCanonicalGenerator (residues n) O p
+  zero_generator zero = record { canonical = canonical; homogeneous = inl zero }
+
+  pub positive_generator : (d : ℕ) → IsLow O p → IsZeroOrHomogeneous (residues n) O p → IsDegree (residues n) O d p → d ≢ 0 → IsCanonicalGenerator (residues n) O p
+  positive_generator d low same greatest positive =
+      let top : O.degree greatest.some.0 ≤ degree_max = all_found (residues n) (residues_field n listed) O L (λ m. O.degree m ≤ degree_max) p low greatest.some.0 greatest.some.1 in
+      record {
+        canonical = canonical;
+        homogeneous = inr (
+          d,
+          omega (arith, positive),
+          omega (arith, top, greatest.some.2),
+          record {
+            some = (greatest.some.0, greatest.some.1);
+            each = has_degree n listed O L p p (λ m. refl) d same greatest;
+          },
+        );
+      }

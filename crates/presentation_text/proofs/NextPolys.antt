@@ -1,15 +1,17 @@
 -- The polynomials of the next lines.
-use Rattle.std.proofs.Common.{◌≡◌, ℕ, suc, ◌+◌, ◌-◌, ◌<◌, ◌≤◌, List, [], ◌∷◌, ◌++◌, Result, Ok, Err, refl, sym, ap, ◌∙◌, arith, append_assoc}
+use Rattle.std.proofs.Common.{◌≡◌, ℕ, suc, ◌+◌, ◌-◌, ◌<◌, ◌≤◌, List, [], ◌∷◌, ◌++◌, length, Result, Ok, Err, refl, sym, ap, ◌∙◌, arith, append_assoc, length-append}
 use Rattle.std.specs.Prelude.{IfOk, IfErr}
 use Rattle.std.proofs.lemmas.List.{append-nil}
 use Rattle.word_field.specs.Field.{FieldOps}
 use Rattle.monomial_order.specs.MonomialOrder.{MonomialOrder}
+use Rattle.poly_core.specs.Presentation.{AreCanonicalGenerators, IsCanonicalGenerator}
 use Rattle.polynomial_text.specs.declared.line_fault.LineFault.{LineFault}
 use Rattle.presentation_text.specs.declared.text_fault.TextFault.{TextFault}
 use Rattle.presentation_text.specs.declared.text_fault.TextFault.TheVariants as faults
 use Rattle.presentation_text.specs.declared.text_kind.TextKind.{TextKind}
 use Rattle.polynomial_text.specs.Results.{◌>>=◌}
 use Rattle.presentation_text.specs.Kinds.{Fault}
+use Rattle.presentation_text.specs.Heading.{count_max}
 use Rattle.presentation_text.specs.Reading.{Line, next, several}
 use Rattle.polynomial_text.specs.Canonical.{IsLineFaultOf}
 use Rattle.presentation_text.specs.Meaning.{AreSums, IsFaultOf}
@@ -27,10 +29,14 @@ module _ (K : FieldOps ℕ) (O : MonomialOrder) where
   pub poly_gives : (f : List ℕ → Result (Polynomial ℕ) TextKind) (last number : ℕ) (bytes : List ℕ) (ls rest : List Line) (r : Result (Polynomial ℕ) (LineFault TextKind)) (s : Result (Polynomial ℕ) TextFault)
       → ls ≡ (number, bytes) ∷ rest → IfOk r (IsSumIn K O (λ sum. f bytes ≡ Ok sum)) → s ≡ located number r → IfOk s (IsSumIn K O (λ sum. next last f ls ≡ Ok (sum, rest)))
   poly_gives f last number bytes ls rest (Ok p) s split h is =
-      rw is (record { sum = h.sum; is = next_ok f last number bytes ls rest h.sum split h.is; same = h.same; canonical = h.canonical })
+      rw is (record { sum = h.sum; is = next_ok f last number bytes ls rest h.sum split h.is; same = h.same; generator = h.generator })
   poly_gives f last number bytes ls rest (Err e) s split h is = rw is tt
 
--- ---- several polynomials
+  -- ---- several polynomials
+
+  generators_push : (ps : List (Polynomial ℕ)) (p : Polynomial ℕ) → AreCanonicalGenerators K O ps → IsCanonicalGenerator K O p → AreCanonicalGenerators K O (ps ++ p ∷ [])
+  generators_push [] p h k = (k, tt)
+  generators_push (q ∷ ps) p h k = (h.0, generators_push ps p h.1 k)
 
 -- what was read before, and what is still read
 abbrev pub with_sums : List (Polynomial ℕ) → Result (List (Polynomial ℕ) × List Line) Fault → Result (List (Polynomial ℕ) × List Line) Fault
@@ -45,6 +51,8 @@ pub record HaveCome (K : FieldOps ℕ) (O : MonomialOrder) (last : ℕ) (f : Lis
   pub sums : List (Polynomial ℕ)
   pub is : with_sums sums (several last f (count - i) ls) ≡ whole
   pub same : AreSums K O sums ps
+  pub generators : AreCanonicalGenerators K O ps
+  pub many : length ps ≡ i
 
 module _ (K : FieldOps ℕ) (O : MonomialOrder) (last : ℕ) (f : List ℕ → Result (Polynomial ℕ) TextKind) (count : ℕ) where
   none_before : (read : Result (List (Polynomial ℕ) × List Line) Fault) → with_sums [] read ≡ read
@@ -52,7 +60,7 @@ module _ (K : FieldOps ℕ) (O : MonomialOrder) (last : ℕ) (f : List ℕ → R
   none_before (Err e) = refl
 
   pub come_first : (ls : List Line) → HaveCome K O last f count 0 ls (several last f count ls) []
-  come_first ls = record { sums = []; is = (let all : count - 0 ≡ count = omega arith in rw all (none_before (several last f count ls))); same = tt }
+  come_first ls = record { sums = []; is = (let all : count - 0 ≡ count = omega arith in rw all (none_before (several last f count ls))); same = tt; generators = tt; many = refl }
 
   pub come_next : (i : ℕ) (ls rest : List Line) (whole : Result (List (Polynomial ℕ) × List Line) Fault) (ps : List (Polynomial ℕ)) (p : Polynomial ℕ)
       → i < count → HaveCome K O last f count i ls whole ps → IsSumIn K O (λ sum. next last f ls ≡ Ok (sum, rest)) p → HaveCome K O last f count (i + 1) rest whole (ps ++ p ∷ [])
@@ -63,7 +71,9 @@ module _ (K : FieldOps ℕ) (O : MonomialOrder) (last : ℕ) (f : List ℕ → R
       record {
         sums = h.sums ++ s.sum ∷ [];
         is = sym step ∙ h.is;
-        same = sums_push K O h.sums ps s.sum p h.same (s.same, s.canonical, tt);
+        same = sums_push K O h.sums ps s.sum p h.same (s.same, s.generator.canonical, tt);
+        generators = generators_push K O ps p h.generators s.generator;
+        many = omega (arith, length-append ps (p ∷ []), h.many);
       }
 
   pub come_stop : (i : ℕ) (ls : List Line) (whole : Result (List (Polynomial ℕ) × List Line) Fault) (ps : List (Polynomial ℕ)) (e : TextFault)
@@ -76,9 +86,9 @@ module _ (K : FieldOps ℕ) (O : MonomialOrder) (last : ℕ) (f : List ℕ → R
       sym h.is ∙ step
 
   pub come_all : (i : ℕ) (ls : List Line) (whole : Result (List (Polynomial ℕ) × List Line) Fault) (ps : List (Polynomial ℕ))
-      → count ≤ i → HaveCome K O last f count i ls whole ps → AreSumsIn K O (λ sums. whole ≡ Ok (sums, ls)) ps
+      → count ≤ i → i ≤ count_max → HaveCome K O last f count i ls whole ps → AreSumsIn K O (λ sums. whole ≡ Ok (sums, ls)) ps
   unfolding several
-  come_all i ls whole ps le h =
+  come_all i ls whole ps le few h =
       let k : count - i ≡ 0 = omega arith in
       let step : with_sums h.sums (several last f (count - i) ls) ≡ Ok (h.sums, ls) = rw k (ap (λ (l : List (Polynomial ℕ)). Ok (l, ls)) (append-nil h.sums)) in
-      record { sums = h.sums; is = sym h.is ∙ step; same = h.same }
+      record { sums = h.sums; is = sym h.is ∙ step; same = h.same; canonical = record { each = h.generators; few = omega (arith, h.many, few) } }

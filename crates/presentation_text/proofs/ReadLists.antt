@@ -1,6 +1,5 @@
 -- The lists of polynomials that were read are lists of a presentation.
 use Rattle.std.proofs.Common.{◌≡◌, ℕ, zero, suc, ◌≤◌, Bool, true, false, cond, eqb, List, [], ◌∷◌, length, map, Result, Ok, Err, refl, ap, subst, ◌∙◌, arith}
-use Rattle.std.specs.Prelude.{codes}
 use Rattle.std.specs.List.{list_any, AllByRecursion}
 use Rattle.std.proofs.lemmas.Bool.{le-leb}
 use Rattle.word_field.specs.Residues.{residues, is_listed}
@@ -19,13 +18,12 @@ use Rattle.polynomial_text.specs.PolyLine.{terms_of}
 use Rattle.polynomial_text.specs.laws.ReadTerms.{terms_poly, terms_low}
 use Rattle.polynomial_text.specs.laws.Steps.{step_ok, chosen, same_ok}
 use Rattle.presentation_text.specs.declared.text_kind.TextKind.{TextKind}
-use Rattle.presentation_text.specs.declared.text_kind.TextKind.TheVariants.{NotHomogeneous, UnitIdeal, ConstantGenerator}
+use Rattle.presentation_text.specs.declared.text_kind.TextKind.TheVariants.{NotHomogeneous}
 use Rattle.presentation_text.specs.Heading.{count_max, count_line}
 use Rattle.presentation_text.specs.Judging.{degrees, is_one_degree, judged}
 use Rattle.presentation_text.specs.Kinds.{in_text}
 use Rattle.presentation_text.specs.Meaning.{AreSums}
-use Rattle.presentation_text.specs.Reading.{Line, Head, order_of_head, next, several, poly_line, counted, ended}
-use Rattle.presentation_text.specs.PolySums.{lists}
+use Rattle.presentation_text.specs.Reading.{Line, Head, order_of_head, next, several, poly_line, counted}
 use Rattle.presentation_text.proofs.Counting.{count_small}
 use Rattle.presentation_text.proofs.GeneratorDegrees.{first_degree}
 use Rattle.presentation_text.proofs.Judged.{passed_generator}
@@ -88,22 +86,6 @@ module _ (h : Head) (listed : is_listed h.size ≡ true) where
       let fit = several_fit last constant count.0.0 count.0.1 x count.2 in
       let few : count.0.0 ≤ count_max = count_small last key ls count.0 count.1 in
       (omega (arith, fit.0, few), fit.1)
-
--- such sums, as many as a list may have
-pub record AreFit (h : Head) (sums : List (Polynomial ℕ)) : Type 0 where
-  pub few : length sums ≤ count_max
-  pub each : AllByRecursion (IsFit h.size (order_of_head h)) sums
-
-pub lists_fit : (h : Head) → is_listed h.size ≡ true → (last : ℕ) (ls : List Line) (x : List (Polynomial ℕ) × List (Polynomial ℕ)) → lists last h ls ≡ Ok x → AreFit h x.0 × AreFit h x.1
-unfolding lists
-lists_fit h listed last ls x e =
-    let ideal = step_ok (counted last h (codes "ideal") UnitIdeal ls) _ x e in
-    let generators = step_ok (counted last h (codes "generators") ConstantGenerator ideal.0.1) _ x ideal.2 in
-    let end = step_ok (ended last generators.0.1) _ x generators.2 in
-    let first = counted_fit h listed last (codes "ideal") UnitIdeal ls ideal.0 ideal.1 in
-    let second = counted_fit h listed last (codes "generators") ConstantGenerator ideal.0.1 generators.0 generators.1 in
-    subst (λ (y : List (Polynomial ℕ) × List (Polynomial ℕ)). AreFit h y.0 × AreFit h y.1) (same_ok (ideal.0.0, generators.0.0) x end.2)
-    (record { few = first.0; each = first.1 }, record { few = second.0; each = second.1 })
 
 -- ---- polynomials that are such sums
 

@@ -1,5 +1,5 @@
 -- What a text is read as is a presentation.
-use Rattle.std.proofs.Common.{◌≡◌, ℕ, List, length, Ok, sym, ap, subst, ◌∙◌}
+use Rattle.std.proofs.Common.{◌≡◌, ℕ, ◌≤◌, List, length, Ok, sym, ap, subst, ◌∙◌}
 use Rattle.std.specs.Prelude.{codes}
 use Rattle.std.specs.List.{AllByRecursion}
 use Rattle.word_field.specs.Residues.{residues}
@@ -18,12 +18,18 @@ use Rattle.poly_core.specs.declared.presentations.Presentation.{Presentation}
 use Rattle.poly_core.specs.laws.Presentation.{canonical_presentation}
 use Rattle.polynomial_text.specs.laws.Steps.{step_ok, same_ok}
 use Rattle.presentation_text.specs.declared.text_kind.TextKind.TheVariants.{UnitIdeal, ConstantGenerator}
+use Rattle.presentation_text.specs.Heading.{count_max}
 use Rattle.presentation_text.specs.Lines.{content, end_line}
 use Rattle.presentation_text.specs.Meaning.{AreSums, IsRead}
 use Rattle.presentation_text.specs.Presenting.{IsHeading, IsListOf, IsPresented, IsFromReading}
 use Rattle.presentation_text.specs.Reading.{Line, Head, Reading, order_of_head, head, counted, ended, reading_of, reading}
 use Rattle.presentation_text.proofs.ReadHeads.{head_read, heading_laws}
-use Rattle.presentation_text.proofs.ReadLists.{IsFit, AreFit, counted_fit, forms, canonical_list, letter_degrees}
+use Rattle.presentation_text.proofs.ReadLists.{IsFit, counted_fit, forms, canonical_list, letter_degrees}
+
+-- sums of a list of a presentation
+record AreFit (h : Head) (sums : List (Polynomial ℕ)) : Type 0 where
+  few : length sums ≤ count_max
+  each : AllByRecursion (IsFit h.size (order_of_head h)) sums
 
 -- what is known of each part
 record HasFitParts (r : Reading) : Type 0 where

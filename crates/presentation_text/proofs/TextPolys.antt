@@ -1,10 +1,12 @@
 -- The lines of the polynomials of a canonical text are read.
-use Rattle.std.proofs.Common.{◌≡◌, ◌≢◌, ℕ, suc, ◌≤◌, ◌^◌, true, false, not, eqb, List, [], ◌∷◌, ◌++◌, length, Ok, refl, sym, ◌∙◌, arith, append_assoc, ◌⊎◌, inl, inr}
-use Rattle.std.specs.List.{list_all}
-use Rattle.std.proofs.lemmas.Bool.{and_parts, not-true}
+use Rattle.std.proofs.Common.{◌≡◌, ◌≢◌, ℕ, suc, ◌≤◌, ◌^◌, Bool, true, false, cond, not, eqb, nat_eq, List, [], ◌∷◌, ◌++◌, length, map, Ok, refl, sym, ap, ◌∙◌, arith, append_assoc, ◌⊎◌, inl, inr}
+use Rattle.std.specs.Prelude.{filter}
+use Rattle.std.specs.List.{AllByRecursion, list_all, list_any}
+use Rattle.std.proofs.lemmas.Bool.{and_parts, eq-eqb, not-true}
 use Rattle.word_field.specs.Field.{FieldOps, IsField}
 use Rattle.word_field.specs.Residues.{residues, is_listed}
 use Rattle.word_field.specs.laws.Residues.{residues_field}
+use Rattle.monomial_order.specs.declared.terms.Term.{Term}
 use Rattle.monomial_order.specs.MonomialOrder.{MonomialOrder, IsMonomialOrder}
 use Rattle.monomial_order.specs.Ranges.{all_between, are_rows}
 use Rattle.polynomials.specs.Polynomial.{Polynomial, coefficient, Same, IsHomogeneous}
@@ -22,12 +24,11 @@ use Rattle.polynomial_text.specs.PolyLine.{terms_of}
 use Rattle.polynomial_text.specs.laws.Names.{names_differ}
 use Rattle.presentation_text.specs.Heading.{rows_max, weight_max}
 use Rattle.presentation_text.specs.Lines.{lines, content_lines}
-use Rattle.presentation_text.specs.Judging.{judged}
+use Rattle.presentation_text.specs.Judging.{degrees, is_one_degree, judged}
 use Rattle.presentation_text.specs.Reading.{Head, order_of_head, several, poly_line}
 use Rattle.presentation_text.specs.PresentationText.{line, poly_lines}
 use Rattle.presentation_text.specs.Meaning.{AreSums}
 use Rattle.polynomial_text.specs.laws.CanonicalPoly.{canonical_terms, canonical_line, canonical_not_skipped}
-use Rattle.presentation_text.proofs.Judged.{judged_graded}
 use Rattle.presentation_text.proofs.PolyLines.{in_text_ok}
 use Rattle.presentation_text.proofs.TextLines.{IsOneLine, next_line}
 use Rattle.presentation_text.proofs.TextHeading.{listed_small}
@@ -37,6 +38,41 @@ use Rattle.presentation_text.proofs.TextHeading.{listed_small}
 -- all monomials of the sum have the degree d
 abbrev pub HasDegree : ℕ → MonomialOrder → Polynomial ℕ → ℕ → Type 0
 HasDegree p O sum d = (m : List ℕ) → coefficient (residues p) sum m ≢ 0 → O.degree m ≡ d
+
+picked : (g : Term ℕ → ℕ) (q : Term ℕ → Bool) (d : ℕ) (ts : Polynomial ℕ) → ((t : Term ℕ) → q t ≡ true → g t ≡ d) → AllByRecursion (λ e. e ≡ d) (map g (filter q ts))
+picked g q d [] h = tt
+picked g q d (t ∷ ts) h =
+    elim (q t) as (λ b. q t ≡ b → AllByRecursion (λ e. e ≡ d) (map g (cond b (t ∷ filter q ts) (filter q ts)))) [
+      | true ↦ λ e. (h t e, picked g q d ts h)
+      | false ↦ λ e. picked g q d ts h
+    ] refl
+
+all_equal : (d e : ℕ) (es : List ℕ) → e ≡ d → AllByRecursion (λ x. x ≡ d) es → list_all (nat_eq e) es ≡ true
+all_equal d e [] h hs = refl
+all_equal d e (x ∷ es) h hs =
+    let same : nat_eq e x ≡ true = ap (λ n. nat_eq n x) (h ∙ sym hs.0) ∙ eq-eqb x x refl in
+    rw same (all_equal d e es h hs.1)
+
+one_degree : (d : ℕ) (es : List ℕ) → AllByRecursion (λ x. x ≡ d) es → is_one_degree es ≡ true
+one_degree d [] h = refl
+one_degree d (e ∷ es) h = all_equal d e es h.0 h.1
+
+not_zero : (d e : ℕ) → e ≡ d → 1 ≤ d → eqb e 0 ≡ false
+not_zero d e h l = grind arith
+
+no_constant : (d : ℕ) (es : List ℕ) → 1 ≤ d → AllByRecursion (λ x. x ≡ d) es → list_any (λ x. eqb x 0) es ≡ false
+no_constant d [] l h = refl
+no_constant d (e ∷ es) l h = rw (not_zero d e h.0 l, no_constant d es l h.1) refl
+
+is_nonzero : (n : ℕ) → not (eqb n 0) ≡ true → n ≢ 0
+is_nonzero n h e = let f : eqb n 0 ≡ false = not-true (eqb n 0) h in let t : eqb n 0 ≡ true = ap (λ k. eqb k 0) e in absurd cc
+
+pub judges : (p : ℕ) (O : MonomialOrder) (constant : TextKind) (sum : Polynomial ℕ) (d : ℕ) → 1 ≤ d → HasDegree p O sum d → judged p O constant sum ≡ Ok sum
+unfolding judged
+judges p O constant sum d l h =
+    let all : AllByRecursion (λ e. e ≡ d) (degrees p O sum) =
+    picked (λ t. O.degree t.at) (λ t. not (eqb (coefficient (residues p) sum t.at) 0)) d sum (λ t e. h t.at (is_nonzero (coefficient (residues p) sum t.at) e)) in
+    rw (one_degree d (degrees p O sum) all, no_constant d (degrees p O sum) l all) refl
 
 zero_there : (p : ℕ) (g : Polynomial ℕ) (m : List ℕ) → g ≡ [] → coefficient (residues p) g m ≡ 0
 unfolding coefficient
@@ -96,7 +132,7 @@ module _ (h : Head) (S : IsSound h) where
       decreasing_all field laws order S.order (λ m. order.degree m ≤ degree_max) f g.canonical.decreasing (λ m n. let e = d.3 m n in let l = d.2 in omega arith) in
       let few = listed_few h.size S.listed in
       let ts = canonical_terms field laws few order S.order (Listed h.names) different f g.canonical named small in
-      let judge : judged h.size order constant ts.0 ≡ Ok ts.0 = judged_graded h.size S.listed order S.order ts.0 constant d.0 d.1 (λ m n. d.3 m (λ z. n (sym (ts.2 m) ∙ z))) in (
+      let judge : judged h.size order constant ts.0 ≡ Ok ts.0 = judges h.size order constant ts.0 d.0 d.1 (λ m n. d.3 m (λ z. n (sym (ts.2 m) ∙ z))) in (
         ts.0,
         record {
           read = rw (in_text_ok (terms_of field order (Listed h.names) (poly_text field (Listed h.names) f)) ts.0 ts.1) judge;

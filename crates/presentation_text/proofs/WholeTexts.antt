@@ -1,13 +1,16 @@
 -- The reading of a whole text, step by step.
 use Rattle.std.proofs.Common.{◌≡◌, ℕ, ◌+◌, List, length, Result, Ok, Err, refl, sym, ap, ◌∙◌, arith}
 use Rattle.std.specs.Prelude.{codes}
+use Rattle.word_field.specs.Residues.{residues}
+use Rattle.word_field.specs.laws.Residues.{residues_field}
 use Rattle.word_field.specs.declared.WordField.{WordField}
 use Rattle.monomial_order.specs.declared.weight_order.WeightOrder.{WeightOrder}
 use Rattle.monomial_order.specs.MonomialOrder.{IsMonomialOrder}
 use Rattle.monomial_order.specs.laws.Ties.{weight_laws}
 use Rattle.poly_core.specs.Names.{AreNames}
 use Rattle.poly_core.specs.declared.presentations.Presentation.{Presentation}
-use Rattle.poly_core.specs.Presentation.{AreCanonicalGenerators}
+use Rattle.poly_core.specs.Presentation.{IsValid, weight_order_of}
+use Rattle.poly_core.specs.laws.Presentation.{canonical_presentation}
 use Rattle.presentation_text.specs.declared.head.Head.{Head as Opening}
 use Rattle.presentation_text.specs.declared.text_fault.TextFault.{TextFault}
 use Rattle.presentation_text.specs.declared.text_fault.TextFault.TheVariants as faults
@@ -20,8 +23,6 @@ use Rattle.presentation_text.specs.Meaning.{IsRead, IsFaultOf}
 use Rattle.presentation_text.specs.Giving.{field_in, order_in, head_of}
 use Rattle.presentation_text.specs.Pending.{Pending, pending}
 use Rattle.presentation_text.specs.PolySums.{AreListsIn, IsMadeOf, lists}
-use Rattle.presentation_text.proofs.ReadLists.{lists_fit, canonical_list}
-use Rattle.presentation_text.proofs.ReadWhole.{read_from}
 use Rattle.presentation_text.proofs.TableNames.{is_listed}
 use Rattle.polynomials.specs.Polynomial.{Polynomial}
 
@@ -102,24 +103,30 @@ module _ (text : List ℕ) (l : Pending) (start : l ≡ pending 1 text) (h : Ope
   lists_refused e k = rw whole (lists_err l.missing (head_of h) rest e k)
 
   module _ (named : AreNames (length h.order.weights.items) h.names) (ideal generators : List (Polynomial ℕ))
-      (are : AreListsIn (field_in h) (order_in h) (λ sums. lists l.missing (head_of h) rest ≡ Ok sums) ideal generators) where
-    pub are_generators : AreCanonicalGenerators (field_in h) (order_in h) generators
-    are_generators =
-        let fit = lists_fit (head_of h) h.field.listed l.missing rest (are.ideal_sums, are.generator_sums) are.is in
-        let laws : IsMonomialOrder (order_in h) = weight_laws h.order.weights.items h.order.rows.items h.order.tie h.order.weights_in_range in
-        (canonical_list h.field.modulus h.field.listed (order_in h) laws are.generator_sums generators fit.1.few fit.1.each are.generators_same).each
+      (are : AreListsIn (field_in h) (order_in h) (λ sums. lists l.missing (head_of h) rest ≡ Ok sums) ideal generators) (p : Presentation WordField WeightOrder ℕ) (of : IsMadeOf h ideal generators p) where
+    laws : IsMonomialOrder (weight_order_of h.order)
+    laws = weight_laws h.order.weights.items h.order.rows.items h.order.tie h.order.weights_in_range
 
-    pub is_read : (p : Presentation WordField WeightOrder ℕ) → IsMadeOf h ideal generators p → IsRead text p
-    is_read p of =
-        let r : Reading = record { head = head_of h; ideal = are.ideal_sums; generators = are.generator_sums } in
-        read_from text r p (whole ∙ rw are.is refl) (record {
-          field = ap (λ (f : WordField). f.modulus) of.field;
-          names = of.names ∙ is_listed _ h.names named;
-          weights = ap (λ (o : WeightOrder). o.weights.items) of.order;
-          rows = ap (λ (o : WeightOrder). o.rows.items) of.order;
-          tie = ap (λ (o : WeightOrder). o.tie) of.order;
-          ideal = rw (of.field, of.order, of.ideal_is) are.ideal_same;
-          generators = rw (of.field, of.order, of.generators_are) are.generators_same;
-          no_x = of.no_x;
-          degrees = rw (of.order, of.generators_are) of.degrees;
-        })
+    valid : IsValid (λ f. residues f.modulus) weight_order_of p
+    valid = record {
+      presentation = rw (of.field, of.order, of.ideal_is, of.generators_are) (canonical_presentation (residues h.field.modulus) (weight_order_of h.order) (residues_field h.field.modulus h.field.listed) laws ideal generators are.ideal_canonical are.generators_canonical);
+      names = rw (of.order, of.names) named;
+      ideal = rw (of.field, of.order, of.ideal_is) are.ideal_canonical;
+      generators = rw (of.field, of.order, of.generators_are) are.generators_canonical;
+      no_x = of.no_x;
+      degrees = rw (of.order, of.generators_are) of.degrees;
+    }
+
+    pub is_read : IsRead text p
+    is_read = record {
+      present = record { head = head_of h; ideal = are.ideal_sums; generators = are.generator_sums };
+      reading = whole ∙ rw are.is refl;
+      field = ap (λ (f : WordField). f.modulus) of.field;
+      names = of.names ∙ is_listed _ h.names named;
+      weights = ap (λ (o : WeightOrder). o.weights.items) of.order;
+      rows = ap (λ (o : WeightOrder). o.rows.items) of.order;
+      tie = ap (λ (o : WeightOrder). o.tie) of.order;
+      ideal = rw (of.field, of.order, of.ideal_is) are.ideal_same;
+      generators = rw (of.field, of.order, of.generators_are) are.generators_same;
+      valid = valid;
+    }

@@ -2,8 +2,8 @@
 use Rattle.std.specs.Prelude.{◌≡◌, ℕ, List, [], map, Result, Ok, codes}
 use Rattle.word_field.specs.Field.{FieldOps}
 use Rattle.monomial_order.specs.MonomialOrder.{MonomialOrder}
-use Rattle.polynomials.specs.Polynomial.{Polynomial, Same, IsCanonical}
-use Rattle.poly_core.specs.Presentation.{generator_degree, weight_order_of}
+use Rattle.polynomials.specs.Polynomial.{Polynomial, Same}
+use Rattle.poly_core.specs.Presentation.{IsCanonicalGenerator, IsCanonicalList, generator_degree, weight_order_of}
 use Rattle.poly_core.specs.declared.presentations.Presentation.{Presentation}
 use Rattle.monomial_order.specs.declared.weight_order.WeightOrder.{WeightOrder}
 use Rattle.word_field.specs.declared.WordField.{WordField}
@@ -15,18 +15,19 @@ use Rattle.presentation_text.specs.Reading.{Line, Head, counted, ended}
 use Rattle.presentation_text.specs.Meaning.{AreSums}
 
 module _ {E : Type 0} (K : FieldOps E) (O : MonomialOrder) where
-  -- the polynomial is canonical, and is a sum that was read
+  -- the polynomial may be a generator, and is a sum that was read
   pub record IsSumIn (reads : Polynomial E → Type 0) (p : Polynomial E) : Type 0 where
     pub sum : Polynomial E
     pub is : reads sum
     pub same : Same K p sum
-    pub canonical : IsCanonical K O p
+    pub generator : IsCanonicalGenerator K O p
 
-  -- the polynomials are canonical, and are sums that were read
+  -- at most count_max polynomials that may be generators, and are sums that were read
   pub record AreSumsIn (reads : List (Polynomial E) → Type 0) (ps : List (Polynomial E)) : Type 0 where
     pub sums : List (Polynomial E)
     pub is : reads sums
     pub same : AreSums K O sums ps
+    pub canonical : IsCanonicalList K O ps
 
   -- two such lists of polynomials, the ideal and the generators
   pub record AreListsIn (reads : List (Polynomial E) × List (Polynomial E) → Type 0) (ideal generators : List (Polynomial E)) : Type 0 where
@@ -35,6 +36,8 @@ module _ {E : Type 0} (K : FieldOps E) (O : MonomialOrder) where
     pub is : reads (ideal_sums, generator_sums)
     pub ideal_same : AreSums K O ideal_sums ideal
     pub generators_same : AreSums K O generator_sums generators
+    pub ideal_canonical : IsCanonicalList K O ideal
+    pub generators_canonical : IsCanonicalList K O generators
 
 -- the lines behind the order: the sums of the ideal's lines, and of the generators'
 unfoldable pub lists : ℕ → Head → List Line → Result (List (Polynomial ℕ) × List (Polynomial ℕ)) Fault

@@ -1,10 +1,12 @@
 //! The polynomials of a presentation.
-ghost use Rattle.std.specs.Prelude.{◌≡◌, ℕ, length, Ok, IfOk, IfErr};
+ghost use Rattle.std.specs.Prelude.{◌≡◌, ℕ, ◌≤◌, length, Ok, IfOk, IfErr};
 ghost use Rattle.polynomials.specs.Polynomial.{Polynomial, IsCanonical, Same};
 ghost use Rattle.poly_core.specs.Names.{AreNames};
+ghost use Rattle.poly_core.specs.Presentation.{IsCanonicalGenerator};
 ghost use Rattle.polynomial_text.specs.Canonical.{IsLineFaultOf};
+ghost use Rattle.polynomial_text.specs.Degrees.{IsLow};
 ghost use Rattle.presentation_text.specs.Giving.{Gives, field_in, order_in, head_of};
-ghost use Rattle.presentation_text.specs.Heading.{count_line};
+ghost use Rattle.presentation_text.specs.Heading.{count_line, count_max};
 ghost use Rattle.presentation_text.specs.Judging.{judged};
 ghost use Rattle.presentation_text.specs.Meaning.{IsFaultOf};
 ghost use Rattle.presentation_text.specs.PolySums.{IsSumIn, AreSumsIn};
@@ -23,9 +25,11 @@ use word_field::WordField;
 
 /// Whether a polynomial is zero or homogeneous of a positive degree. `constant` is the fault of another constant.
 fn judge(h: &Head, constant: TextKind, p: &Poly<WordField>) -> Result<(), LineFault<TextKind>>
-    requires { IsCanonical (field_in h.now) (order_in h.now) p.now }
+    requires canonical { IsCanonical (field_in h.now) (order_in h.now) p.now }
+    requires low { IsLow (order_in h.now) p.now }
     ensures accepted { IfOk result (λ _. (sum : Polynomial ℕ) → Same (field_in h.now) p.now sum →
         judged h.now.field.modulus (order_in h.now) constant sum ≡ Ok sum) }
+    ensures generator { IfOk result (λ _. IsCanonicalGenerator (field_in h.now) (order_in h.now) p.now) }
     ensures fault { IfErr result (λ e. (sum : Polynomial ℕ) → Same (field_in h.now) p.now sum →
         IsLineFaultOf (judged h.now.field.modulus (order_in h.now) constant sum) e) }
 {
@@ -85,7 +89,8 @@ fn several(
     count: u32,
     lines: &mut Lines,
 ) -> Result<Vec<Poly<WordField>>, TextFault>
-    requires { AreNames (length h.now.order.weights.items) h.now.names }
+    requires named { AreNames (length h.now.order.weights.items) h.now.names }
+    requires few { count ≤ count_max }
     ensures missing { lines.new.missing ≡ lines.old.missing }
     ensures read { IfOk result (λ v. AreSumsIn (field_in h.now) (order_in h.now)
         (λ sums. several lines.old.missing (poly_line (head_of h.now) constant) count lines.old.left

@@ -1,12 +1,15 @@
 use Rattle.std.proofs.lemmas.Result.{err_from_is_err_and}
 use Rattle.presentation_text.specs.Giving.{head_of}
-use Rattle.presentation_text.proofs.Counting.{counted_is, counted_err}
+use Rattle.presentation_text.proofs.Counting.{counted_is, counted_err, count_small}
 use Rattle.presentation_text.proofs.polys.counted.Goals as goal
 
 pub returns-in_err-n-clause-fault : goal.returns-in_err-n-clause-fault
 returns-in_err-n-clause-fault c =
     let p = err_from_is_err_and c.from_residual.result c.from_residual.ensures.1 in
     rw (p.1, p.2) (counted_err c.args.lines.now.missing (head_of c.args.h.now) c.args.key.now c.args.constant c.args.lines.now.left c.in_err-n.field-0.0 c.in_err-n.ensures.read)
+
+pub several-requires-clause-few : goal.several-requires-clause-few
+several-requires-clause-few c = count_small c.args.lines.now.missing c.args.key.now c.args.lines.now.left (c.in_ok-n.n, c.count.new.lines.left) c.in_ok-n.ensures.read
 
 pub returns-clause-read : goal.returns-clause-read
 returns-clause-read c =

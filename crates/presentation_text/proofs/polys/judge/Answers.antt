@@ -4,7 +4,7 @@ use Rattle.monomial_order.specs.MonomialOrder.{IsMonomialOrder}
 use Rattle.monomial_order.specs.laws.Ties.{weight_laws}
 use Rattle.presentation_text.specs.declared.head.Head.{Head}
 use Rattle.presentation_text.specs.Giving.{order_in}
-use Rattle.presentation_text.proofs.Judged.{judged_mixed, judged_zero, judged_positive, judged_constant}
+use Rattle.presentation_text.proofs.Judged.{judged_mixed, judged_zero, judged_positive, judged_constant, zero_generator, positive_generator}
 use Rattle.presentation_text.proofs.polys.judge.Goals as goal
 
 laws : (h : Head) → IsMonomialOrder (order_in h)
@@ -12,19 +12,28 @@ laws h = weight_laws h.order.weights.items h.order.rows.items h.order.tie h.orde
 
 pub returns-then-not-is_homogeneous-clause-fault : goal.returns-then-not-is_homogeneous-clause-fault
 returns-then-not-is_homogeneous-clause-fault c = λ sum s.
-    judged_mixed c.args.h.now.field.modulus c.args.h.now.field.listed (order_in c.args.h.now) (laws c.args.h.now) sum c.args.p.now s c.args.constant c.requires
-    (λ same. true≢false (sym ((c.if-not-is_homogeneous.ensures c.args.h.now.field c.requires).1 same)))
+    judged_mixed c.args.h.now.field.modulus c.args.h.now.field.listed (order_in c.args.h.now) (laws c.args.h.now) sum c.args.p.now s c.args.constant c.requires.canonical
+    (λ same. true≢false (sym ((c.if-not-is_homogeneous.ensures c.args.h.now.field c.requires.canonical).1 same)))
 
 pub returns-then-degree-eq0-clause-fault : goal.returns-then-degree-eq0-clause-fault
 returns-then-degree-eq0-clause-fault c = λ sum s.
     judged_constant c.args.h.now.field.modulus c.args.h.now.field.listed (order_in c.args.h.now) (laws c.args.h.now) sum c.args.p.now s c.args.constant c.in-Some.degree
-    ((c.if-not-is_homogeneous.ensures c.args.h.now.field c.requires).0 refl) (c.in-Some.ensures.greatest c.args.h.now.field c.requires) c.if-degree-eq0.true
+    ((c.if-not-is_homogeneous.ensures c.args.h.now.field c.requires.canonical).0 refl) (c.in-Some.ensures.greatest c.args.h.now.field c.requires.canonical) c.if-degree-eq0.true
 
 pub returns-clause-accepted : goal.returns-clause-accepted
 returns-clause-accepted c = λ sum s.
     judged_positive c.args.h.now.field.modulus c.args.h.now.field.listed (order_in c.args.h.now) (laws c.args.h.now) sum c.args.p.now s c.args.constant c.in-Some.degree
-    ((c.if-not-is_homogeneous.ensures c.args.h.now.field c.requires).0 refl) (c.in-Some.ensures.greatest c.args.h.now.field c.requires) c.if-degree-eq0.false
+    ((c.if-not-is_homogeneous.ensures c.args.h.now.field c.requires.canonical).0 refl) (c.in-Some.ensures.greatest c.args.h.now.field c.requires.canonical) c.if-degree-eq0.false
+
+pub returns-clause-generator : goal.returns-clause-generator
+returns-clause-generator c =
+    positive_generator c.args.h.now.field.modulus c.args.h.now.field.listed (order_in c.args.h.now) (laws c.args.h.now) c.args.p.now c.requires.canonical c.in-Some.degree c.requires.low
+    ((c.if-not-is_homogeneous.ensures c.args.h.now.field c.requires.canonical).0 refl) (c.in-Some.ensures.greatest c.args.h.now.field c.requires.canonical) c.if-degree-eq0.false
 
 pub returns-in_default-clause-accepted : goal.returns-in_default-clause-accepted
 returns-in_default-clause-accepted c = λ sum s.
     judged_zero c.args.h.now.field.modulus c.args.h.now.field.listed (order_in c.args.h.now) (laws c.args.h.now) sum c.args.p.now s c.args.constant ((rw c.in_default.is at c.degree.ensures.zero).0 refl)
+
+pub returns-in_default-clause-generator : goal.returns-in_default-clause-generator
+returns-in_default-clause-generator c =
+    zero_generator c.args.h.now.field.modulus c.args.h.now.field.listed (order_in c.args.h.now) (laws c.args.h.now) c.args.p.now c.requires.canonical ((rw c.in_default.is at c.degree.ensures.zero).0 refl)

@@ -25,5 +25,5 @@ returns-clause-read c =
       sum = is.terms;
       is = line_judged c.args.h.now c.requires c.args.constant c.args.line.now is.terms is.read ∙ c.in_ok-judge.ensures.accepted is.terms is.sum;
       same = is.sum;
-      canonical = is.canonical;
+      generator = c.in_ok-judge.ensures.generator;
     }

@@ -1,4 +1,4 @@
-use Rattle.std.proofs.Common.{◌∙◌}
+use Rattle.std.proofs.Common.{◌∙◌, arith}
 use Rattle.std.proofs.lemmas.Result.{err_from_is_err_and}
 use Rattle.word_field.specs.Residues.{residues}
 use Rattle.poly_core.specs.Presentation.{weight_order_of}
@@ -20,9 +20,10 @@ loop-preserved c = record {
       (come_next (residues c.args.h.now.field.modulus) (weight_order_of c.args.h.now.order) c.args.lines.now.missing (poly_line (head_of c.args.h.now) c.args.constant) c.args.count c.loop.counter c.loop.lines.left c.next_poly.new.lines.left
       (several c.args.lines.now.missing (poly_line (head_of c.args.h.now) c.args.constant) c.args.count c.args.lines.now.left) c.loop.polys.items c.in_ok-p.p c.loop-test.true c.loop.invariant.come (rw c.loop.invariant.missing at c.in_ok-p.ensures.read));
   missing = c.in_ok-p.ensures.missing ∙ c.loop.invariant.missing;
+  within = omega (arith, c.loop-test.true);
 }
 
 pub returns-clause-read : goal.returns-clause-read
 returns-clause-read c =
     come_all (residues c.args.h.now.field.modulus) (weight_order_of c.args.h.now.order) c.args.lines.now.missing (poly_line (head_of c.args.h.now) c.args.constant) c.args.count c.loop.counter c.loop.lines.left
-    (several c.args.lines.now.missing (poly_line (head_of c.args.h.now) c.args.constant) c.args.count c.args.lines.now.left) c.loop.polys.items c.loop-test.false c.loop.invariant.come
+    (several c.args.lines.now.missing (poly_line (head_of c.args.h.now) c.args.constant) c.args.count c.args.lines.now.left) c.loop.polys.items c.loop-test.false (omega (arith, c.requires.few, c.loop.invariant.within)) c.loop.invariant.come

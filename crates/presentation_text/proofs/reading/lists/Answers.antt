@@ -33,4 +33,6 @@ returns-clause-read c =
           second.sums c.counted-2.new.lines.left second.is [] (rw (c.in_ok-generators.ensures.missing, c.in_ok-ideal.ensures.missing) at c.in_ok-ended.ensures);
       ideal_same = first.same;
       generators_same = second.same;
+      ideal_canonical = first.canonical;
+      generators_canonical = second.canonical;
     }
