@@ -15,7 +15,9 @@ pairs p t u = record {
   one = pair 1 0;
   plus = λ a b. pair ((a.low + b.low) % p) ((a.high + b.high) % p);
   negate = λ a. pair ((p - a.low % p) % p) ((p - a.high % p) % p);
-  times = λ a b. pair ((a.low * b.low + t * a.high * b.high) % p) ((a.low * b.high + a.high * b.low + u * a.high * b.high) % p);
+  times = λ a b. pair
+      ((a.low * b.low + t * a.high * b.high) % p)
+      ((a.low * b.high + a.high * b.low + u * a.high * b.high) % p);
   size = p * p;
   word = λ a. a.low + p * a.high;
   of_word = λ w. pair (w % (p * p) % p) (w % (p * p) / p);

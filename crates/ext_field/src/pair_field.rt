@@ -15,10 +15,10 @@ pub struct PairField {
     /// The square of (0, 1).
     pub square: Pair,
     /// 65536 divided by `prime`, rounded up.
-    pub reciprocal: u32,
+    reciprocal: u32,
     pub ghost chosen: { is_square prime square.low square.high ≡ true },
-    pub ghost enough: { 65536 ≤ prime * reciprocal },
-    pub ghost close: { prime * reciprocal < 65536 + prime },
+    ghost rounded: { 65536 ≤ prime * reciprocal },
+    ghost closest: { prime * reciprocal < 65536 + prime },
 }
 
 impl PairField {
@@ -28,9 +28,21 @@ impl PairField {
         ensures size { IfSome result (λ f. f.prime * f.prime ≡ q) }
     {
         match q {
-            4 => Some(PairField { prime: 2, square: Pair { low: 1, high: 1 }, reciprocal: 32768 }),
-            9 => Some(PairField { prime: 3, square: Pair { low: 2, high: 0 }, reciprocal: 21846 }),
-            49 => Some(PairField { prime: 7, square: Pair { low: 6, high: 0 }, reciprocal: 9363 }),
+            4 => Some(PairField {
+                prime: 2,
+                square: Pair { low: 1, high: 1 },
+                reciprocal: 32768,
+            }),
+            9 => Some(PairField {
+                prime: 3,
+                square: Pair { low: 2, high: 0 },
+                reciprocal: 21846,
+            }),
+            49 => Some(PairField {
+                prime: 7,
+                square: Pair { low: 6, high: 0 },
+                reciprocal: 9363,
+            }),
             _ => None,
         }
     }
@@ -50,7 +62,11 @@ impl PairField {
         ensures { result ≡ (a + b) % self.now.prime }
     {
         let both = a + b;
-        if both < self.prime { both } else { both - self.prime }
+        if both < self.prime {
+            both
+        } else {
+            both - self.prime
+        }
     }
 
     /// The difference of two numbers modulo the prime.
@@ -87,15 +103,24 @@ impl Field for PairField {
     }
 
     fn add(&self, a: Pair, b: Pair) -> Pair {
-        Pair { low: self.sum(a.low, b.low), high: self.sum(a.high, b.high) }
+        Pair {
+            low: self.sum(a.low, b.low),
+            high: self.sum(a.high, b.high),
+        }
     }
 
     fn sub(&self, a: Pair, b: Pair) -> Pair {
-        Pair { low: self.difference(a.low, b.low), high: self.difference(a.high, b.high) }
+        Pair {
+            low: self.difference(a.low, b.low),
+            high: self.difference(a.high, b.high),
+        }
     }
 
     fn neg(&self, a: Pair) -> Pair {
-        Pair { low: self.difference(0, a.low), high: self.difference(0, a.high) }
+        Pair {
+            low: self.difference(0, a.low),
+            high: self.difference(0, a.high),
+        }
     }
 
     fn mul(&self, a: Pair, b: Pair) -> Pair {
@@ -108,18 +133,29 @@ impl Field for PairField {
 
     // The conjugate of `a` divided by the norm, their product.
     fn inv(&self, a: Pair) -> Option<Pair> {
-        let conjugate = Pair { low: a.low + self.square.high * a.high, high: self.prime - a.high };
-        let norm = self.remainder(a.low * conjugate.low + self.square.low * a.high * conjugate.high);
+        let conjugate = Pair {
+            low: a.low + self.square.high * a.high,
+            high: self.prime - a.high,
+        };
+        let norm = self.remainder(
+            a.low * conjugate.low + self.square.low * a.high * conjugate.high,
+        );
         if norm == 0 {
             return None;
         }
         let by = self.inverse(norm);
-        Some(Pair { low: self.remainder(conjugate.low * by), high: self.remainder(conjugate.high * by) })
+        Some(Pair {
+            low: self.remainder(conjugate.low * by),
+            high: self.remainder(conjugate.high * by),
+        })
     }
 
     fn from_word(&self, w: u64) -> Pair {
         let number = (w % self.size() as u64) as u32;
-        Pair { low: number % self.prime, high: number / self.prime }
+        Pair {
+            low: number % self.prime,
+            high: number / self.prime,
+        }
     }
 
     fn to_word(&self, a: Pair) -> u32 {

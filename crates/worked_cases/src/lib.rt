@@ -12,6 +12,8 @@ mod operations;
 #[cfg(test)]
 mod orders;
 #[cfg(test)]
+mod pairs;
+#[cfg(test)]
 mod products;
 pub mod rings;
 pub mod rows;

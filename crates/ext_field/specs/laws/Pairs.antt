@@ -72,8 +72,8 @@ module _ (p t u : ℕ) (h : is_square p t u ≡ true) where
       comm a ((pairs p t u).plus b c) ∙
       (reduced_times (b.low + c.low) (b.high + c.high) a.low a.high ∙
       pair_eq
-          (ap (λ n. n % p) (low a.low a.high b.low b.high c.low c.high) ∙ both (product a b).low (product a c).low)
-          (ap (λ n. n % p) (high a.low a.high b.low b.high c.low c.high) ∙ both (product a b).high (product a c).high))
+      (ap (λ n. n % p) (low a.low a.high b.low b.high c.low c.high) ∙ both (product a b).low (product a c).low)
+      (ap (λ n. n % p) (high a.low a.high b.low b.high c.low c.high) ∙ both (product a b).high (product a c).high))
     where
       both : (x y : ℕ) → (x + y) % p ≡ (x % p + y % p) % p
       both x y = sym (mod-add-mod x p y) ∙ sym (add-mod-mod (x % p) y p)
@@ -102,8 +102,7 @@ module _ (p t u : ℕ) (h : is_square p t u ≡ true) where
   inverse a n =
       let small : a.high % p < p = mod-lt a.high positive in
       let k = (residues_field p (square_listed p t u h)).inverse (norm p t u (a.low % p) (a.high % p)) (λ z.
-          let zeros = norm_is_zero p t u h (a.low % p) (a.high % p) (mod-lt a.low positive) small z in n (pair_eq zeros.0 zeros.1)) in
-      (
+      let zeros = norm_is_zero p t u h (a.low % p) (a.high % p) (mod-lt a.low positive) small z in n (pair_eq zeros.0 zeros.1)) in (
         pair ((a.low % p + u * (a.high % p)) * k.0 % p) ((p - a.high % p) * k.0 % p),
         sym (reduced_times a.low a.high ((a.low % p + u * (a.high % p)) * k.0 % p) ((p - a.high % p) * k.0 % p)) ∙ inverse_by (a.low % p) (a.high % p) k.0 (omega arith) k.1,
       )
@@ -147,7 +146,7 @@ module _ (p t u : ℕ) (h : is_square p t u ≡ true) where
         of_word_word = λ a v.
             let same : (a.low + p * a.high) % (p * p) ≡ a.low + p * a.high = mod-eq_of_lt (word_low a.low a.high (low_of_value a v) (high_of_value a v)) in
             pair_eq (ap (λ n. n % p) same ∙ (add-mul-mod_self_left a.low p a.high ∙ ap (λ x. x.low) v))
-                (ap (λ n. n / p) same ∙ (ap (λ n. n / p) (let e : a.low + p * a.high ≡ a.high * p + a.low = omega arith in e) ∙ div-mul-add a.high p a.low (low_of_value a v)));
+            (ap (λ n. n / p) same ∙ (ap (λ n. n / p) (let e : a.low + p * a.high ≡ a.high * p + a.low = omega arith in e) ∙ div-mul-add a.high p a.low (low_of_value a v)));
         word_of_word = λ w l. ap (λ n. n % p + p * (n / p)) (mod-eq_of_lt l) ∙ mod-add-div w p;
         word_zero = let e : 0 + p * 0 ≡ 0 = omega arith in e;
         word_one = let e : 1 + p * 0 ≡ 1 = omega arith in e;

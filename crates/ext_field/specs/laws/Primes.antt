@@ -19,7 +19,7 @@ square_cases P two three seven p t u h =
         let both = and_parts (nat_eq p q && nat_eq t a) (nat_eq u b) h in
         let parts = and_parts (nat_eq p q) (nat_eq t a) both.0 in
         subst (λ n. P n t u) (sym (eqb-true p q parts.0))
-            (subst (λ n. P q n u) (sym (eqb-true t a parts.1)) (subst (λ n. P q a n) (sym (eqb-true u b both.1)) v))
+        (subst (λ n. P q n u) (sym (eqb-true t a parts.1)) (subst (λ n. P q a n) (sym (eqb-true u b both.1)) v))
 
 pub square_listed : (p t u : ℕ) → is_square p t u ≡ true → is_listed p ≡ true
 square_listed = square_cases (λ p t u. is_listed p ≡ true) refl refl refl
@@ -55,7 +55,7 @@ no_root p t u x h e =
     let small = square_small p t u h in
     let low : x % p < p = mod-lt x (let s = small.0 in omega arith) in
     rootless_at p t u 7 (x % p) (square_cases (λ p t u. is_rootless p t u 7 ≡ true) refl refl refl p t u h) (let s = small.1 in omega arith)
-        (sym (mul-mod x x p) ∙ (e ∙ (sym (add-mod-mod t (u * x) p) ∙ (ap (λ n. (t + n) % p) (sym (mul-mod_second u x p)) ∙ add-mod-mod t (u * (x % p)) p))))
+    (sym (mul-mod x x p) ∙ (e ∙ (sym (add-mod-mod t (u * x) p) ∙ (ap (λ n. (t + n) % p) (sym (mul-mod_second u x p)) ∙ add-mod-mod t (u * (x % p)) p))))
 
 -- the fifth power modulo p
 abbrev pub fifth_power : ℕ → ℕ → ℕ
@@ -84,4 +84,4 @@ pub fifth_power_inverts : (p t u x : ℕ) → is_square p t u ≡ true → x < p
 fifth_power_inverts p t u x h l n =
     let small = (square_small p t u h).1 in
     inverted_at p 7 x (square_cases (λ p t u. is_inverted p 7 ≡ true) refl refl refl p t u h) (omega arith)
-        (λ z. n (sym (Rattle.std.proofs.Math.Nat.mod-eq_of_lt l) ∙ z))
+    (λ z. n (sym (Rattle.std.proofs.Math.Nat.mod-eq_of_lt l) ∙ z))
