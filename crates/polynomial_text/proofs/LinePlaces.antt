@@ -137,13 +137,3 @@ pub second_gives : (n first count second : ℕ) (word : List ℕ) (r : Option �
 second_gives n first count second word (Some i) different not_first inside at none = place_is n (Paired first count second) word i different inside.1 (second_name first count second i word inside.0 at)
 second_gives n first count second word None different not_first inside at none =
     no_place n (Paired first count second) word (λ i lt e. ⊎_elim (λ h. not_first i lt h.0 (h.1 ∙ ap (λ (k : ℕ). first ∷ decimal k) (omega arith))) (λ h. none refl i h.0 lt h.1) (paired_name first count second i word e))
-
--- a place that is found is one of the first n
-pub place_below : (n : ℕ) (names : Names) (word : List ℕ) (i : ℕ) → Some i ≡ place_of names n word → i < n
-unfolding place_of
-place_below zero names word i e = absurd cc
-place_below (suc n) names word i e =
-    elim (is_named (name_at names n) word) as (λ t. Some i ≡ cond t (Some n) (place_of names n word) → i < suc n) [
-      | true ↦ λ h. let same : i ≡ n = cc in omega arith
-      | false ↦ λ h. let lt = place_below n names word i h in omega arith
-    ] e

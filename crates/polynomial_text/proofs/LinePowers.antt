@@ -1,8 +1,7 @@
 -- Powers of a variable, and the degrees of products with them.
-use Rattle.std.proofs.Common.{◌≡◌, ℕ, zero, suc, ◌+◌, ◌*◌, ◌<◌, ◌≤◌, true, false, leb, List, [], ◌∷◌, ◌++◌, length, take, replicate, ◌-◌, refl, sym, ap, ◌∙◌, arith, Result, Ok, Err}
+use Rattle.std.proofs.Common.{◌≡◌, ℕ, zero, suc, ◌+◌, ◌*◌, ◌<◌, ◌≤◌, true, leb, List, [], ◌∷◌, ◌++◌, take, replicate, ◌-◌, false, refl, sym, ap, ◌∙◌, arith, Result, Ok, Err}
 use Rattle.std.specs.Result.{IfOk}
 use Rattle.std.proofs.lemmas.Bool.{leb-true, le-leb, lt-leb}
-use Rattle.std.proofs.lemmas.List.{length-append, length-replicate}
 use Rattle.monomial_order.specs.Monomial.{exponent, product, variable, IsTrimmed, IsMonomial}
 use Rattle.monomial_order.specs.laws.Monomial.{product-one, IsMonomial-product, product_fits}
 use Rattle.monomial_order.specs.MonomialOrder.{MonomialOrder, IsMonomialOrder}
@@ -10,19 +9,8 @@ use Rattle.monomial_order.specs.laws.Cofactors.{same_exponents}
 use Rattle.polynomials.specs.laws.ReducedBasis.{degree_one}
 use Rattle.monomial_order.specs.Limits.{degree_max}
 use Rattle.polynomial_text.specs.PolyLine.{power}
+use Rattle.polynomial_text.specs.laws.Powers.{powers, trimmed_power, power_monomial}
 use Rattle.polynomial_text.specs.LineReading.{low, IsSmallMonomial}
-
-abbrev pub powers : ℕ → ℕ → List ℕ
-powers i e = replicate i 0 ++ (e ∷ [])
-
-trimmed_powers : (i e : ℕ) → IsTrimmed (powers i (suc e))
-trimmed_powers zero e = λ h. absurd cc
-trimmed_powers (suc zero) e = λ h. absurd cc
-trimmed_powers (suc (suc i)) e = trimmed_powers (suc i) e
-
-trimmed_power : (i e : ℕ) → IsTrimmed (power i e)
-trimmed_power i zero = tt
-trimmed_power i (suc e) = trimmed_powers i e
 
 no_exponents : (i j : ℕ) → exponent (powers i 0) j ≡ 0
 no_exponents zero zero = refl
@@ -36,13 +24,6 @@ power_exponents i (suc e) j = refl
 
 pub power_is : (i e : ℕ) (m : List ℕ) → IsTrimmed m → ((j : ℕ) → exponent m j ≡ exponent (powers i e) j) → m ≡ power i e
 power_is i e m trimmed same = same_exponents m (power i e) trimmed (trimmed_power i e) (λ j. same j ∙ power_exponents i e j)
-
-length_powers : (i e : ℕ) → length (powers i e) ≡ suc i
-length_powers i e = omega (arith, length-append (replicate i 0) (e ∷ []), length-replicate {A = ℕ} i 0)
-
-pub power_monomial : (n i e : ℕ) → i < n → IsMonomial n (power i e)
-power_monomial n i zero lt = record { trimmed = tt; within = omega arith }
-power_monomial n i (suc e) lt = record { trimmed = trimmed_powers i e; within = omega (arith, length_powers i (suc e)) }
 
 product_powers : (i a b : ℕ) → product (powers i a) (powers i b) ≡ powers i (a + b)
 product_powers zero a b = refl

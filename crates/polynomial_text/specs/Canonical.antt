@@ -20,7 +20,8 @@ pub record AreDifferent (n : ℕ) (names : Names) : Type 0 where
   pub form : (i : ℕ) → i < n → IfSome (name_at names i) (λ name. has_name_form name ≡ true)
   pub differ : (i j : ℕ) → i < n → j < n → IsSome (name_at names i) → name_at names i ≡ name_at names j → i ≡ j
 
--- the line is the canonical text of the polynomial, which falls in the order, has a name for each place, and is low
+-- the line is the canonical text of the polynomial, which is canonical in the order, has names for its variables, and
+-- has degrees of at most degree_max
 pub record IsCanonicalText {E : Type 0} (K : FieldOps E) (O : MonomialOrder) (names : Names) (line : List ℕ) (p : Polynomial E) : Type 0 where
   pub canonical : IsCanonical K O p
   pub named : AreNamed names p

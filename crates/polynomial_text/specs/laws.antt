@@ -4,3 +4,6 @@ pub mod CanonicalPoly
 pub mod CanonicalTerms
 pub mod Fronts
 pub mod Names
+pub mod Powers
+pub mod ReadTerms
+pub mod Steps

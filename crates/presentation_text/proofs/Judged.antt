@@ -1,12 +1,12 @@
 -- What is judged on a sum of terms is so for the polynomial that is the sum.
-use Rattle.std.proofs.Common.{◌≡◌, ◌≢◌, inl, inr, ℕ, ◌≤◌, Bool, true, false, not, cond, eqb, List, [], ◌∷◌, map, filter, Ok, Err, refl, sym, ap, subst, ◌∙◌, arith, eq-eqb}
+use Rattle.std.proofs.Common.{◌≡◌, ◌≢◌, ◌⊎◌, inl, inr, ℕ, ◌≤◌, Bool, true, false, not, cond, eqb, List, [], ◌∷◌, map, filter, Ok, Err, refl, sym, ap, subst, ◌∙◌, arith, eq-eqb}
 use Rattle.std.specs.List.{list_all, list_any, AllByRecursion}
 use Rattle.std.proofs.lemmas.Bool.{and_parts, or_parts, eqb-true, false_from_ne_true, not-true, not_from_false, true≢false}
 use Rattle.word_field.specs.Residues.{residues, is_listed}
 use Rattle.word_field.specs.laws.Residues.{residues_field}
 use Rattle.monomial_order.specs.declared.terms.Term.{Term}
 use Rattle.monomial_order.specs.MonomialOrder.{MonomialOrder, IsMonomialOrder}
-use Rattle.polynomials.specs.Polynomial.{Polynomial, coefficient, Same, AllAt, IsCanonical, IsDegree, IsZeroOrHomogeneous}
+use Rattle.polynomials.specs.Polynomial.{Polynomial, coefficient, Same, AllAt, IsCanonical, IsDecreasing, IsDegree, IsHomogeneous, IsZeroOrHomogeneous}
 use Rattle.polynomials.specs.laws.Decreasing.{coefficient_first}
 use Rattle.polynomials.specs.laws.Degrees.{all_found}
 use Rattle.poly_core.specs.Presentation.{IsCanonicalGenerator}
@@ -45,39 +45,39 @@ zero_none (d ∷ ds) h =
     (λ z. true≢false (sym (eq-eqb d 0 z) ∙ k.0), zero_none ds k.1)
 
 module _ (n : ℕ) (listed : is_listed n ≡ true) (O : MonomialOrder) (L : IsMonomialOrder O) (sum : Polynomial ℕ) where
-  -- the monomial has a coefficient in the sum
-  abbrev stands : Term ℕ → Bool
-  stands t = not (eqb (coefficient (residues n) sum t.at) 0)
+  -- the coefficient of the sum at the monomial is not zero
+  abbrev has_coefficient : Term ℕ → Bool
+  has_coefficient t = not (eqb (coefficient (residues n) sum t.at) 0)
 
-  stays : (t : Term ℕ) → coefficient (residues n) sum t.at ≢ 0 → stands t ≡ true
-  stays t h = not_from_false _ (false_from_ne_true (eqb (coefficient (residues n) sum t.at) 0) (λ e. h (eqb-true _ 0 e)))
+  coefficient_found : (t : Term ℕ) → coefficient (residues n) sum t.at ≢ 0 → has_coefficient t ≡ true
+  coefficient_found t h = not_from_false _ (false_from_ne_true (eqb (coefficient (residues n) sum t.at) 0) (λ e. h (eqb-true _ 0 e)))
 
-  stood : (t : Term ℕ) → stands t ≡ true → coefficient (residues n) sum t.at ≢ 0
-  stood t h z = true≢false (sym (eq-eqb _ 0 z) ∙ not-true _ h)
+  found_coefficient : (t : Term ℕ) → has_coefficient t ≡ true → coefficient (residues n) sum t.at ≢ 0
+  found_coefficient t h z = true≢false (sym (eq-eqb _ 0 z) ∙ not-true _ h)
 
   -- what holds of each degree holds of the degree of each monomial with a coefficient
   every : (Q : ℕ → Type 0) → AllByRecursion Q (degrees n O sum) → (m : List ℕ) → coefficient (residues n) sum m ≢ 0 → Q (O.degree m)
   every Q all m c = all_found (residues n) (residues_field n listed) O L (λ k. coefficient (residues n) sum k ≢ 0 → Q (O.degree k)) sum (each sum all) m c c
     where
-      each : (q : Polynomial ℕ) → AllByRecursion Q (map (λ t. O.degree t.at) (filter stands q)) → AllAt (λ k. coefficient (residues n) sum k ≢ 0 → Q (O.degree k)) q
+      each : (q : Polynomial ℕ) → AllByRecursion Q (map (λ t. O.degree t.at) (filter has_coefficient q)) → AllAt (λ k. coefficient (residues n) sum k ≢ 0 → Q (O.degree k)) q
       each [] h = tt
-      each (t ∷ q) h = by (stands t) refl (each q) h
+      each (t ∷ q) h = by (has_coefficient t) refl (each q) h
         where
-          by : (b : Bool) → stands t ≡ b → (AllByRecursion Q (map (λ t. O.degree t.at) (filter stands q)) → AllAt (λ k. coefficient (residues n) sum k ≢ 0 → Q (O.degree k)) q)
-              → AllByRecursion Q (map (λ t. O.degree t.at) (cond b (t ∷ filter stands q) (filter stands q))) → (coefficient (residues n) sum t.at ≢ 0 → Q (O.degree t.at)) × AllAt (λ k. coefficient (residues n) sum k ≢ 0 → Q (O.degree k)) q
+          by : (b : Bool) → has_coefficient t ≡ b → (AllByRecursion Q (map (λ t. O.degree t.at) (filter has_coefficient q)) → AllAt (λ k. coefficient (residues n) sum k ≢ 0 → Q (O.degree k)) q)
+              → AllByRecursion Q (map (λ t. O.degree t.at) (cond b (t ∷ filter has_coefficient q) (filter has_coefficient q))) → (coefficient (residues n) sum t.at ≢ 0 → Q (O.degree t.at)) × AllAt (λ k. coefficient (residues n) sum k ≢ 0 → Q (O.degree k)) q
           by true is rest k = (λ c. k.0, rest k.1)
-          by false is rest k = (λ c. let yes : true ≡ false = sym (stays t c) ∙ is in absurd cc, rest k)
+          by false is rest k = (λ c. let yes : true ≡ false = sym (coefficient_found t c) ∙ is in absurd cc, rest k)
 
   -- and the other way round
   of_each : (Q : ℕ → Type 0) → ((m : List ℕ) → coefficient (residues n) sum m ≢ 0 → Q (O.degree m)) → AllByRecursion Q (degrees n O sum)
   of_each Q each = along sum
     where
-      along : (q : Polynomial ℕ) → AllByRecursion Q (map (λ t. O.degree t.at) (filter stands q))
+      along : (q : Polynomial ℕ) → AllByRecursion Q (map (λ t. O.degree t.at) (filter has_coefficient q))
       along [] = tt
-      along (t ∷ q) = by (stands t) refl (along q)
+      along (t ∷ q) = by (has_coefficient t) refl (along q)
         where
-          by : (b : Bool) → stands t ≡ b → AllByRecursion Q (map (λ t. O.degree t.at) (filter stands q)) → AllByRecursion Q (map (λ t. O.degree t.at) (cond b (t ∷ filter stands q) (filter stands q)))
-          by true is rest = (each t.at (stood t is), rest)
+          by : (b : Bool) → has_coefficient t ≡ b → AllByRecursion Q (map (λ t. O.degree t.at) (filter has_coefficient q)) → AllByRecursion Q (map (λ t. O.degree t.at) (cond b (t ∷ filter has_coefficient q) (filter has_coefficient q)))
+          by true is rest = (each t.at (found_coefficient t is), rest)
           by false is rest = rest
 
   module _ (p : Polynomial ℕ) (s : Same (residues n) p sum) where
@@ -137,6 +137,25 @@ module _ (n : ℕ) (listed : is_listed n ≡ true) (O : MonomialOrder) (L : IsMo
           | false ↦ λ e. absurd (every (λ k. k ≢ 0) (zero_none (degrees n O sum) e) greatest.some.0 (in_sum greatest.some.0 greatest.some.1) (greatest.some.2 ∙ zero))
         ] refl in
         rw (one_degree same, there) refl
+
+    -- ---- what passes
+
+    none_left : (q : Polynomial ℕ) → IsDecreasing (residues n) O q → Same (residues n) q [] → q ≡ []
+    unfolding coefficient
+    none_left [] h none = refl
+    none_left (t ∷ q) h none = absurd (h.0.nonzero (sym (coefficient_first (residues n) (residues_field n listed) O L t q h.0) ∙ none t.at))
+
+    pub passed_generator : IsCanonical (residues n) O p → IsLow O sum → is_one_degree (degrees n O sum) ≡ true → list_any (λ d. eqb d 0) (degrees n O sum) ≡ false → IsCanonicalGenerator (residues n) O p
+    passed_generator canonical low one positive = record { canonical = canonical; homogeneous = by (is_homogeneous canonical one) }
+      where
+        by : IsZeroOrHomogeneous (residues n) O p → (p ≡ []) ⊎ ((d : ℕ) × (1 ≤ d) × (d ≤ degree_max) × IsHomogeneous (residues n) O d p)
+        by (inl none) = inl (none_left p canonical.decreasing none)
+        by (inr (d, same)) =
+            let at : O.degree same.some.0 ≡ d = same.each same.some.0 same.some.1 in
+            let there = in_sum same.some.0 same.some.1 in
+            let nonzero : O.degree same.some.0 ≢ 0 = every (λ k. k ≢ 0) (zero_none (degrees n O sum) positive) same.some.0 there in
+            let top : O.degree same.some.0 ≤ degree_max = all_found (residues n) (residues_field n listed) O L (λ m. O.degree m ≤ degree_max) sum low same.some.0 there in
+            inr (d, omega (arith, nonzero, at), omega (arith, top, at), same)
 
 -- ---- generators
 

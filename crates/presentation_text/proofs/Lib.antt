@@ -9,6 +9,9 @@ pub mod NextLines
 pub mod NextPolys
 pub mod PolyLines
 pub mod QueryTexts
+pub mod ReadHeads
+pub mod ReadLists
+pub mod ReadWhole
 pub mod ReadingLaws
 pub mod TableNames
 pub mod TakenTokens

@@ -19,7 +19,7 @@ pub content_step : (n : ℕ) (w rest : List ℕ) → IsOneLine w → is_skipped 
 unfolding content_lines
 content_step n w rest h d = rw (lines_step w rest h, d) refl
 
--- the next due line is read, and the text behind it is left
+-- the next line, if it is not skipped, is read, and the text behind it is left
 pub next_line : {A : Type 0} (last n : ℕ) (f : List ℕ → Result A TextKind) (a : A) (w rest : List ℕ) → IsOneLine w → is_skipped w ≡ false → f w ≡ Ok a →
     next last f (content_lines n (lines (w ++ 10 ∷ rest))) ≡ Ok (a, content_lines (suc n) (lines rest))
 unfolding next at_line

@@ -8,5 +8,6 @@ pub mod Numbers
 pub mod Pending
 pub mod PolySums
 pub mod PresentationText
+pub mod Presenting
 pub mod Reading
 pub mod Taking

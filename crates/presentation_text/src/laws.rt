@@ -3,7 +3,8 @@ ghost use Rattle.std.specs.Prelude.{◌≡◌, ◌<◌, ℕ, List, length, None,
 ghost use Rattle.word_field.specs.Residues.{residues};
 ghost use Rattle.poly_core.specs.Presentation.{IsValid, IsSame, weight_order_of};
 ghost use Rattle.presentation_text.specs.Kinds.{Fault};
-ghost use Rattle.presentation_text.specs.Reading.{reading};
+ghost use Rattle.presentation_text.specs.Presenting.{IsPresented, IsFromReading};
+ghost use Rattle.presentation_text.specs.Reading.{Reading, reading};
 ghost use Rattle.presentation_text.specs.Meaning.{text_max, IsRead, IsTextOf};
 
 use crate::TEXT_MAX;
@@ -32,6 +33,17 @@ pub fn one_reading()
 pub fn one_outcome()
     ensures { (p : Presentation WordField WeightOrder ℕ) (text : List ℕ) (fault : Fault) →
         IsRead text p → reading text ≡ Err fault → ⊥ }
+{}
+
+/// What a text is read as is a presentation.
+pub fn reading_is_presented()
+    ensures { (text : List ℕ) (r : Reading) → reading text ≡ Ok r → IsPresented r }
+{}
+
+/// Each presentation that is made of a reading is valid, and the text presents it.
+pub fn reading_is_valid()
+    ensures { (text : List ℕ) (r : Reading) (p : Presentation WordField WeightOrder ℕ) →
+        reading text ≡ Ok r → IsFromReading r p → IsRead text p }
 {}
 
 /// What is read of the canonical text of a presentation is that presentation.

@@ -57,7 +57,7 @@ fn generator_degree(h: &Head, p: &Poly<WordField>) -> u32
     }
 }
 
-/// The order of the tokens in the generators.
+/// The order of the words in the generators.
 fn gen_order(alloc: Global, h: &Head, generators: &[Poly<WordField>]) -> Result<WordOrder, Memory>
     requires { AreCanonicalGenerators (field_in h.now) (order_in h.now) generators.now }
     ensures x { IfOk result (λ o. o.x_degrees.items ≡ []) }

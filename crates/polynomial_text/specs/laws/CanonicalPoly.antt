@@ -77,9 +77,9 @@ module _ {E : Type 0} (K : FieldOps E) (O : MonomialOrder) (names : Names) where
 
 module _ {E : Type 0} (K : FieldOps E) (F : IsField K) (few : K.size ≤ 2 ^ 32) (O : MonomialOrder) (L : IsMonomialOrder O) (names : Names) (D : AreDifferent O.places names) where
   texts : (p : Polynomial E) → IsDecreasing K O p → AreNamed names p → IsLow O p → AreTexts K O names p
-  texts [] falls named small = tt
-  texts (t ∷ p) falls named small =
-      (text_of_term K F few O L names D t (record { term = falls.0.term; named = named.0; small = small.0 }), texts p falls.1 named.1 small.1)
+  texts [] decreasing named small = tt
+  texts (t ∷ p) decreasing named small =
+      (text_of_term K F few O L names D t (record { term = decreasing.0.term; named = named.0; small = small.0 }), texts p decreasing.1 named.1 small.1)
 
   -- zero is written as its constant
   zero_text : IsTextOfTerm K O names (term_text K names (term_of [] K.zero)) (term_of [] K.zero)

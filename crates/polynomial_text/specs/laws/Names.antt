@@ -1,5 +1,5 @@
 -- Names of places: which place has a name, the bytes of names, and lists of different names.
-use Rattle.std.proofs.Common.{◌≡◌, ℕ, zero, suc, ◌<◌, ◌≤◌, true, false, List, [], ◌∷◌, Option, Some, None, refl, sym, ap, ◌∙◌, ⊎_elim, arith}
+use Rattle.std.proofs.Common.{◌≡◌, ℕ, zero, suc, ◌<◌, ◌≤◌, true, false, cond, List, [], ◌∷◌, Option, Some, None, refl, sym, ap, ◌∙◌, ⊎_elim, arith}
 use Rattle.std.specs.Prelude.{slice_get, IfSome, IsSome}
 use Rattle.std.specs.List.{list_all, AllByRecursion, IsDistinct}
 use Rattle.std.specs.Str.{bytes_eq, IsAscii, IsUtf8}
@@ -40,6 +40,16 @@ module _ (places : ℕ) (names : Names) (D : AreDifferent places names) where
       ne (D.differ n i (omega arith) (omega arith) (is_some (name_at names n) name same) (same ∙ sym at))) in
       rw missed (place_found n i name (omega arith) (omega arith) at))
       (cases_eq n i)
+
+-- a place that is found is one of the first n
+pub place_below : (n : ℕ) (names : Names) (word : List ℕ) (i : ℕ) → Some i ≡ place_of names n word → i < n
+unfolding place_of
+place_below zero names word i e = absurd cc
+place_below (suc n) names word i e =
+    elim (is_named (name_at names n) word) as (λ t. Some i ≡ cond t (Some n) (place_of names n word) → i < suc n) [
+      | true ↦ λ h. let same : i ≡ n = cc in omega arith
+      | false ↦ λ h. let lt = place_below n names word i h in omega arith
+    ] e
 
 -- ---- the bytes of names
 

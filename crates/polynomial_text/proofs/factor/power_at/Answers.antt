@@ -1,6 +1,6 @@
 use Rattle.std.proofs.Common.{arith, sym, subst, ◌∙◌}
 use Rattle.word_field.specs.Field.{IsValue}
-use Rattle.polynomial_text.proofs.LinePlaces.{place_below}
+use Rattle.polynomial_text.specs.laws.Names.{place_below}
 use Rattle.polynomial_text.proofs.factor.power_at.Goals as goal
 
 pub returns-clause-factor : goal.returns-clause-factor

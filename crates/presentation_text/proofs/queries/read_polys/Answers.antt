@@ -22,8 +22,8 @@ pub loop-line-preserved : goal.loop-line-preserved
 loop-line-preserved g c =
     rw (rw c.in_ok-push.was at c.push.ensures.items)
     (come_next (g.F.Field.ops c.args.p.now.field) (weight_order_of c.args.p.now.order) c.args.p.now.names c.in-Ok.line.number c.in-Ok.line.bytes.now c.loop-line.lines.left c.next_line.new.self.left c.args.bytes.now c.loop-line.polys.items c.in_ok-poly.poly c.in-Ok.ensures.line c.loop-line.invariant
-    (located_ok (IsPolyOf (g.F.Field.ops c.args.p.now.field) (weight_order_of c.args.p.now.order) c.args.p.now.names c.in-Ok.line.bytes.now) c.in-Ok.line.number c.poly_of_line-read.result c.in_ok-poly.poly c.in_ok-poly.ensures c.poly_of_line-read.ensures.read)
-    (located_ok (IsLow (weight_order_of c.args.p.now.order)) c.in-Ok.line.number c.poly_of_line-read.result c.in_ok-poly.poly c.in_ok-poly.ensures c.poly_of_line-read.ensures.low))
+    (located_ok (IsPolyOf (g.F.Field.ops c.args.p.now.field) (weight_order_of c.args.p.now.order) c.args.p.now.names c.in-Ok.line.bytes.now) _ c.poly_of_line-read.result c.in_ok-poly.poly c.in_ok-poly.ensures c.poly_of_line-read.ensures.read)
+    (located_ok (IsLow (weight_order_of c.args.p.now.order)) _ c.poly_of_line-read.result c.in_ok-poly.poly c.in_ok-poly.ensures c.poly_of_line-read.ensures.low))
 
 pub returns-clause-accepted : goal.returns-clause-accepted
 returns-clause-accepted g c =
