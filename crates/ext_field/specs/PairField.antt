@@ -1,5 +1,5 @@
 -- The fields of p*p elements: pairs of numbers below p, and the sizes for which there is such a field.
-use Rattle.std.specs.Prelude.{ℕ, ◌+◌, ◌-◌, ◌*◌, ◌/◌, ◌%◌, Bool, ◌||◌, ◌&&◌}
+use Rattle.std.specs.Prelude.{ℕ, ◌+◌, ◌-◌, ◌*◌, ◌/◌, ◌%◌, Bool, ◌||◌, ◌&&◌, if◌then◌else◌}
 use Rattle.std.specs.Bool.{◌==◌}
 use Rattle.word_field.specs.Field.{FieldOps}
 use Rattle.ext_field.specs.declared.pair.Pair.{Pair}
@@ -26,6 +26,10 @@ pairs p t u = record {
 -- the primes, each with its t and u
 abbrev pub is_square : ℕ → ℕ → ℕ → Bool
 is_square p t u = p == 2 && t == 1 && u == 1 || p == 3 && t == 2 && u == 0 || p == 7 && t == 6 && u == 0
+
+-- the operations of the field of a size
+abbrev pub pairs_of : ℕ → FieldOps Pair
+pairs_of q = if q == 4 then pairs 2 1 1 else if q == 9 then pairs 3 2 0 else pairs 7 6 0
 
 -- the sizes of these fields
 abbrev pub is_pair_size : ℕ → Bool

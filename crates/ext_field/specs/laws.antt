@@ -3,3 +3,4 @@ pub mod Equal
 pub mod Norms
 pub mod Pairs
 pub mod Primes
+pub mod Sizes
