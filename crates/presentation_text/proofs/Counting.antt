@@ -1,5 +1,6 @@
 -- Counted polynomials.
 use Rattle.std.proofs.Common.{◌≡◌, ℕ, ◌≤◌, List, Ok, refl}
+use Rattle.word_field.specs.Field.{FieldOps}
 use Rattle.presentation_text.specs.declared.text_fault.TextFault.{TextFault}
 use Rattle.presentation_text.specs.declared.text_fault.TextFault.TheVariants as faults
 use Rattle.presentation_text.specs.declared.text_kind.TextKind.{TextKind}
@@ -12,12 +13,12 @@ use Rattle.presentation_text.specs.Meaning.{IsFaultOf}
 use Rattle.presentation_text.proofs.NextLines.{next_was}
 use Rattle.presentation_text.proofs.TakenTokens.{bind_some, number_between, or_fault_ok}
 
-module _ (last : ℕ) (h : Head) (key : List ℕ) (constant : TextKind) (ls : List Line) where
-  pub counted_is : (n : ℕ) (rest : List Line) → next last (count_line key) ls ≡ Ok (n, rest) → counted last h key constant ls ≡ several last (poly_line h constant) n rest
+module _ {E : Type 0} (K : FieldOps E) (last : ℕ) (h : Head) (key : List ℕ) (constant : TextKind) (ls : List Line) where
+  pub counted_is : (n : ℕ) (rest : List Line) → next last (count_line key) ls ≡ Ok (n, rest) → counted K last h key constant ls ≡ several last (poly_line K h constant) n rest
   unfolding counted
   counted_is n rest e = rw e refl
 
-  pub counted_err : (e : TextFault) → IsFaultOf (next last (count_line key) ls) e → IsFaultOf (counted last h key constant ls) e
+  pub counted_err : (e : TextFault) → IsFaultOf (next last (count_line key) ls) e → IsFaultOf (counted K last h key constant ls) e
   unfolding counted
   counted_err faults.Memory h = tt
   counted_err (faults.At kind line) h = rw h refl

@@ -2,8 +2,9 @@
 use Rattle.std.proofs.Common.{◌≡◌, ◌≢◌, ◌⊎◌, inl, inr, ℕ, ◌≤◌, Bool, true, false, not, cond, eqb, List, [], ◌∷◌, map, filter, Ok, Err, refl, sym, ap, subst, ◌∙◌, arith, eq-eqb}
 use Rattle.std.specs.List.{list_all, list_any, AllByRecursion}
 use Rattle.std.proofs.lemmas.Bool.{and_parts, or_parts, eqb-true, false_from_ne_true, not-true, not_from_false, true≢false}
-use Rattle.word_field.specs.Residues.{residues, is_listed}
-use Rattle.word_field.specs.laws.Residues.{residues_field}
+use Rattle.word_field.specs.Field.{FieldOps, IsField}
+use Rattle.word_field.specs.laws.Field.{word_unique}
+use Rattle.polynomials.specs.laws.Ring.{coefficient_value}
 use Rattle.monomial_order.specs.declared.terms.Term.{Term}
 use Rattle.monomial_order.specs.MonomialOrder.{MonomialOrder, IsMonomialOrder}
 use Rattle.polynomials.specs.Polynomial.{Polynomial, coefficient, Same, AllAt, IsCanonical, IsDecreasing, IsDegree, IsHomogeneous, IsZeroOrHomogeneous}
@@ -44,35 +45,37 @@ zero_none (d ∷ ds) h =
     let k = or_parts (eqb d 0) (list_any (λ e. eqb e 0) ds) h in
     (λ z. true≢false (sym (eq-eqb d 0 z) ∙ k.0), zero_none ds k.1)
 
-module _ (n : ℕ) (listed : is_listed n ≡ true) (O : MonomialOrder) (L : IsMonomialOrder O) (sum : Polynomial ℕ) where
+module _ {E : Type 0} (K : FieldOps E) (F : IsField K) (O : MonomialOrder) (L : IsMonomialOrder O) (sum : Polynomial E) where
   -- the coefficient of the sum at the monomial is not zero
-  abbrev has_coefficient : Term ℕ → Bool
-  has_coefficient t = not (eqb (coefficient (residues n) sum t.at) 0)
+  abbrev has_coefficient : Term E → Bool
+  has_coefficient t = not (eqb (K.word (coefficient K sum t.at)) 0)
 
-  coefficient_found : (t : Term ℕ) → coefficient (residues n) sum t.at ≢ 0 → has_coefficient t ≡ true
-  coefficient_found t h = not_from_false _ (false_from_ne_true (eqb (coefficient (residues n) sum t.at) 0) (λ e. h (eqb-true _ 0 e)))
+  coefficient_found : (t : Term E) → coefficient K sum t.at ≢ K.zero → has_coefficient t ≡ true
+  coefficient_found t h =
+      not_from_false _ (false_from_ne_true (eqb (K.word (coefficient K sum t.at)) 0)
+      (λ e. h (word_unique K F (coefficient K sum t.at) K.zero (coefficient_value K F sum t.at) F.zero_value (eqb-true _ 0 e ∙ sym F.word_zero))))
 
-  found_coefficient : (t : Term ℕ) → has_coefficient t ≡ true → coefficient (residues n) sum t.at ≢ 0
-  found_coefficient t h z = true≢false (sym (eq-eqb _ 0 z) ∙ not-true _ h)
+  found_coefficient : (t : Term E) → has_coefficient t ≡ true → coefficient K sum t.at ≢ K.zero
+  found_coefficient t h z = true≢false (sym (eq-eqb _ 0 (ap K.word z ∙ F.word_zero)) ∙ not-true _ h)
 
   -- what holds of each degree holds of the degree of each monomial with a coefficient
-  every : (Q : ℕ → Type 0) → AllByRecursion Q (degrees n O sum) → (m : List ℕ) → coefficient (residues n) sum m ≢ 0 → Q (O.degree m)
-  every Q all m c = all_found (residues n) (residues_field n listed) O L (λ k. coefficient (residues n) sum k ≢ 0 → Q (O.degree k)) sum (each sum all) m c c
+  every : (Q : ℕ → Type 0) → AllByRecursion Q (degrees K O sum) → (m : List ℕ) → coefficient K sum m ≢ K.zero → Q (O.degree m)
+  every Q all m c = all_found K F O L (λ k. coefficient K sum k ≢ K.zero → Q (O.degree k)) sum (each sum all) m c c
     where
-      each : (q : Polynomial ℕ) → AllByRecursion Q (map (λ t. O.degree t.at) (filter has_coefficient q)) → AllAt (λ k. coefficient (residues n) sum k ≢ 0 → Q (O.degree k)) q
+      each : (q : Polynomial E) → AllByRecursion Q (map (λ t. O.degree t.at) (filter has_coefficient q)) → AllAt (λ k. coefficient K sum k ≢ K.zero → Q (O.degree k)) q
       each [] h = tt
       each (t ∷ q) h = by (has_coefficient t) refl (each q) h
         where
-          by : (b : Bool) → has_coefficient t ≡ b → (AllByRecursion Q (map (λ t. O.degree t.at) (filter has_coefficient q)) → AllAt (λ k. coefficient (residues n) sum k ≢ 0 → Q (O.degree k)) q)
-              → AllByRecursion Q (map (λ t. O.degree t.at) (cond b (t ∷ filter has_coefficient q) (filter has_coefficient q))) → (coefficient (residues n) sum t.at ≢ 0 → Q (O.degree t.at)) × AllAt (λ k. coefficient (residues n) sum k ≢ 0 → Q (O.degree k)) q
+          by : (b : Bool) → has_coefficient t ≡ b → (AllByRecursion Q (map (λ t. O.degree t.at) (filter has_coefficient q)) → AllAt (λ k. coefficient K sum k ≢ K.zero → Q (O.degree k)) q)
+              → AllByRecursion Q (map (λ t. O.degree t.at) (cond b (t ∷ filter has_coefficient q) (filter has_coefficient q))) → (coefficient K sum t.at ≢ K.zero → Q (O.degree t.at)) × AllAt (λ k. coefficient K sum k ≢ K.zero → Q (O.degree k)) q
           by true is rest k = (λ c. k.0, rest k.1)
           by false is rest k = (λ c. let yes : true ≡ false = sym (coefficient_found t c) ∙ is in absurd cc, rest k)
 
   -- and the other way round
-  of_each : (Q : ℕ → Type 0) → ((m : List ℕ) → coefficient (residues n) sum m ≢ 0 → Q (O.degree m)) → AllByRecursion Q (degrees n O sum)
+  of_each : (Q : ℕ → Type 0) → ((m : List ℕ) → coefficient K sum m ≢ K.zero → Q (O.degree m)) → AllByRecursion Q (degrees K O sum)
   of_each Q each = along sum
     where
-      along : (q : Polynomial ℕ) → AllByRecursion Q (map (λ t. O.degree t.at) (filter has_coefficient q))
+      along : (q : Polynomial E) → AllByRecursion Q (map (λ t. O.degree t.at) (filter has_coefficient q))
       along [] = tt
       along (t ∷ q) = by (has_coefficient t) refl (along q)
         where
@@ -80,92 +83,92 @@ module _ (n : ℕ) (listed : is_listed n ≡ true) (O : MonomialOrder) (L : IsMo
           by true is rest = (each t.at (found_coefficient t is), rest)
           by false is rest = rest
 
-  module _ (p : Polynomial ℕ) (s : Same (residues n) p sum) where
-    in_poly : (m : List ℕ) → coefficient (residues n) sum m ≢ 0 → coefficient (residues n) p m ≢ 0
+  module _ (p : Polynomial E) (s : Same K p sum) where
+    in_poly : (m : List ℕ) → coefficient K sum m ≢ K.zero → coefficient K p m ≢ K.zero
     in_poly m c z = c (sym (s m) ∙ z)
 
-    in_sum : (m : List ℕ) → coefficient (residues n) p m ≢ 0 → coefficient (residues n) sum m ≢ 0
+    in_sum : (m : List ℕ) → coefficient K p m ≢ K.zero → coefficient K sum m ≢ K.zero
     in_sum m c z = c (s m ∙ z)
 
-    one_degree : IsZeroOrHomogeneous (residues n) O p → is_one_degree (degrees n O sum) ≡ true
+    one_degree : IsZeroOrHomogeneous K O p → is_one_degree (degrees K O sum) ≡ true
     unfolding coefficient
-    one_degree (inl none) = all_one 0 (degrees n O sum) (of_each (λ e. e ≡ 0) (λ m c. absurd (in_poly m c (none m))))
-    one_degree (inr (d, same)) = all_one d (degrees n O sum) (of_each (λ e. e ≡ d) (λ m c. same.each m (in_poly m c)))
+    one_degree (inl none) = all_one 0 (degrees K O sum) (of_each (λ e. e ≡ 0) (λ m c. absurd (in_poly m c (none m))))
+    one_degree (inr (d, same)) = all_one d (degrees K O sum) (of_each (λ e. e ≡ d) (λ m c. same.each m (in_poly m c)))
 
-    is_homogeneous : IsCanonical (residues n) O p → is_one_degree (degrees n O sum) ≡ true → IsZeroOrHomogeneous (residues n) O p
-    is_homogeneous canonical e = let one = one_of (degrees n O sum) e in by p canonical refl one.0 (λ m c. every (λ k. k ≡ one.0) one.1 m (in_sum m c))
+    is_homogeneous : IsCanonical K O p → is_one_degree (degrees K O sum) ≡ true → IsZeroOrHomogeneous K O p
+    is_homogeneous canonical e = let one = one_of (degrees K O sum) e in by p canonical refl one.0 (λ m c. every (λ k. k ≡ one.0) one.1 m (in_sum m c))
       where
-        by : (q : Polynomial ℕ) → IsCanonical (residues n) O q → q ≡ p → (d : ℕ) → ((m : List ℕ) → coefficient (residues n) p m ≢ 0 → O.degree m ≡ d) → IsZeroOrHomogeneous (residues n) O p
-        by [] k same d each = inl (λ m. ap (λ (r : Polynomial ℕ). coefficient (residues n) r m) (sym same))
+        by : (q : Polynomial E) → IsCanonical K O q → q ≡ p → (d : ℕ) → ((m : List ℕ) → coefficient K p m ≢ K.zero → O.degree m ≡ d) → IsZeroOrHomogeneous K O p
+        by [] k same d each = inl (λ m. ap (λ (r : Polynomial E). coefficient K r m) (sym same))
         by (t ∷ q) k same d each =
-            let first : coefficient (residues n) (t ∷ q) t.at ≢ 0 = λ z. k.decreasing.0.nonzero (sym (coefficient_first (residues n) (residues_field n listed) O L t q k.decreasing.0) ∙ z) in
-            inr (d, record { some = (t.at, subst (λ (r : Polynomial ℕ). coefficient (residues n) r t.at ≢ 0) same first); each = each })
+            let first : coefficient K (t ∷ q) t.at ≢ K.zero = λ z. k.decreasing.0.nonzero (sym (coefficient_first K F O L t q k.decreasing.0) ∙ z) in
+            inr (d, record { some = (t.at, subst (λ (r : Polynomial E). coefficient K r t.at ≢ K.zero) same first); each = each })
 
-    pub judged_mixed : (constant : TextKind) → IsCanonical (residues n) O p → (IsZeroOrHomogeneous (residues n) O p → ⊥) → judged n O constant sum ≡ Err NotHomogeneous
+    pub judged_mixed : (constant : TextKind) → IsCanonical K O p → (IsZeroOrHomogeneous K O p → ⊥) → judged K O constant sum ≡ Err NotHomogeneous
     unfolding judged
     judged_mixed constant canonical mixed =
-        let other : is_one_degree (degrees n O sum) ≡ false =
-        elim (is_one_degree (degrees n O sum)) as (λ b. is_one_degree (degrees n O sum) ≡ b → b ≡ false) [ true ↦ λ e. absurd (mixed (is_homogeneous canonical e)) | false ↦ λ e. refl ] refl in
+        let other : is_one_degree (degrees K O sum) ≡ false =
+        elim (is_one_degree (degrees K O sum)) as (λ b. is_one_degree (degrees K O sum) ≡ b → b ≡ false) [ true ↦ λ e. absurd (mixed (is_homogeneous canonical e)) | false ↦ λ e. refl ] refl in
         rw other refl
 
-    judged_ok : (constant : TextKind) → is_one_degree (degrees n O sum) ≡ true → AllByRecursion (λ e. e ≢ 0) (degrees n O sum) → judged n O constant sum ≡ Ok sum
+    judged_ok : (constant : TextKind) → is_one_degree (degrees K O sum) ≡ true → AllByRecursion (λ e. e ≢ 0) (degrees K O sum) → judged K O constant sum ≡ Ok sum
     unfolding judged
-    judged_ok constant one positive = rw (one, none_zero (degrees n O sum) positive) refl
+    judged_ok constant one positive = rw (one, none_zero (degrees K O sum) positive) refl
 
-    pub judged_zero : (constant : TextKind) → p ≡ [] → judged n O constant sum ≡ Ok sum
+    pub judged_zero : (constant : TextKind) → p ≡ [] → judged K O constant sum ≡ Ok sum
     unfolding coefficient
     judged_zero constant zero =
-        let none : (m : List ℕ) → coefficient (residues n) p m ≡ 0 = λ m. ap (λ (r : Polynomial ℕ). coefficient (residues n) r m) zero in
+        let none : (m : List ℕ) → coefficient K p m ≡ K.zero = λ m. ap (λ (r : Polynomial E). coefficient K r m) zero in
         judged_ok constant (one_degree (inl none)) (of_each (λ e. e ≢ 0) (λ m c. absurd (in_poly m c (none m))))
 
     -- each monomial of a homogeneous polynomial has its greatest degree
-    has_degree : (d : ℕ) → IsZeroOrHomogeneous (residues n) O p → IsDegree (residues n) O d p → (m : List ℕ) → coefficient (residues n) p m ≢ 0 → O.degree m ≡ d
+    has_degree : (d : ℕ) → IsZeroOrHomogeneous K O p → IsDegree K O d p → (m : List ℕ) → coefficient K p m ≢ K.zero → O.degree m ≡ d
     unfolding coefficient
     has_degree d (inl none) greatest m c = absurd (c (none m))
     has_degree d (inr (e, same)) greatest m c = same.each m c ∙ sym (same.each greatest.some.0 greatest.some.1) ∙ greatest.some.2
 
-    pub judged_positive : (constant : TextKind) (d : ℕ) → IsZeroOrHomogeneous (residues n) O p → IsDegree (residues n) O d p → d ≢ 0 → judged n O constant sum ≡ Ok sum
+    pub judged_positive : (constant : TextKind) (d : ℕ) → IsZeroOrHomogeneous K O p → IsDegree K O d p → d ≢ 0 → judged K O constant sum ≡ Ok sum
     judged_positive constant d same greatest positive =
         judged_ok constant (one_degree same) (of_each (λ e. e ≢ 0) (λ m c z. positive (sym (has_degree d same greatest m (in_poly m c)) ∙ z)))
 
-    pub judged_constant : (constant : TextKind) (d : ℕ) → IsZeroOrHomogeneous (residues n) O p → IsDegree (residues n) O d p → d ≡ 0 → judged n O constant sum ≡ Err constant
+    pub judged_constant : (constant : TextKind) (d : ℕ) → IsZeroOrHomogeneous K O p → IsDegree K O d p → d ≡ 0 → judged K O constant sum ≡ Err constant
     unfolding judged
     judged_constant constant d same greatest zero =
-        let there : list_any (λ e. eqb e 0) (degrees n O sum) ≡ true =
-        elim (list_any (λ e. eqb e 0) (degrees n O sum)) as (λ b. list_any (λ e. eqb e 0) (degrees n O sum) ≡ b → b ≡ true) [
+        let there : list_any (λ e. eqb e 0) (degrees K O sum) ≡ true =
+        elim (list_any (λ e. eqb e 0) (degrees K O sum)) as (λ b. list_any (λ e. eqb e 0) (degrees K O sum) ≡ b → b ≡ true) [
           | true ↦ λ e. refl
-          | false ↦ λ e. absurd (every (λ k. k ≢ 0) (zero_none (degrees n O sum) e) greatest.some.0 (in_sum greatest.some.0 greatest.some.1) (greatest.some.2 ∙ zero))
+          | false ↦ λ e. absurd (every (λ k. k ≢ 0) (zero_none (degrees K O sum) e) greatest.some.0 (in_sum greatest.some.0 greatest.some.1) (greatest.some.2 ∙ zero))
         ] refl in
         rw (one_degree same, there) refl
 
     -- ---- what passes
 
-    none_left : (q : Polynomial ℕ) → IsDecreasing (residues n) O q → Same (residues n) q [] → q ≡ []
+    none_left : (q : Polynomial E) → IsDecreasing K O q → Same K q [] → q ≡ []
     unfolding coefficient
     none_left [] h none = refl
-    none_left (t ∷ q) h none = absurd (h.0.nonzero (sym (coefficient_first (residues n) (residues_field n listed) O L t q h.0) ∙ none t.at))
+    none_left (t ∷ q) h none = absurd (h.0.nonzero (sym (coefficient_first K F O L t q h.0) ∙ none t.at))
 
-    pub passed_generator : IsCanonical (residues n) O p → IsLow O sum → is_one_degree (degrees n O sum) ≡ true → list_any (λ d. eqb d 0) (degrees n O sum) ≡ false → IsCanonicalGenerator (residues n) O p
+    pub passed_generator : IsCanonical K O p → IsLow O sum → is_one_degree (degrees K O sum) ≡ true → list_any (λ d. eqb d 0) (degrees K O sum) ≡ false → IsCanonicalGenerator K O p
     passed_generator canonical low one positive = record { canonical = canonical; homogeneous = by (is_homogeneous canonical one) }
       where
-        by : IsZeroOrHomogeneous (residues n) O p → (p ≡ []) ⊎ ((d : ℕ) × (1 ≤ d) × (d ≤ degree_max) × IsHomogeneous (residues n) O d p)
+        by : IsZeroOrHomogeneous K O p → (p ≡ []) ⊎ ((d : ℕ) × (1 ≤ d) × (d ≤ degree_max) × IsHomogeneous K O d p)
         by (inl none) = inl (none_left p canonical.decreasing none)
         by (inr (d, same)) =
             let at : O.degree same.some.0 ≡ d = same.each same.some.0 same.some.1 in
             let there = in_sum same.some.0 same.some.1 in
-            let nonzero : O.degree same.some.0 ≢ 0 = every (λ k. k ≢ 0) (zero_none (degrees n O sum) positive) same.some.0 there in
-            let top : O.degree same.some.0 ≤ degree_max = all_found (residues n) (residues_field n listed) O L (λ m. O.degree m ≤ degree_max) sum low same.some.0 there in
+            let nonzero : O.degree same.some.0 ≢ 0 = every (λ k. k ≢ 0) (zero_none (degrees K O sum) positive) same.some.0 there in
+            let top : O.degree same.some.0 ≤ degree_max = all_found K F O L (λ m. O.degree m ≤ degree_max) sum low same.some.0 there in
             inr (d, omega (arith, nonzero, at), omega (arith, top, at), same)
 
 -- ---- generators
 
-module _ (n : ℕ) (listed : is_listed n ≡ true) (O : MonomialOrder) (L : IsMonomialOrder O) (p : Polynomial ℕ) (canonical : IsCanonical (residues n) O p) where
-  pub zero_generator : p ≡ [] → IsCanonicalGenerator (residues n) O p
+module _ {E : Type 0} (K : FieldOps E) (F : IsField K) (O : MonomialOrder) (L : IsMonomialOrder O) (p : Polynomial E) (canonical : IsCanonical K O p) where
+  pub zero_generator : p ≡ [] → IsCanonicalGenerator K O p
   zero_generator zero = record { canonical = canonical; homogeneous = inl zero }
 
-  pub positive_generator : (d : ℕ) → IsLow O p → IsZeroOrHomogeneous (residues n) O p → IsDegree (residues n) O d p → d ≢ 0 → IsCanonicalGenerator (residues n) O p
+  pub positive_generator : (d : ℕ) → IsLow O p → IsZeroOrHomogeneous K O p → IsDegree K O d p → d ≢ 0 → IsCanonicalGenerator K O p
   positive_generator d low same greatest positive =
-      let top : O.degree greatest.some.0 ≤ degree_max = all_found (residues n) (residues_field n listed) O L (λ m. O.degree m ≤ degree_max) p low greatest.some.0 greatest.some.1 in
+      let top : O.degree greatest.some.0 ≤ degree_max = all_found K F O L (λ m. O.degree m ≤ degree_max) p low greatest.some.0 greatest.some.1 in
       record {
         canonical = canonical;
         homogeneous = inr (
@@ -174,7 +177,7 @@ module _ (n : ℕ) (listed : is_listed n ≡ true) (O : MonomialOrder) (L : IsMo
           omega (arith, top, greatest.some.2),
           record {
             some = (greatest.some.0, greatest.some.1);
-            each = has_degree n listed O L p p (λ m. refl) d same greatest;
+            each = has_degree K F O L p p (λ m. refl) d same greatest;
           },
         );
       }

@@ -1,5 +1,6 @@
 pub mod ContentLines
 pub mod Counting
+pub mod FieldKinds
 pub mod GeneratorDegrees
 pub mod HeadFacts
 pub mod Judged

@@ -20,13 +20,13 @@ use Rattle.presentation_text.specs.PolySums.{IsSumIn, AreSumsIn}
 use Rattle.presentation_text.proofs.NextLines.{next_ok, next_err, sums_push}
 use Rattle.polynomials.specs.Polynomial.{Polynomial}
 
-pub poly_fails : {X : Type 0} (f : List ℕ → Result (Polynomial ℕ) TextKind) (last number : ℕ) (bytes : List ℕ) (ls rest : List Line) (r : Result X (LineFault TextKind)) (s : Result X TextFault)
+pub poly_fails : {E X : Type 0} (f : List ℕ → Result (Polynomial E) TextKind) (last number : ℕ) (bytes : List ℕ) (ls rest : List Line) (r : Result X (LineFault TextKind)) (s : Result X TextFault)
     → ls ≡ (number, bytes) ∷ rest → IfErr r (IsLineFaultOf (f bytes)) → s ≡ located number r → IfErr s (IsFaultOf (next last f ls))
 poly_fails f last number bytes ls rest (Ok x) s split h is = rw is tt
 poly_fails f last number bytes ls rest (Err e) s split h is = rw is (next_err f last number bytes ls rest e split h)
 
-module _ (K : FieldOps ℕ) (O : MonomialOrder) where
-  pub poly_gives : (f : List ℕ → Result (Polynomial ℕ) TextKind) (last number : ℕ) (bytes : List ℕ) (ls rest : List Line) (r : Result (Polynomial ℕ) (LineFault TextKind)) (s : Result (Polynomial ℕ) TextFault)
+module _ {E : Type 0} (K : FieldOps E) (O : MonomialOrder) where
+  pub poly_gives : (f : List ℕ → Result (Polynomial E) TextKind) (last number : ℕ) (bytes : List ℕ) (ls rest : List Line) (r : Result (Polynomial E) (LineFault TextKind)) (s : Result (Polynomial E) TextFault)
       → ls ≡ (number, bytes) ∷ rest → IfOk r (IsSumIn K O (λ sum. f bytes ≡ Ok sum)) → s ≡ located number r → IfOk s (IsSumIn K O (λ sum. next last f ls ≡ Ok (sum, rest)))
   poly_gives f last number bytes ls rest (Ok p) s split h is =
       rw is (record { sum = h.sum; is = next_ok f last number bytes ls rest h.sum split h.is; same = h.same; generator = h.generator })
@@ -34,35 +34,35 @@ module _ (K : FieldOps ℕ) (O : MonomialOrder) where
 
   -- ---- several polynomials
 
-  generators_push : (ps : List (Polynomial ℕ)) (p : Polynomial ℕ) → AreCanonicalGenerators K O ps → IsCanonicalGenerator K O p → AreCanonicalGenerators K O (ps ++ p ∷ [])
+  generators_push : (ps : List (Polynomial E)) (p : Polynomial E) → AreCanonicalGenerators K O ps → IsCanonicalGenerator K O p → AreCanonicalGenerators K O (ps ++ p ∷ [])
   generators_push [] p h k = (k, tt)
   generators_push (q ∷ ps) p h k = (h.0, generators_push ps p h.1 k)
 
 -- what was read before, and what is still read
-abbrev pub with_sums : List (Polynomial ℕ) → Result (List (Polynomial ℕ) × List Line) Fault → Result (List (Polynomial ℕ) × List Line) Fault
+abbrev pub with_sums : {E : Type 0} → List (Polynomial E) → Result (List (Polynomial E) × List Line) Fault → Result (List (Polynomial E) × List Line) Fault
 with_sums front read = read >>= λ x. Ok (front ++ x.0, x.1)
 
-regroup : (front : List (Polynomial ℕ)) (sum : Polynomial ℕ) (read : Result (List (Polynomial ℕ) × List Line) Fault) → with_sums front (read >>= λ x. Ok (sum ∷ x.0, x.1)) ≡ with_sums (front ++ sum ∷ []) read
-regroup front sum (Ok x) = ap (λ (l : List (Polynomial ℕ)). Ok (l, x.1)) (sym (append_assoc front (sum ∷ []) x.0))
-regroup front sum (Err e) = refl
+regroup : {E : Type 0} (front : List (Polynomial E)) (sum : Polynomial E) (read : Result (List (Polynomial E) × List Line) Fault) → with_sums front (read >>= λ x. Ok (sum ∷ x.0, x.1)) ≡ with_sums (front ++ sum ∷ []) read
+regroup {E} front sum (Ok x) = ap (λ (l : List (Polynomial E)). Ok (l, x.1)) (sym (append_assoc front (sum ∷ []) x.0))
+regroup {E} front sum (Err e) = refl
 
 -- so many polynomials were read, and what is still read gives the whole
-pub record HaveCome (K : FieldOps ℕ) (O : MonomialOrder) (last : ℕ) (f : List ℕ → Result (Polynomial ℕ) TextKind) (count i : ℕ) (ls : List Line) (whole : Result (List (Polynomial ℕ) × List Line) Fault) (ps : List (Polynomial ℕ)) : Type 0 where
-  pub sums : List (Polynomial ℕ)
+pub record HaveCome {E : Type 0} (K : FieldOps E) (O : MonomialOrder) (last : ℕ) (f : List ℕ → Result (Polynomial E) TextKind) (count i : ℕ) (ls : List Line) (whole : Result (List (Polynomial E) × List Line) Fault) (ps : List (Polynomial E)) : Type 0 where
+  pub sums : List (Polynomial E)
   pub is : with_sums sums (several last f (count - i) ls) ≡ whole
   pub same : AreSums K O sums ps
   pub generators : AreCanonicalGenerators K O ps
   pub many : length ps ≡ i
 
-module _ (K : FieldOps ℕ) (O : MonomialOrder) (last : ℕ) (f : List ℕ → Result (Polynomial ℕ) TextKind) (count : ℕ) where
-  none_before : (read : Result (List (Polynomial ℕ) × List Line) Fault) → with_sums [] read ≡ read
+module _ {E : Type 0} (K : FieldOps E) (O : MonomialOrder) (last : ℕ) (f : List ℕ → Result (Polynomial E) TextKind) (count : ℕ) where
+  none_before : (read : Result (List (Polynomial E) × List Line) Fault) → with_sums [] read ≡ read
   none_before (Ok x) = refl
   none_before (Err e) = refl
 
   pub come_first : (ls : List Line) → HaveCome K O last f count 0 ls (several last f count ls) []
   come_first ls = record { sums = []; is = (let all : count - 0 ≡ count = omega arith in rw all (none_before (several last f count ls))); same = tt; generators = tt; many = refl }
 
-  pub come_next : (i : ℕ) (ls rest : List Line) (whole : Result (List (Polynomial ℕ) × List Line) Fault) (ps : List (Polynomial ℕ)) (p : Polynomial ℕ)
+  pub come_next : (i : ℕ) (ls rest : List Line) (whole : Result (List (Polynomial E) × List Line) Fault) (ps : List (Polynomial E)) (p : Polynomial E)
       → i < count → HaveCome K O last f count i ls whole ps → IsSumIn K O (λ sum. next last f ls ≡ Ok (sum, rest)) p → HaveCome K O last f count (i + 1) rest whole (ps ++ p ∷ [])
   unfolding several
   come_next i ls rest whole ps p lt h s =
@@ -76,7 +76,7 @@ module _ (K : FieldOps ℕ) (O : MonomialOrder) (last : ℕ) (f : List ℕ → R
         many = omega (arith, length-append ps (p ∷ []), h.many);
       }
 
-  pub come_stop : (i : ℕ) (ls : List Line) (whole : Result (List (Polynomial ℕ) × List Line) Fault) (ps : List (Polynomial ℕ)) (e : TextFault)
+  pub come_stop : (i : ℕ) (ls : List Line) (whole : Result (List (Polynomial E) × List Line) Fault) (ps : List (Polynomial E)) (e : TextFault)
       → i < count → HaveCome K O last f count i ls whole ps → IsFaultOf (next last f ls) e → IsFaultOf whole e
   unfolding several
   come_stop i ls whole ps faults.Memory lt h s = tt
@@ -85,10 +85,10 @@ module _ (K : FieldOps ℕ) (O : MonomialOrder) (last : ℕ) (f : List ℕ → R
       let step : with_sums h.sums (several last f (count - i) ls) ≡ Err (kind, line) = rw (k, s) refl in
       sym h.is ∙ step
 
-  pub come_all : (i : ℕ) (ls : List Line) (whole : Result (List (Polynomial ℕ) × List Line) Fault) (ps : List (Polynomial ℕ))
+  pub come_all : (i : ℕ) (ls : List Line) (whole : Result (List (Polynomial E) × List Line) Fault) (ps : List (Polynomial E))
       → count ≤ i → i ≤ count_max → HaveCome K O last f count i ls whole ps → AreSumsIn K O (λ sums. whole ≡ Ok (sums, ls)) ps
   unfolding several
   come_all i ls whole ps le few h =
       let k : count - i ≡ 0 = omega arith in
-      let step : with_sums h.sums (several last f (count - i) ls) ≡ Ok (h.sums, ls) = rw k (ap (λ (l : List (Polynomial ℕ)). Ok (l, ls)) (append-nil h.sums)) in
+      let step : with_sums h.sums (several last f (count - i) ls) ≡ Ok (h.sums, ls) = rw k (ap (λ (l : List (Polynomial E)). Ok (l, ls)) (append-nil h.sums)) in
       record { sums = h.sums; is = sym h.is ∙ step; same = h.same; canonical = record { each = h.generators; few = omega (arith, h.many, few) } }

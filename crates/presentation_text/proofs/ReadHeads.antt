@@ -1,5 +1,5 @@
 -- A heading that was read is one of a presentation.
-use Rattle.std.proofs.Common.{◌≡◌, ℕ, true, false, Bool, cond, List, length, Some, None, Ok, refl, sym, subst}
+use Rattle.std.proofs.Common.{◌≡◌, ℕ, true, false, Bool, cond, List, [], ◌∷◌, length, Option, Some, None, Result, Ok, Err, refl, sym, subst, ◌∙◌}
 use Rattle.std.specs.Prelude.{codes}
 use Rattle.word_field.specs.Residues.{is_listed}
 use Rattle.monomial_order.specs.MonomialOrder.{IsMonomialOrder}
@@ -7,38 +7,76 @@ use Rattle.monomial_order.specs.laws.Orders.{between_from_all}
 use Rattle.monomial_order.specs.laws.Ties.{weight_laws}
 use Rattle.poly_core.specs.Names.{IsNameList}
 use Rattle.polynomial_text.specs.laws.Steps.{step_ok, same_ok}
+use Rattle.polynomial_text.specs.declared.line_fault.LineFault.TheVariants as line_faults
+use Rattle.presentation_text.specs.declared.text_kind.TextKind.{TextKind}
 use Rattle.presentation_text.specs.declared.text_kind.TextKind.TheVariants.{FieldUnknown}
 use Rattle.presentation_text.specs.Numbers.{number_of}
 use Rattle.presentation_text.specs.Lines.{tokens}
-use Rattle.presentation_text.specs.Heading.{◌>>=◌, behind_key, only, size, header_line, field_line, vars_line, weights_line, order_line}
+use Rattle.presentation_text.specs.Heading.{◌>>=◌, behind_key, only, size, is_size, header_line, field_line, vars_line, weights_line, order_line}
 use Rattle.presentation_text.specs.Reading.{Line, Head, order_of_head, next, head}
 use Rattle.presentation_text.specs.Presenting.{IsHeading}
 use Rattle.presentation_text.proofs.HeadFacts.{vars_read}
-use Rattle.presentation_text.proofs.NextLines.{next_was}
+use Rattle.presentation_text.proofs.NextLines.{next_was, next_ok, next_err}
 use Rattle.presentation_text.proofs.TakenTokens.{bind_some, or_fault_ok}
 use Rattle.presentation_text.proofs.Weighing.{weighing, weights_read}
 
-listed_size : (line : List (List ℕ)) (n : ℕ) → size line ≡ Some n → is_listed n ≡ true
+-- ---- the size of the field
+
+size_known : (known : ℕ → Bool) (line : List (List ℕ)) (n : ℕ) → size known line ≡ Some n → known n ≡ true
 unfolding size
-listed_size line n e =
+size_known known line n e =
     let rest = bind_some (behind_key (codes "field") line) _ n e in
     let number = bind_some (only rest.0 >>= number_of) _ n rest.2 in
-    chosen (is_listed number.0) number.0 refl number.2
+    chosen (known number.0) number.0 refl number.2
   where
-    chosen : (b : Bool) (k : ℕ) → is_listed k ≡ b → cond b (Some k) None ≡ Some n → is_listed n ≡ true
-    chosen true k is h = let same : k ≡ n = cc in subst (λ (i : ℕ). is_listed i ≡ true) same is
+    chosen : (b : Bool) (k : ℕ) → known k ≡ b → cond b (Some k) None ≡ Some n → known n ≡ true
+    chosen true k is h = let same : k ≡ n = cc in subst (λ (i : ℕ). known i ≡ true) same is
     chosen false k is h = absurd cc
 
-field_read : (last : ℕ) (ls : List Line) (x : ℕ × List Line) → next last field_line ls ≡ Ok x → is_listed x.0 ≡ true
-field_read last ls x e =
-    let w = next_was field_line last ls x e in
-    listed_size (tokens w.0) x.0 (or_fault_ok FieldUnknown (size (tokens w.0)) x.0 w.1)
+pub field_read : (known : ℕ → Bool) (last : ℕ) (ls : List Line) (x : ℕ × List Line) → next last (field_line known) ls ≡ Ok x → known x.0 ≡ true
+field_read known last ls x e =
+    let w = next_was (field_line known) last ls x e in
+    size_known known (tokens w.0) x.0 (or_fault_ok FieldUnknown (size known (tokens w.0)) x.0 w.1)
 
-pub head_read : (last : ℕ) (ls : List Line) (x : Head × List Line) → head last ls ≡ Ok x → IsHeading x.0
+-- a prime size is one of all sizes
+size_more : (line : List (List ℕ)) (n : ℕ) → size is_listed line ≡ Some n → size is_size line ≡ Some n
+unfolding size
+size_more line n e =
+    let rest = bind_some (behind_key (codes "field") line) _ n e in
+    let number = bind_some (only rest.0 >>= number_of) _ n rest.2 in
+    let last : cond (is_size number.0) (Some number.0) None ≡ Some n = more (is_listed number.0) number.0 refl number.2 in
+    rw (rest.1, number.1) last
+  where
+    more : (b : Bool) (k : ℕ) → is_listed k ≡ b → cond b (Some k) None ≡ Some n → cond (is_size k) (Some k) None ≡ Some n
+    more true k is h = let all : is_size k ≡ true = rw is refl in rw all h
+    more false k is h = absurd cc
+
+line_more : (line : List ℕ) (n : ℕ) → field_line is_listed line ≡ Ok n → field_line is_size line ≡ Ok n
+line_more line n e = rw (size_more (tokens line) n (or_fault_ok FieldUnknown (size is_listed (tokens line)) n e)) refl
+
+next_more : (f g : List ℕ → Result ℕ TextKind) → ((bytes : List ℕ) (y : ℕ) → f bytes ≡ Ok y → g bytes ≡ Ok y) → (last : ℕ) (ls : List Line) (x : ℕ × List Line) → next last f ls ≡ Ok x → next last g ls ≡ Ok x
+unfolding next
+next_more f g more last [] x e = absurd cc
+next_more f g more last (line ∷ rest) x e = by (f line.1) refl
+  where
+    by : (r : Result ℕ TextKind) → f line.1 ≡ r → next last g (line ∷ rest) ≡ Ok x
+    by (Ok a) is = next_ok g last line.0 line.1 (line ∷ rest) rest a refl (more line.1 a is) ∙ (sym (next_ok f last line.0 line.1 (line ∷ rest) rest a refl is) ∙ e)
+    by (Err k) is = let no : next last f (line ∷ rest) ≡ Err (k, line.0) = next_err f last line.0 line.1 (line ∷ rest) rest (line_faults.Kind k) refl is in absurd cc
+
+pub head_more : (last : ℕ) (ls : List Line) (x : Head × List Line) → head is_listed last ls ≡ Ok x → head is_size last ls ≡ Ok x
+unfolding head
+head_more last ls x e =
+    let first = step_ok (next last header_line ls) _ x e in
+    let size = step_ok (next last (field_line is_listed) first.0.1) _ x first.2 in
+    rw (first.1, next_more (field_line is_listed) (field_line is_size) line_more last first.0.1 size.0 size.1) size.2
+
+-- ---- the heading
+
+pub head_read : (last : ℕ) (ls : List Line) (x : Head × List Line) → head is_size last ls ≡ Ok x → IsHeading x.0
 unfolding head
 head_read last ls x e =
     let first = step_ok (next last header_line ls) _ x e in
-    let size = step_ok (next last field_line first.0.1) _ x first.2 in
+    let size = step_ok (next last (field_line is_size) first.0.1) _ x first.2 in
     let names = step_ok (next last vars_line size.0.1) _ x size.2 in
     let weights = step_ok (next last (weights_line (length names.0.0)) names.0.1) _ x names.2 in
     let order = step_ok (next last (order_line (length names.0.0)) weights.0.1) _ x weights.2 in
@@ -46,7 +84,7 @@ head_read last ls x e =
     let named = vars_read last size.0.1 names.0 names.1 in
     let many = weights_read (length names.0.0) last names.0.1 weights.0 weights.1 in
     let is : IsHeading h = record {
-      size = field_read last first.0.1 size.0 size.1;
+      size = field_read is_size last first.0.1 size.0 size.1;
       names = subst (λ (n : ℕ). IsNameList n names.0.0) (sym many.0) named;
       order = weighing (length names.0.0) last last names.0.1 weights.0.1 weights.0.1 order.0.1 names.0.0 weights.0.0 order.0.0.0 order.0.0.1 named weights.1 order.1;
     } in

@@ -2,9 +2,7 @@
 use Rattle.std.proofs.Common.{◌≡◌, ℕ, ◌≤◌, List, length, Ok, sym, ap, subst, ◌∙◌}
 use Rattle.std.specs.Prelude.{codes}
 use Rattle.std.specs.List.{AllByRecursion}
-use Rattle.word_field.specs.Residues.{residues}
-use Rattle.word_field.specs.laws.Residues.{residues_field}
-use Rattle.word_field.specs.declared.WordField.{WordField}
+use Rattle.word_field.specs.Field.{FieldOps, IsField}
 use Rattle.monomial_order.specs.declared.weight_order.WeightOrder.{WeightOrder}
 use Rattle.monomial_order.specs.MonomialOrder.{MonomialOrder, IsMonomialOrder}
 use Rattle.monomial_order.specs.Orders.{weight_order}
@@ -18,66 +16,76 @@ use Rattle.poly_core.specs.declared.presentations.Presentation.{Presentation}
 use Rattle.poly_core.specs.laws.Presentation.{canonical_presentation}
 use Rattle.polynomial_text.specs.laws.Steps.{step_ok, same_ok}
 use Rattle.presentation_text.specs.declared.text_kind.TextKind.TheVariants.{UnitIdeal, ConstantGenerator}
-use Rattle.presentation_text.specs.Heading.{count_max}
+use Rattle.presentation_text.specs.Heading.{is_size, count_max}
 use Rattle.presentation_text.specs.Lines.{content, end_line}
-use Rattle.presentation_text.specs.Meaning.{AreSums, IsRead}
+use Rattle.presentation_text.specs.Meaning.{AreSums, IsReadIn}
 use Rattle.presentation_text.specs.Presenting.{IsHeading, IsListOf, IsPresented, IsFromReading}
-use Rattle.presentation_text.specs.Reading.{Line, Head, Reading, order_of_head, head, counted, ended, reading_of, reading}
+use Rattle.presentation_text.specs.Reading.{Line, Head, Reading, AnyReading, order_of_head, head, counted, ended, reading_over, reading_behind, reading_of, reading}
+use Rattle.presentation_text.proofs.FieldKinds.{IsKind}
 use Rattle.presentation_text.proofs.ReadHeads.{head_read, heading_laws}
 use Rattle.presentation_text.proofs.ReadLists.{IsFit, counted_fit, forms, canonical_list, letter_degrees}
 
 -- sums of a list of a presentation
-record AreFit (h : Head) (sums : List (Polynomial ℕ)) : Type 0 where
+record AreFit {E : Type 0} (K : FieldOps E) (h : Head) (sums : List (Polynomial E)) : Type 0 where
   few : length sums ≤ count_max
-  each : AllByRecursion (IsFit h.size (order_of_head h)) sums
+  each : AllByRecursion (IsFit K (order_of_head h)) sums
 
 -- what is known of each part
-record HasFitParts (r : Reading) : Type 0 where
+record HasFitParts {E : Type 0} (K : FieldOps E) (r : Reading E) : Type 0 where
+  laws : IsField K
   heading : IsHeading r.head
-  ideal : AreFit r.head r.ideal
-  generators : AreFit r.head r.generators
+  ideal : AreFit K r.head r.ideal
+  generators : AreFit K r.head r.generators
 
-parts_of : (last : ℕ) (ls : List Line) (r : Reading) → reading_of last ls ≡ Ok r → HasFitParts r
-unfolding reading_of
-parts_of last ls r e =
-    let h = step_ok (head last ls) _ r e in
-    let ideal = step_ok (counted last h.0.0 (codes "ideal") UnitIdeal h.0.1) _ r h.2 in
-    let generators = step_ok (counted last h.0.0 (codes "generators") ConstantGenerator ideal.0.1) _ r ideal.2 in
-    let end = step_ok (ended last generators.0.1) _ r generators.2 in
-    let heading = head_read last ls h.0 h.1 in
-    let first = counted_fit h.0.0 heading.size last (codes "ideal") UnitIdeal h.0.1 ideal.0 ideal.1 in
-    let second = counted_fit h.0.0 heading.size last (codes "generators") ConstantGenerator ideal.0.1 generators.0 generators.1 in
-    let whole : Reading = record { head = h.0.0; ideal = ideal.0.0; generators = generators.0.0 } in
-    let are : HasFitParts whole = record { heading = heading; ideal = record { few = first.0; each = first.1 }; generators = record { few = second.0; each = second.1 } } in
-    subst HasFitParts (same_ok whole r end.2) are
+module _ {E : Type 0} (K : FieldOps E) (F : IsField K) where
+  over_parts : (last : ℕ) (h : Head) (ls : List Line) (r : Reading E) → IsHeading h → reading_over K last h ls ≡ Ok r → (r.head ≡ h) × HasFitParts K r
+  unfolding reading_over
+  over_parts last h ls r heading e =
+      let ideal = step_ok (counted K last h (codes "ideal") UnitIdeal ls) _ r e in
+      let generators = step_ok (counted K last h (codes "generators") ConstantGenerator ideal.0.1) _ r ideal.2 in
+      let end = step_ok (ended last generators.0.1) _ r generators.2 in
+      let first = counted_fit K F h last (codes "ideal") UnitIdeal ls ideal.0 ideal.1 in
+      let second = counted_fit K F h last (codes "generators") ConstantGenerator ideal.0.1 generators.0 generators.1 in
+      let whole : Reading E = record { head = h; ideal = ideal.0.0; generators = generators.0.0 } in
+      let are : HasFitParts K whole = record { laws = F; heading = heading; ideal = record { few = first.0; each = first.1 }; generators = record { few = second.0; each = second.1 } } in
+      subst (λ (x : Reading E). (x.head ≡ h) × HasFitParts K x) (same_ok whole r end.2) (refl, are)
 
--- ---- there is a presentation
+  -- ---- there is a presentation
 
-module _ (h : Head) (is : IsHeading h) where
-  list_of : (sums : List (Polynomial ℕ)) → AreFit h sums → IsListOf h sums
-  list_of sums fit =
-      let ps = forms h.size is.size (order_of_head h) (heading_laws h is) sums fit.each in
-      record { polys = ps.0; same = ps.1; canonical = canonical_list h.size is.size (order_of_head h) (heading_laws h is) sums ps.0 fit.few fit.each ps.1 }
+  list_of : (h : Head) → IsHeading h → (sums : List (Polynomial E)) → AreFit K h sums → IsListOf K h sums
+  list_of h is sums fit =
+      let ps = forms K F (order_of_head h) (heading_laws h is) sums fit.each in
+      record { polys = ps.0; same = ps.1; canonical = canonical_list K F (order_of_head h) (heading_laws h is) sums ps.0 fit.few fit.each ps.1 }
 
-presented_parts : (r : Reading) → HasFitParts r → IsPresented r
-presented_parts r parts =
-    let laws = heading_laws r.head parts.heading in
-    let ideal = list_of r.head parts.heading r.ideal parts.ideal in
-    let generators = list_of r.head parts.heading r.generators parts.generators in
-    record {
-      heading = parts.heading;
-      ideal = ideal;
-      generators = generators;
-      presentation = canonical_presentation (residues r.head.size) (order_of_head r.head) (residues_field r.head.size parts.heading.size) laws ideal.polys generators.polys ideal.canonical generators.canonical;
-      degrees = letter_degrees r.head.size parts.heading.size (order_of_head r.head) laws generators.polys generators.canonical.each;
-    }
+  presented_parts : (r : Reading E) → HasFitParts K r → IsPresented K r
+  presented_parts r parts =
+      let laws = heading_laws r.head parts.heading in
+      let ideal = list_of r.head parts.heading r.ideal parts.ideal in
+      let generators = list_of r.head parts.heading r.generators parts.generators in
+      record {
+        heading = parts.heading;
+        ideal = ideal;
+        generators = generators;
+        presentation = canonical_presentation K (order_of_head r.head) F laws ideal.polys generators.polys ideal.canonical generators.canonical;
+        degrees = letter_degrees K F (order_of_head r.head) laws generators.polys generators.canonical.each;
+      }
 
-pub read_presented : (text : List ℕ) (r : Reading) → reading text ≡ Ok r → IsPresented r
-read_presented text r e = presented_parts r (parts_of (end_line text) (content text) r e)
+module _ {F E : Type 0} (ops : F → FieldOps E) (of_size : ℕ → FieldOps E) (any : Reading E → AnyReading) (kind : IsKind ops of_size any) where
+  parts_of : (last : ℕ) (ls : List Line) (r : Reading E) → reading_of is_size last ls ≡ Ok (any r) → HasFitParts (of_size r.head.size) r
+  unfolding reading_of
+  parts_of last ls r e =
+      let h = step_ok (head is_size last ls) _ (any r) e in
+      let heading = head_read last ls h.0 h.1 in
+      let over = kind.was last h.0.0 h.0.1 r heading.size h.2 in
+      let parts = over_parts (of_size h.0.0.size) over.0 last h.0.0 h.0.1 r heading over.1 in
+      subst (λ (x : Head). HasFitParts (of_size x.size) r) (sym parts.0) parts.1
+
+  pub read_presented : (text : List ℕ) (r : Reading E) → reading text ≡ Ok (any r) → IsPresented (of_size r.head.size) r
+  read_presented text r e = let parts = parts_of (end_line text) (content text) r e in presented_parts (of_size r.head.size) parts.laws r parts
 
 -- ---- what is made of the reading is that
 
-module _ (r : Reading) (parts : HasFitParts r) (p : Presentation WordField WeightOrder ℕ) (from : IsFromReading r p) where
+module _ {F E : Type 0} (ops : F → FieldOps E) (r : Reading E) (p : Presentation F WeightOrder E) (from : IsFromReading ops r p) (parts : HasFitParts (ops p.field) r) where
   same_order : order_of_head r.head ≡ weight_order_of p.order
   same_order =
       ap (λ (x : List ℕ). weight_order x r.head.rows (tie_order r.head.tie)) (sym from.weights) ∙
@@ -86,23 +94,22 @@ module _ (r : Reading) (parts : HasFitParts r) (p : Presentation WordField Weigh
   laws : IsMonomialOrder (weight_order_of p.order)
   laws = weight_laws p.order.weights.items p.order.rows.items p.order.tie p.order.weights_in_range
 
-  list_in : (sums ps : List (Polynomial ℕ)) → AreFit r.head sums → AreSums (residues p.field.modulus) (weight_order_of p.order) sums ps → IsCanonicalList (residues p.field.modulus) (weight_order_of p.order) ps
+  list_in : (sums ps : List (Polynomial E)) → AreFit (ops p.field) r.head sums → AreSums (ops p.field) (weight_order_of p.order) sums ps → IsCanonicalList (ops p.field) (weight_order_of p.order) ps
   list_in sums ps fit same =
-      let over : AllByRecursion (IsFit p.field.modulus (order_of_head r.head)) sums = subst (λ (n : ℕ). AllByRecursion (IsFit n (order_of_head r.head)) sums) (sym from.field) fit.each in
-      let each : AllByRecursion (IsFit p.field.modulus (weight_order_of p.order)) sums = subst (λ (O : MonomialOrder). AllByRecursion (IsFit p.field.modulus O) sums) same_order over in
-      canonical_list p.field.modulus p.field.listed (weight_order_of p.order) laws sums ps fit.few each same
+      let each : AllByRecursion (IsFit (ops p.field) (weight_order_of p.order)) sums = subst (λ (O : MonomialOrder). AllByRecursion (IsFit (ops p.field) O) sums) same_order fit.each in
+      canonical_list (ops p.field) parts.laws (weight_order_of p.order) laws sums ps fit.few each same
 
   named : AreNames (weight_order_of p.order).places p.names
   named =
       let list : IsNameList (length p.order.weights.items) r.head.names = subst (λ (ws : List ℕ). IsNameList (length ws) r.head.names) (sym from.weights) parts.heading.names in
       subst (λ (names : Names). AreNames (length p.order.weights.items) names) (sym from.names) list
 
-  valid_parts : IsValid (λ f. residues f.modulus) weight_order_of p
+  valid_parts : IsValid ops weight_order_of p
   valid_parts =
       let ideal = list_in r.ideal p.ideal.items parts.ideal from.ideal in
       let generators = list_in r.generators p.generators.items parts.generators from.generators in
       record {
-        presentation = canonical_presentation (residues p.field.modulus) (weight_order_of p.order) (residues_field p.field.modulus p.field.listed) laws p.ideal.items p.generators.items ideal generators;
+        presentation = canonical_presentation (ops p.field) (weight_order_of p.order) parts.laws laws p.ideal.items p.generators.items ideal generators;
         names = named;
         ideal = ideal;
         generators = generators;
@@ -110,16 +117,20 @@ module _ (r : Reading) (parts : HasFitParts r) (p : Presentation WordField Weigh
         degrees = from.degrees;
       }
 
-pub read_from : (text : List ℕ) (r : Reading) (p : Presentation WordField WeightOrder ℕ) → reading text ≡ Ok r → IsFromReading r p → IsRead text p
-read_from text r p e from = record {
-  present = r;
-  reading = e;
-  field = from.field;
-  names = from.names;
-  weights = from.weights;
-  rows = from.rows;
-  tie = from.tie;
-  ideal = from.ideal;
-  generators = from.generators;
-  valid = valid_parts r (parts_of (end_line text) (content text) r e) p from;
-}
+module _ {F E : Type 0} (ops : F → FieldOps E) (of_size : ℕ → FieldOps E) (any : Reading E → AnyReading) (kind : IsKind ops of_size any) where
+  pub read_from : (text : List ℕ) (r : Reading E) (p : Presentation F WeightOrder E) → reading text ≡ Ok (any r) → IsFromReading ops r p → IsReadIn ops (λ r. reading text ≡ Ok (any r)) p
+  read_from text r p e from =
+      let over : of_size r.head.size ≡ ops p.field = ap of_size (sym from.field) ∙ kind.field p.field in
+      let parts : HasFitParts (ops p.field) r = subst (λ (K : FieldOps E). HasFitParts K r) over (parts_of ops of_size any kind (end_line text) (content text) r e) in
+      record {
+        present = r;
+        reading = e;
+        field = from.field;
+        names = from.names;
+        weights = from.weights;
+        rows = from.rows;
+        tie = from.tie;
+        ideal = from.ideal;
+        generators = from.generators;
+        valid = valid_parts ops r p from parts;
+      }

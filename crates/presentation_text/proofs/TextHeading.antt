@@ -1,19 +1,20 @@
 -- The lines of the heading of a canonical text are read.
-use Rattle.std.proofs.Common.{◌≡◌, ℕ, zero, suc, ◌<◌, ◌≤◌, true, false, leb, eqb, ◌&&◌, List, [], ◌∷◌, ◌++◌, length, map, Some, Ok, refl, sym, ap, subst, ◌∙◌, arith, append_assoc, length-append}
+use Rattle.std.proofs.Common.{◌≡◌, ℕ, zero, suc, ◌<◌, ◌≤◌, Bool, ⊎_elim, true, false, leb, eqb, ◌&&◌, List, [], ◌∷◌, ◌++◌, length, map, Some, Ok, refl, sym, ap, subst, ◌∙◌, arith, append_assoc, length-append}
 use Rattle.std.specs.Prelude.{codes}
 use Rattle.std.specs.List.{AllByRecursion, list_all, flat_map}
 use Rattle.std.specs.Fmt.{decimal}
-use Rattle.std.proofs.lemmas.Bool.{and_parts, eqb-true, le-leb}
+use Rattle.std.proofs.lemmas.Bool.{and_parts, or_cases, eqb-true, le-leb}
 use Rattle.std.proofs.lemmas.Slice.Eq.{bytes_eq-Decides}
 use Rattle.std.proofs.lemmas.List.{append-nil}
 use Rattle.std.proofs.lemmas.List.Elements.{recursion_from_All}
 use Rattle.word_field.specs.Residues.{is_listed}
+use Rattle.ext_field.specs.PairField.{is_pair_size}
 use Rattle.monomial_order.specs.Ranges.{all_between, are_rows}
 use Rattle.monomial_order.specs.declared.tie_break.Tie.{Tie}
 use Rattle.monomial_order.specs.declared.tie_break.Tie.TheVariants.{Lex, RevLex}
 use Rattle.poly_core.specs.Names.{is_letter, is_name_byte, IsName, IsNameList}
 use Rattle.presentation_text.specs.Lines.{tokens}
-use Rattle.presentation_text.specs.Heading.{count_max, entry_max, name_max, names_max, rows_max, weight_max, numbers_first, behind_key, header, size, is_name, names_of, weights_of, tie_of, tie_alone, row_at, rows_of, order_of, count_of, closing, header_line, field_line, vars_line, weights_line, order_line, count_line, closing_line}
+use Rattle.presentation_text.specs.Heading.{count_max, entry_max, name_max, names_max, rows_max, weight_max, numbers_first, behind_key, header, size, is_size, is_name, names_of, weights_of, tie_of, tie_alone, row_at, rows_of, order_of, count_of, closing, header_line, field_line, vars_line, weights_line, order_line, count_line, closing_line}
 use Rattle.presentation_text.specs.PresentationText.{row_tokens, tie_token}
 use Rattle.presentation_text.proofs.NameTokens.{different}
 use Rattle.presentation_text.proofs.TextTokens.{IsToken, not_equal, all_append}
@@ -23,12 +24,18 @@ pub reads_header : (l : List ℕ) → tokens l ≡ codes "subalgebra" ∷ (codes
 unfolding header behind_key
 reads_header l e = rw e refl
 
-pub listed_small : (p : ℕ) → is_listed p ≡ true → p < 100000
+listed_small : (p : ℕ) → is_listed p ≡ true → p < 100000
 listed_small p e = grind arith
 
-pub reads_field : (p : ℕ) (l : List ℕ) → is_listed p ≡ true → tokens l ≡ codes "field" ∷ (decimal p ∷ []) → field_line l ≡ Ok p
+pair_size_small : (p : ℕ) → is_pair_size p ≡ true → p < 100000
+pair_size_small p e = grind arith
+
+pub size_small : (p : ℕ) → is_size p ≡ true → p < 100000
+size_small p e = ⊎_elim (listed_small p) (pair_size_small p) (or_cases (is_listed p) (is_pair_size p) e)
+
+pub reads_field : (known : ℕ → Bool) (p : ℕ) (l : List ℕ) → p < 100000 → known p ≡ true → tokens l ≡ codes "field" ∷ (decimal p ∷ []) → field_line known l ≡ Ok p
 unfolding size behind_key
-reads_field p l h e = rw (e, decimal_number p (listed_small p h), h) refl
+reads_field known p l small h e = rw (e, decimal_number p small, h) refl
 
 -- ---- names
 

@@ -1,12 +1,11 @@
 -- The canonical text of a presentation is read as the presentation.
-use Rattle.std.proofs.Common.{◌≡◌, ℕ, suc, ◌≤◌, true, not, leb, eqb, ◌&&◌, List, [], ◌∷◌, ◌++◌, length, map, Ok, refl, sym, ap, subst, ◌∙◌, arith}
+use Rattle.std.proofs.Common.{◌≡◌, ℕ, suc, ◌<◌, ◌≤◌, ◌^◌, Bool, true, not, leb, eqb, ◌&&◌, List, [], ◌∷◌, ◌++◌, length, map, Result, Ok, refl, sym, ap, subst, ◌∙◌, arith}
 use Rattle.std.specs.Prelude.{codes}
 use Rattle.std.specs.List.{AllByRecursion, list_all}
 use Rattle.std.specs.Fmt.{decimal}
 use Rattle.std.proofs.lemmas.Bool.{and_parts, leb-true, not-true}
 use Rattle.std.proofs.lemmas.List.Elements.{recursion_from_All}
-use Rattle.word_field.specs.Residues.{residues, is_listed}
-use Rattle.word_field.specs.declared.WordField.{WordField}
+use Rattle.word_field.specs.Field.{FieldOps, IsField}
 use Rattle.monomial_order.specs.declared.weight_order.WeightOrder.{WeightOrder}
 use Rattle.monomial_order.specs.declared.tie_break.Tie.{Tie}
 use Rattle.monomial_order.specs.Ranges.{all_between, are_rows}
@@ -18,14 +17,17 @@ use Rattle.poly_core.specs.Presentation.{IsCanonicalList, IsValid, weight_order_
 use Rattle.presentation_text.specs.declared.text_kind.TextKind.{TextKind}
 use Rattle.presentation_text.specs.declared.text_kind.TextKind.TheVariants.{UnitIdeal, ConstantGenerator}
 use Rattle.presentation_text.specs.Lines.{lines, content_lines, end_line}
-use Rattle.presentation_text.specs.Heading.{count_max, rows_max, weight_max, header_line, field_line, vars_line, weights_line, order_line, count_line, closing_line}
-use Rattle.presentation_text.specs.Reading.{Line, Head, order_of_head, next, several, head, poly_line, counted, ended, reading_of, reading}
+use Rattle.presentation_text.specs.Heading.{is_size, count_max, rows_max, weight_max, header_line, field_line, vars_line, weights_line, order_line, count_line, closing_line}
+use Rattle.presentation_text.specs.Reading.{Line, Head, Reading, AnyReading, order_of_head, next, several, head, poly_line, counted, ended, reading_over, reading_behind, reading_of, reading_with, reading}
+use Rattle.polynomial_text.specs.Results.{◌>>=◌}
+use Rattle.presentation_text.specs.Kinds.{Fault}
 use Rattle.presentation_text.specs.PresentationText.{line, poly_lines, presentation_text}
-use Rattle.presentation_text.specs.Meaning.{AreSums, IsTextOf, IsRead}
+use Rattle.presentation_text.specs.Meaning.{AreSums, IsTextOf, IsReadIn}
 use Rattle.presentation_text.proofs.TextLines.{no_more}
 use Rattle.presentation_text.proofs.TextTokens.{IsToken, Begins, next_tokens}
 use Rattle.presentation_text.proofs.TextNumbers.{decimal_token, between_tokens}
-use Rattle.presentation_text.proofs.TextHeading.{row_line, listed_small, names_tokens, row_line_tokens, reads_header, reads_field, reads_vars, reads_weights, reads_order, reads_count, reads_end}
+use Rattle.presentation_text.proofs.TextHeading.{row_line, size_small, names_tokens, row_line_tokens, reads_header, reads_field, reads_vars, reads_weights, reads_order, reads_count, reads_end}
+use Rattle.presentation_text.proofs.FieldKinds.{IsKind}
 use Rattle.presentation_text.proofs.TextPolys.{IsSound, polys_back}
 use Rattle.polynomials.specs.Polynomial.{Polynomial}
 
@@ -43,8 +45,8 @@ key w h = let p = and_parts (not (eqb (length w) 0)) (list_all (leb 33) w) h in 
 header_back : (last n : ℕ) (rest : List ℕ) → next last header_line (content_lines n (lines (line (codes "subalgebra") (codes "1" ∷ []) ++ rest))) ≡ Ok ([], content_lines (suc n) (lines rest))
 header_back last n rest = next_tokens last n header_line [] (codes "subalgebra") (codes "1" ∷ []) rest (omega arith) (key (codes "subalgebra") refl) (key (codes "1") refl, tt) reads_header
 
-field_back : (p last n : ℕ) (rest : List ℕ) → is_listed p ≡ true → next last field_line (content_lines n (lines (line (codes "field") (decimal p ∷ []) ++ rest))) ≡ Ok (p, content_lines (suc n) (lines rest))
-field_back p last n rest h = next_tokens last n field_line p (codes "field") (decimal p ∷ []) rest (omega arith) (key (codes "field") refl) (decimal_token p (listed_small p h), tt) (λ l. reads_field p l h)
+field_back : (known : ℕ → Bool) (p last n : ℕ) (rest : List ℕ) → p < 100000 → known p ≡ true → next last (field_line known) (content_lines n (lines (line (codes "field") (decimal p ∷ []) ++ rest))) ≡ Ok (p, content_lines (suc n) (lines rest))
+field_back known p last n rest small h = next_tokens last n (field_line known) p (codes "field") (decimal p ∷ []) rest (omega arith) (key (codes "field") refl) (decimal_token p small, tt) (λ l. reads_field known p l small h)
 
 vars_back : (names : List (List ℕ)) (places last n : ℕ) (rest : List ℕ) → IsNameList places names → next last vars_line (content_lines n (lines (line (codes "vars") names ++ rest))) ≡ Ok (names, content_lines (suc n) (lines rest))
 vars_back names places last n rest h = next_tokens last n vars_line names (codes "vars") names rest (omega arith) (key (codes "vars") refl) (names_tokens names (recursion_from_All IsName names h.each)) (λ l. reads_vars places names l h)
@@ -61,11 +63,11 @@ count_back : (token : List ℕ) (k last n : ℕ) (rest : List ℕ) → Begins to
 count_back token k last n rest b w few =
     next_tokens last n (count_line token) k token (decimal k ∷ []) rest b w (decimal_token k (omega arith), tt) (λ l. reads_count token k l few)
 
-head_steps : (last : ℕ) (l0 l1 l2 l3 l4 l5 : List Line) (h : Head) →
-    next last header_line l0 ≡ Ok ([], l1) → next last field_line l1 ≡ Ok (h.size, l2) → next last vars_line l2 ≡ Ok (h.names, l3) →
-    next last (weights_line (length h.names)) l3 ≡ Ok (h.weights, l4) → next last (order_line (length h.names)) l4 ≡ Ok ((h.rows, h.tie), l5) → head last l0 ≡ Ok (h, l5)
+head_steps : (known : ℕ → Bool) (last : ℕ) (l0 l1 l2 l3 l4 l5 : List Line) (h : Head) →
+    next last header_line l0 ≡ Ok ([], l1) → next last (field_line known) l1 ≡ Ok (h.size, l2) → next last vars_line l2 ≡ Ok (h.names, l3) →
+    next last (weights_line (length h.names)) l3 ≡ Ok (h.weights, l4) → next last (order_line (length h.names)) l4 ≡ Ok ((h.rows, h.tie), l5) → head known last l0 ≡ Ok (h, l5)
 unfolding head
-head_steps last l0 l1 l2 l3 l4 l5 h a b c d e = rw (a, b, c, d, e) refl
+head_steps known last l0 l1 l2 l3 l4 l5 h a b c d e = rw (a, b, c, d, e) refl
 
 -- the lines of the heading, and those behind them
 heading : Head → List ℕ → List ℕ
@@ -74,47 +76,54 @@ heading h rest =
     (line (codes "vars") h.names ++ (line (codes "weights") (map decimal h.weights) ++
     (line (codes "order") (row_line h.rows h.tie) ++ rest))))
 
-head_back : (h : Head) → IsSound h → (last : ℕ) (rest : List ℕ) → head last (content_lines 1 (lines (heading h rest))) ≡ Ok (h, content_lines 6 (lines rest))
+head_back : (known : ℕ → Bool) (h : Head) → IsSound h → known h.size ≡ true → (last : ℕ) (rest : List ℕ) → head known last (content_lines 1 (lines (heading h rest))) ≡ Ok (h, content_lines 6 (lines rest))
 unfolding heading
-head_back h s last rest =
+head_back known h s is_known last rest =
     let order : List ℕ = line (codes "order") (row_line h.rows h.tie) ++ rest in
     let weights : List ℕ = line (codes "weights") (map decimal h.weights) ++ order in
     let vars : List ℕ = line (codes "vars") h.names ++ weights in
     let field : List ℕ = line (codes "field") (decimal h.size ∷ []) ++ vars in
     let places : length h.names ≡ length h.weights = s.names.each_place in
     let rows : are_rows (length h.names) h.rows ≡ true = ap (λ (n : ℕ). are_rows n h.rows) places ∙ s.rows in
-    head_steps last (content_lines 1 (lines (heading h rest))) (content_lines 2 (lines field)) (content_lines 3 (lines vars)) (content_lines 4 (lines weights)) (content_lines 5 (lines order)) (content_lines 6 (lines rest)) h
+    head_steps known last (content_lines 1 (lines (heading h rest))) (content_lines 2 (lines field)) (content_lines 3 (lines vars)) (content_lines 4 (lines weights)) (content_lines 5 (lines order)) (content_lines 6 (lines rest)) h
     (header_back last 1 field)
-    (field_back h.size last 2 vars s.listed)
+    (field_back known h.size last 2 vars (size_small h.size s.size) is_known)
     (vars_back h.names (length h.weights) last 3 weights s.names)
     (weights_back h.weights (length h.names) last 4 order (sym places) s.weights)
     (order_back h.rows h.tie (length h.names) last 5 rest s.few rows)
 
 -- ---- the lists
 
-counted_steps : (last : ℕ) (h : Head) (token : List ℕ) (constant : TextKind) (l0 l1 l2 : List Line) (k : ℕ) (sums : List (Polynomial ℕ)) →
-    next last (count_line token) l0 ≡ Ok (k, l1) → several last (poly_line h constant) k l1 ≡ Ok (sums, l2) → counted last h token constant l0 ≡ Ok (sums, l2)
-unfolding counted
-counted_steps last h token constant l0 l1 l2 k sums a b = rw (a, b) refl
+module _ {E : Type 0} (K : FieldOps E) where
+  counted_steps : (last : ℕ) (h : Head) (token : List ℕ) (constant : TextKind) (l0 l1 l2 : List Line) (k : ℕ) (sums : List (Polynomial E)) →
+      next last (count_line token) l0 ≡ Ok (k, l1) → several last (poly_line K h constant) k l1 ≡ Ok (sums, l2) → counted K last h token constant l0 ≡ Ok (sums, l2)
+  unfolding counted
+  counted_steps last h token constant l0 l1 l2 k sums a b = rw (a, b) refl
 
--- the lines of a list, and those behind them
-listing : Head → List ℕ → List (Polynomial ℕ) → List ℕ → List ℕ
-listing h token fs rest = line token (decimal (length fs) ∷ []) ++ (poly_lines (residues h.size) h.names fs ++ rest)
+  -- the lines of a list, and those behind them
+  listing : Head → List ℕ → List (Polynomial E) → List ℕ → List ℕ
+  listing h token fs rest = line token (decimal (length fs) ∷ []) ++ (poly_lines K h.names fs ++ rest)
 
-counted_back : (h : Head) (s : IsSound h) (token : List ℕ) (constant : TextKind) (last n : ℕ) (fs : List (Polynomial ℕ)) (rest : List ℕ) → Begins token → IsToken token → IsCanonicalList (residues h.size) (order_of_head h) fs →
-    (sums : List (Polynomial ℕ)) × (k : ℕ)
-    × (counted last h token constant (content_lines n (lines (listing h token fs rest))) ≡ Ok (sums, content_lines k (lines rest)))
-    × AreSums (residues h.size) (order_of_head h) sums fs
-unfolding listing
-counted_back h s token constant last n fs rest b w g =
-    let more : List ℕ = poly_lines (residues h.size) h.names fs ++ rest in
-    let polys = polys_back h s constant last (suc n) fs rest g.each in (
-      polys.0,
-      polys.1,
-      counted_steps last h token constant (content_lines n (lines (listing h token fs rest))) (content_lines (suc n) (lines more)) (content_lines polys.1 (lines rest)) (length fs) polys.0
-          (count_back token (length fs) last n more b w g.few) polys.2,
-      polys.3,
-    )
+  reading_steps : (last : ℕ) (l0 l1 l2 l3 : List Line) (h : Head) (ideal generators : List (Polynomial E)) →
+      counted K last h (codes "ideal") UnitIdeal l1 ≡ Ok (ideal, l2) →
+      counted K last h (codes "generators") ConstantGenerator l2 ≡ Ok (generators, l3) → ended last l3 ≡ Ok [] →
+      reading_over K last h l1 ≡ Ok record { head = h; ideal = ideal; generators = generators }
+  unfolding reading_over
+  reading_steps last l0 l1 l2 l3 h ideal generators b c d = rw (b, c, d) refl
+
+  -- what is behind the heading
+  lists_text : Head → List (Polynomial E) → List (Polynomial E) → List ℕ
+  lists_text h ideal generators = listing h (codes "ideal") ideal (listing h (codes "generators") generators (line (codes "end") []))
+
+  text_of : Head → List (Polynomial E) → List (Polynomial E) → List ℕ
+  text_of h ideal generators = heading h (lists_text h ideal generators)
+
+  text_is : (h : Head) (ideal generators : List (Polynomial E)) → K.size ≡ h.size → presentation_text K h.names h.weights h.rows h.tie ideal generators ≡ text_of h ideal generators
+  unfolding text_of lists_text heading listing
+  text_is h ideal generators size =
+      ap (λ (n : ℕ). line (codes "subalgebra") (codes "1" ∷ []) ++ (line (codes "field") (decimal n ∷ []) ++
+      (line (codes "vars") h.names ++ (line (codes "weights") (map decimal h.weights) ++
+      (line (codes "order") (row_line h.rows h.tie) ++ lists_text h ideal generators))))) size
 
 -- ---- the end
 
@@ -129,81 +138,91 @@ ended_back last n =
 
 -- ---- the whole
 
-reading_steps : (last : ℕ) (l0 l1 l2 l3 : List Line) (h : Head) (ideal generators : List (Polynomial ℕ)) →
-    head last l0 ≡ Ok (h, l1) → counted last h (codes "ideal") UnitIdeal l1 ≡ Ok (ideal, l2) →
-    counted last h (codes "generators") ConstantGenerator l2 ≡ Ok (generators, l3) → ended last l3 ≡ Ok [] →
-    reading_of last l0 ≡ Ok record { head = h; ideal = ideal; generators = generators }
+module _ {E : Type 0} (K : FieldOps E) (laws : IsField K) (few : K.size ≤ 2 ^ 32) (h : Head) (s : IsSound h) where
+  counted_back : (token : List ℕ) (constant : TextKind) (last n : ℕ) (fs : List (Polynomial E)) (rest : List ℕ) → Begins token → IsToken token → IsCanonicalList K (order_of_head h) fs →
+      (sums : List (Polynomial E)) × (k : ℕ)
+      × (counted K last h token constant (content_lines n (lines (listing K h token fs rest))) ≡ Ok (sums, content_lines k (lines rest)))
+      × AreSums K (order_of_head h) sums fs
+  unfolding listing
+  counted_back token constant last n fs rest b w g =
+      let more : List ℕ = poly_lines K h.names fs ++ rest in
+      let polys = polys_back K laws few h s constant last (suc n) fs rest g.each in (
+        polys.0,
+        polys.1,
+        counted_steps K last h token constant (content_lines n (lines (listing K h token fs rest))) (content_lines (suc n) (lines more)) (content_lines polys.1 (lines rest)) (length fs) polys.0
+            (count_back token (length fs) last n more b w g.few) polys.2,
+        polys.3,
+      )
+
+  -- what the lines behind the heading are read as
+  lists_back : (last n : ℕ) (ideal generators : List (Polynomial E)) → IsCanonicalList K (order_of_head h) ideal → IsCanonicalList K (order_of_head h) generators →
+      (is : List (Polynomial E)) × (gs : List (Polynomial E))
+      × (reading_over K last h (content_lines n (lines (lists_text K h ideal generators))) ≡ Ok record { head = h; ideal = is; generators = gs })
+      × AreSums K (order_of_head h) is ideal × AreSums K (order_of_head h) gs generators
+  unfolding lists_text
+  lists_back last n ideal generators hi hg =
+      let end : List ℕ = line (codes "end") [] in
+      let behind : List ℕ = listing K h (codes "generators") generators end in
+      let first = counted_back (codes "ideal") UnitIdeal last n ideal behind (omega arith) (key (codes "ideal") refl) hi in
+      let second = counted_back (codes "generators") ConstantGenerator last first.1 generators end (omega arith) (key (codes "generators") refl) hg in (
+        first.0,
+        second.0,
+        reading_steps K last (content_lines n (lines (listing K h (codes "ideal") ideal behind))) (content_lines n (lines (listing K h (codes "ideal") ideal behind))) (content_lines first.1 (lines behind)) (content_lines second.1 (lines end)) h first.0 second.0
+            first.2 second.2 (ended_back last second.1),
+        first.3,
+        second.3,
+      )
+
+reading_behind_head : (known : ℕ → Bool) (last : ℕ) (l0 l1 : List Line) (h : Head) → head known last l0 ≡ Ok (h, l1) → reading_of known last l0 ≡ reading_behind last h l1
 unfolding reading_of
-reading_steps last l0 l1 l2 l3 h ideal generators a b c d = rw (a, b, c, d) refl
-
-text_of : Head → List (Polynomial ℕ) → List (Polynomial ℕ) → List ℕ
-text_of h ideal generators = heading h (listing h (codes "ideal") ideal (listing h (codes "generators") generators (line (codes "end") [])))
-
-text_is : (h : Head) (ideal generators : List (Polynomial ℕ)) → presentation_text (residues h.size) h.names h.weights h.rows h.tie ideal generators ≡ text_of h ideal generators
-unfolding text_of heading listing
-text_is h ideal generators = refl
-
--- what the text of a sound presentation presents
-pub record IsReadAs (h : Head) (ideal generators : List (Polynomial ℕ)) : Type 0 where
-  pub ideal_sums : List (Polynomial ℕ)
-  pub generator_sums : List (Polynomial ℕ)
-  pub read : reading (presentation_text (residues h.size) h.names h.weights h.rows h.tie ideal generators) ≡ Ok record { head = h; ideal = ideal_sums; generators = generator_sums }
-  pub ideal_is : AreSums (residues h.size) (order_of_head h) ideal_sums ideal
-  pub generators_are : AreSums (residues h.size) (order_of_head h) generator_sums generators
-
-read_steps : (h : Head) → IsSound h → (last : ℕ) (ideal generators : List (Polynomial ℕ)) → IsCanonicalList (residues h.size) (order_of_head h) ideal → IsCanonicalList (residues h.size) (order_of_head h) generators →
-    (is : List (Polynomial ℕ)) × (gs : List (Polynomial ℕ)) × (reading_of last (content_lines 1 (lines (text_of h ideal generators))) ≡ Ok record { head = h; ideal = is; generators = gs })
-    × AreSums (residues h.size) (order_of_head h) is ideal × AreSums (residues h.size) (order_of_head h) gs generators
-unfolding text_of
-read_steps h s last ideal generators hi hg =
-    let end : List ℕ = line (codes "end") [] in
-    let behind : List ℕ = listing h (codes "generators") generators end in
-    let first = counted_back h s (codes "ideal") UnitIdeal last 6 ideal behind (omega arith) (key (codes "ideal") refl) hi in
-    let second = counted_back h s (codes "generators") ConstantGenerator last first.1 generators end (omega arith) (key (codes "generators") refl) hg in (
-      first.0,
-      second.0,
-      reading_steps last (content_lines 1 (lines (text_of h ideal generators))) (content_lines 6 (lines (listing h (codes "ideal") ideal behind))) (content_lines first.1 (lines behind)) (content_lines second.1 (lines end)) h first.0 second.0
-          (head_back h s last (listing h (codes "ideal") ideal behind)) first.2 second.2 (ended_back last second.1),
-      first.3,
-      second.3,
-    )
-
-pub read_as : (h : Head) → IsSound h → (ideal generators : List (Polynomial ℕ)) → IsCanonicalList (residues h.size) (order_of_head h) ideal → IsCanonicalList (residues h.size) (order_of_head h) generators → IsReadAs h ideal generators
-read_as h s ideal generators hi hg =
-    let all = read_steps h s (end_line (text_of h ideal generators)) ideal generators hi hg in
-    record { ideal_sums = all.0; generator_sums = all.1; read = ap reading (text_is h ideal generators) ∙ all.2; ideal_is = all.3; generators_are = all.4 }
+reading_behind_head known last l0 l1 h e = rw e refl
 
 -- ---- presentations
 
--- the heading of a presentation
-head_of : Presentation WordField WeightOrder ℕ → List (List ℕ) → Head
-head_of p names = record { size = p.field.modulus; names = names; weights = p.order.weights.items; rows = p.order.rows.items; tie = p.order.tie }
+module _ {F E : Type 0} (ops : F → FieldOps E) (of_size : ℕ → FieldOps E) (any : Reading E → AnyReading) (kind : IsKind ops of_size any) where
+  -- the heading of a presentation
+  head_of : Presentation F WeightOrder E → List (List ℕ) → Head
+  head_of p names = record { size = (ops p.field).size; names = names; weights = p.order.weights.items; rows = p.order.rows.items; tie = p.order.tie }
 
-sound : (p : Presentation WordField WeightOrder ℕ) (names : List (List ℕ)) → p.names ≡ Listed names → IsValid (λ f. residues f.modulus) weight_order_of p → IsSound (head_of p names)
-unfolding head_of
-sound p names e valid = record {
-  listed = p.field.listed;
-  weights = p.order.weights_in_range;
-  few = p.order.few_rows;
-  rows = p.order.rows_in_range;
-  order = weight_laws p.order.weights.items p.order.rows.items p.order.tie p.order.weights_in_range;
-  names = subst (AreNames (weight_order_of p.order).places) e valid.names;
-}
+  sound : (p : Presentation F WeightOrder E) (names : List (List ℕ)) → p.names ≡ Listed names → IsValid ops weight_order_of p → IsSound (head_of p names)
+  unfolding head_of
+  sound p names e valid = record {
+    size = kind.known p.field;
+    weights = p.order.weights_in_range;
+    few = p.order.few_rows;
+    rows = p.order.rows_in_range;
+    order = weight_laws p.order.weights.items p.order.rows.items p.order.tie p.order.weights_in_range;
+    names = subst (AreNames (weight_order_of p.order).places) e valid.names;
+  }
 
-pub presentation_read : (p : Presentation WordField WeightOrder ℕ) (text : List ℕ) → IsValid (λ f. residues f.modulus) weight_order_of p → IsTextOf (λ f. residues f.modulus) p text → IsRead text p
-unfolding head_of
-presentation_read p text valid is =
-    let h : Head = head_of p is.0 in
-    let all = read_as h (sound p is.0 is.1 valid) p.ideal.items p.generators.items valid.ideal valid.generators in
-    record {
-      present = record { head = h; ideal = all.ideal_sums; generators = all.generator_sums };
-      reading = ap reading is.2 ∙ all.read;
-      field = refl;
-      names = is.1;
-      weights = refl;
-      rows = refl;
-      tie = refl;
-      ideal = all.ideal_is;
-      generators = all.generators_are;
-      valid = valid;
-    }
+  -- with every test that knows the size of the field
+  pub presentation_read_with : (known : ℕ → Bool) (p : Presentation F WeightOrder E) (text : List ℕ) → known (ops p.field).size ≡ true → IsValid ops weight_order_of p → IsTextOf ops p text →
+      IsReadIn ops (λ r. reading_with known text ≡ Ok (any r)) p
+  unfolding head_of text_of
+  presentation_read_with known p text is_known valid is =
+      let K : FieldOps E = ops p.field in
+      let h : Head = head_of p is.0 in
+      let s : IsSound h = sound p is.0 is.1 valid in
+      let small : K.size < 100000 = size_small K.size (kind.known p.field) in
+      let whole : List ℕ = text_of K h p.ideal.items p.generators.items in
+      let behind : List Line = content_lines 6 (lines (lists_text K h p.ideal.items p.generators.items)) in
+      let all = lists_back K (kind.laws p.field) (omega arith) h s (end_line whole) 6 p.ideal.items p.generators.items valid.ideal valid.generators in
+      let first : reading_of known (end_line whole) (content_lines 1 (lines whole)) ≡ reading_behind (end_line whole) h behind =
+      reading_behind_head known (end_line whole) (content_lines 1 (lines whole)) behind h (head_back known h s is_known (end_line whole) (lists_text K h p.ideal.items p.generators.items)) in
+      let second : reading_behind (end_line whole) h behind ≡ Ok (any (record { head = h; ideal = all.0; generators = all.1 })) =
+      kind.behind p.field (end_line whole) h behind refl ∙ ap (λ (x : Result (Reading E) Fault). x >>= λ r. Ok (any r)) all.2 in
+      record {
+        present = record { head = h; ideal = all.0; generators = all.1 };
+        reading = ap (reading_with known) (is.2 ∙ text_is K h p.ideal.items p.generators.items refl) ∙ first ∙ second;
+        field = refl;
+        names = is.1;
+        weights = refl;
+        rows = refl;
+        tie = refl;
+        ideal = all.3;
+        generators = all.4;
+        valid = valid;
+      }
+
+  pub presentation_read : (p : Presentation F WeightOrder E) (text : List ℕ) → IsValid ops weight_order_of p → IsTextOf ops p text → IsReadIn ops (λ r. reading text ≡ Ok (any r)) p
+  presentation_read p text valid is = presentation_read_with is_size p text (kind.known p.field) valid is

@@ -1,7 +1,5 @@
 -- What the calls give that read a text.
 use Rattle.std.specs.Prelude.{◌≡◌, ℕ, List, [], Result, Ok, Err}
-use Rattle.word_field.specs.Field.{FieldOps}
-use Rattle.word_field.specs.Residues.{residues}
 use Rattle.monomial_order.specs.MonomialOrder.{MonomialOrder}
 use Rattle.poly_core.specs.Presentation.{weight_order_of}
 use Rattle.poly_core.specs.declared.place_names.Names.{Names}
@@ -38,11 +36,8 @@ listed (Paired first count second) = []
 
 -- the meaning of a head of the program
 abbrev pub head_of : Opening → Head
-head_of h = record { size = h.field.modulus; names = listed h.names; weights = h.order.weights.items; rows = h.order.rows.items; tie = h.order.tie }
+head_of h = record { size = h.size; names = listed h.names; weights = h.order.weights.items; rows = h.order.rows.items; tie = h.order.tie }
 
--- its field and its order
-abbrev pub field_in : Opening → FieldOps ℕ
-field_in h = residues h.field.modulus
-
+-- its order
 abbrev pub order_in : Opening → MonomialOrder
 order_in h = weight_order_of h.order

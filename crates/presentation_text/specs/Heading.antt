@@ -1,8 +1,9 @@
 -- The lines of a presentation other than polynomials, as tokens.
-use Rattle.std.specs.Prelude.{ℕ, zero, suc, List, [], ◌∷◌, length, Bool, true, not, ◌&&◌, ◌==◌, Option, Some, None, Result, Ok, Err, nat_le, if◌then◌else◌, codes}
+use Rattle.std.specs.Prelude.{ℕ, zero, suc, List, [], ◌∷◌, length, Bool, true, not, ◌&&◌, ◌||◌, ◌==◌, Option, Some, None, Result, Ok, Err, nat_le, if◌then◌else◌, codes}
 use Rattle.std.specs.List.{list_all, list_any}
 use Rattle.std.specs.Str.{bytes_eq}
 use Rattle.word_field.specs.Residues.{is_listed}
+use Rattle.ext_field.specs.PairField.{is_pair_size}
 use Rattle.monomial_order.specs.declared.tie_break.Tie.{Tie}
 use Rattle.monomial_order.specs.declared.tie_break.Tie.TheVariants.{Lex, RevLex}
 use Rattle.poly_core.specs.Names.{has_name_form}
@@ -51,9 +52,13 @@ behind_key key (token ∷ rest) = if bytes_eq token key then Some rest else None
 unfoldable pub header : List (List ℕ) → Option (List (List ℕ))
 header line = behind_key (codes "subalgebra") line >>= λ rest. behind_key (codes "1") rest >>= λ none. if length none == 0 then Some none else None
 
--- `field` and a listed size
-unfoldable pub size : List (List ℕ) → Option ℕ
-size line = behind_key (codes "field") line >>= λ rest. only rest >>= number_of >>= λ n. if is_listed n then Some n else None
+-- the sizes of the fields that texts may have, of either kind
+abbrev pub is_size : ℕ → Bool
+is_size q = is_listed q || is_pair_size q
+
+-- `field` and a known size
+unfoldable pub size : (ℕ → Bool) → List (List ℕ) → Option ℕ
+size known line = behind_key (codes "field") line >>= λ rest. only rest >>= number_of >>= λ n. if known n then Some n else None
 
 -- a name of at most name_max bytes
 abbrev pub is_name : List ℕ → Bool
@@ -117,8 +122,8 @@ closing line = behind_key (codes "end") line >>= λ none. if length none == 0 th
 abbrev pub header_line : List ℕ → Result (List (List ℕ)) TextKind
 header_line line = or_fault Header (header (tokens line))
 
-abbrev pub field_line : List ℕ → Result ℕ TextKind
-field_line line = or_fault FieldUnknown (size (tokens line))
+abbrev pub field_line : (ℕ → Bool) → List ℕ → Result ℕ TextKind
+field_line known line = or_fault FieldUnknown (size known (tokens line))
 
 -- the form is judged before equal names
 unfoldable pub vars_line : List ℕ → Result (List (List ℕ)) TextKind

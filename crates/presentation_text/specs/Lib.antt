@@ -10,4 +10,5 @@ pub mod PolySums
 pub mod PresentationText
 pub mod Presenting
 pub mod Reading
+pub mod Sizes
 pub mod Taking

@@ -3,6 +3,9 @@ use Rattle.std.specs.Prelude.{◌≡◌, ℕ, List, [], ◌∷◌, Result, Ok, E
 use Rattle.word_field.specs.Field.{FieldOps}
 use Rattle.word_field.specs.Residues.{residues}
 use Rattle.word_field.specs.declared.WordField.{WordField}
+use Rattle.ext_field.specs.PairField.{pairs}
+use Rattle.ext_field.specs.declared.pair.Pair.{Pair}
+use Rattle.ext_field.specs.declared.pair_field.PairField.{PairField}
 use Rattle.monomial_order.specs.declared.weight_order.WeightOrder.{WeightOrder}
 use Rattle.monomial_order.specs.MonomialOrder.{MonomialOrder}
 use Rattle.polynomials.specs.Polynomial.{Polynomial, Same, IsCanonical}
@@ -13,7 +16,10 @@ use Rattle.poly_core.specs.declared.presentations.Presentation.{Presentation}
 use Rattle.presentation_text.specs.declared.text_fault.TextFault.{TextFault}
 use Rattle.presentation_text.specs.declared.text_fault.TextFault.TheVariants as faults
 use Rattle.presentation_text.specs.Kinds.{Fault}
-use Rattle.presentation_text.specs.Reading.{Reading, reading, queries}
+use Rattle.presentation_text.specs.Reading.{Reading, AnyReading, reading, queries}
+use Rattle.presentation_text.specs.Reading.AnyReading.{word, pair}
+use Rattle.presentation_text.specs.declared.any_presentation.AnyPresentation.{AnyPresentation}
+use Rattle.presentation_text.specs.declared.any_presentation.AnyPresentation.TheVariants as presentations
 use Rattle.presentation_text.specs.PresentationText.{presentation_text}
 
 -- the longest text that is read
@@ -27,18 +33,38 @@ AreSums K O [] (p ∷ ps) = ⊥
 AreSums K O (sum ∷ sums) [] = ⊥
 AreSums K O (sum ∷ sums) (p ∷ ps) = Same K p sum × IsCanonical K O p × AreSums K O sums ps
 
--- p is the presentation that the text presents
-pub record IsRead (text : List ℕ) (p : Presentation WordField WeightOrder ℕ) : Type 0 where
-  pub present : Reading
-  pub reading : reading text ≡ Ok present
-  pub field : p.field.modulus ≡ present.head.size
+-- p is the presentation over a field with these operations of what was read
+pub record IsReadIn {F E : Type 0} (ops : F → FieldOps E) (reads : Reading E → Type 0) (p : Presentation F WeightOrder E) : Type 0 where
+  pub present : Reading E
+  pub reading : reads present
+  pub field : (ops p.field).size ≡ present.head.size
   pub names : p.names ≡ Listed present.head.names
   pub weights : p.order.weights.items ≡ present.head.weights
   pub rows : p.order.rows.items ≡ present.head.rows
   pub tie : p.order.tie ≡ present.head.tie
-  pub ideal : AreSums (residues p.field.modulus) (weight_order_of p.order) present.ideal p.ideal.items
-  pub generators : AreSums (residues p.field.modulus) (weight_order_of p.order) present.generators p.generators.items
-  pub valid : IsValid (λ f. residues f.modulus) weight_order_of p
+  pub ideal : AreSums (ops p.field) (weight_order_of p.order) present.ideal p.ideal.items
+  pub generators : AreSums (ops p.field) (weight_order_of p.order) present.generators p.generators.items
+  pub valid : IsValid ops weight_order_of p
+
+-- the operations of the fields of both kinds
+abbrev pub word_ops : WordField → FieldOps ℕ
+word_ops f = residues f.modulus
+
+abbrev pub pair_ops : PairField → FieldOps Pair
+pair_ops f = pairs f.prime f.square.low f.square.high
+
+-- p is the presentation that the text presents, over a field of numbers
+abbrev pub IsRead : List ℕ → Presentation WordField WeightOrder ℕ → Type 0
+IsRead text p = IsReadIn word_ops (λ r. reading text ≡ Ok (word r)) p
+
+-- the same over a field of pairs
+abbrev pub IsPairRead : List ℕ → Presentation PairField WeightOrder Pair → Type 0
+IsPairRead text p = IsReadIn pair_ops (λ r. reading text ≡ Ok (pair r)) p
+
+-- the same over a field of either kind
+abbrev pub IsAnyRead : List ℕ → AnyPresentation → Type 0
+IsAnyRead text (presentations.Word p) = IsRead text p
+IsAnyRead text (presentations.Pair p) = IsPairRead text p
 
 -- the fault that a text has, unless memory runs out
 abbrev pub IsFaultOf : {A : Type 0} → Result A Fault → TextFault → Type 0

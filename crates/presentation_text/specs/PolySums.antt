@@ -6,7 +6,6 @@ use Rattle.polynomials.specs.Polynomial.{Polynomial, Same}
 use Rattle.poly_core.specs.Presentation.{IsCanonicalGenerator, IsCanonicalList, generator_degree, weight_order_of}
 use Rattle.poly_core.specs.declared.presentations.Presentation.{Presentation}
 use Rattle.monomial_order.specs.declared.weight_order.WeightOrder.{WeightOrder}
-use Rattle.word_field.specs.declared.WordField.{WordField}
 use Rattle.presentation_text.specs.declared.head.Head.{Head as Opening}
 use Rattle.presentation_text.specs.declared.text_kind.TextKind.TheVariants.{UnitIdeal, ConstantGenerator}
 use Rattle.polynomial_text.specs.Results.{◌>>=◌}
@@ -40,16 +39,16 @@ module _ {E : Type 0} (K : FieldOps E) (O : MonomialOrder) where
     pub generators_canonical : IsCanonicalList K O generators
 
 -- the lines behind the order: the sums of the ideal's lines, and of the generators'
-unfoldable pub lists : ℕ → Head → List Line → Result (List (Polynomial ℕ) × List (Polynomial ℕ)) Fault
-lists last h ls = do
-  ideal ← counted last h (codes "ideal") UnitIdeal ls
-  generators ← counted last h (codes "generators") ConstantGenerator ideal.1
+unfoldable pub lists : {E : Type 0} → FieldOps E → ℕ → Head → List Line → Result (List (Polynomial E) × List (Polynomial E)) Fault
+lists K last h ls = do
+  ideal ← counted K last h (codes "ideal") UnitIdeal ls
+  generators ← counted K last h (codes "generators") ConstantGenerator ideal.1
   end ← ended last generators.1
   Ok (ideal.0, generators.0)
 
--- the presentation is made of a head and the two lists
-pub record IsMadeOf (h : Opening) (ideal generators : List (Polynomial ℕ)) (p : Presentation WordField WeightOrder ℕ) : Type 0 where
-  pub field : p.field ≡ h.field
+-- the presentation is made of a field, a head and the two lists
+pub record IsMadeOf {F E : Type 0} (f : F) (h : Opening) (ideal generators : List (Polynomial E)) (p : Presentation F WeightOrder E) : Type 0 where
+  pub field : p.field ≡ f
   pub names : p.names ≡ h.names
   pub order : p.order ≡ h.order
   pub ideal_is : p.ideal.items ≡ ideal

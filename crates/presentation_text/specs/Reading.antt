@@ -1,7 +1,9 @@
 -- The reading of a presentation, and the first fault of each text that has none.
-use Rattle.std.specs.Prelude.{ℕ, zero, suc, List, [], ◌∷◌, length, Result, Ok, Err, codes}
+use Rattle.std.specs.Prelude.{ℕ, zero, suc, Bool, List, [], ◌∷◌, length, Result, Ok, Err, codes, if◌then◌else◌}
 use Rattle.word_field.specs.Field.{FieldOps}
 use Rattle.word_field.specs.Residues.{residues}
+use Rattle.ext_field.specs.PairField.{is_pair_size, pairs_of}
+use Rattle.ext_field.specs.declared.pair.Pair.{Pair}
 use Rattle.monomial_order.specs.declared.tie_break.Tie.{Tie}
 use Rattle.monomial_order.specs.MonomialOrder.{MonomialOrder}
 use Rattle.monomial_order.specs.Orders.{weight_order}
@@ -15,7 +17,7 @@ use Rattle.presentation_text.specs.Kinds.{Fault, in_text}
 use Rattle.presentation_text.specs.Lines.{content, end_line}
 use Rattle.polynomial_text.specs.PolyLine.{terms_of}
 use Rattle.presentation_text.specs.Judging.{judged}
-use Rattle.presentation_text.specs.Heading.{header_line, field_line, vars_line, weights_line, order_line, count_line, closing_line}
+use Rattle.presentation_text.specs.Heading.{is_size, header_line, field_line, vars_line, weights_line, order_line, count_line, closing_line}
 use Rattle.polynomials.specs.Polynomial.{Polynomial}
 
 -- a numbered line
@@ -54,24 +56,25 @@ pub record Head : Type 0 where
 abbrev pub order_of_head : Head → MonomialOrder
 order_of_head h = weight_order h.weights h.rows (tie_order h.tie)
 
-unfoldable pub head : ℕ → List Line → Result (Head × List Line) Fault
-head last ls = do
+-- the sizes that are known are those of a test
+unfoldable pub head : (ℕ → Bool) → ℕ → List Line → Result (Head × List Line) Fault
+head known last ls = do
   first ← next last header_line ls
-  size ← next last field_line first.1
+  size ← next last (field_line known) first.1
   names ← next last vars_line size.1
   weights ← next last (weights_line (length names.0)) names.1
   order ← next last (order_line (length names.0)) weights.1
   Ok (record { size = size.0; names = names.0; weights = weights.0; rows = order.0.0; tie = order.0.1 }, order.1)
 
 -- a polynomial that is zero or homogeneous of a positive degree, as the sum of the terms of its line
-unfoldable pub poly_line : Head → TextKind → List ℕ → Result (Polynomial ℕ) TextKind
-poly_line h constant line = in_text (terms_of (residues h.size) (order_of_head h) (Listed h.names) line) >>= judged h.size (order_of_head h) constant
+unfoldable pub poly_line : {E : Type 0} → FieldOps E → Head → TextKind → List ℕ → Result (Polynomial E) TextKind
+poly_line K h constant line = in_text (terms_of K (order_of_head h) (Listed h.names) line) >>= judged K (order_of_head h) constant
 
 -- as many polynomials as the number behind the token says
-unfoldable pub counted : ℕ → Head → List ℕ → TextKind → List Line → Result (List (Polynomial ℕ) × List Line) Fault
-counted last h key constant ls = do
+unfoldable pub counted : {E : Type 0} → FieldOps E → ℕ → Head → List ℕ → TextKind → List Line → Result (List (Polynomial E) × List Line) Fault
+counted K last h key constant ls = do
   count ← next last (count_line key) ls
-  several last (poly_line h constant) count.0 count.1
+  several last (poly_line K h constant) count.0 count.1
 
 -- behind `end` there is no line
 unfoldable pub ended : ℕ → List Line → Result (List Line) Fault
@@ -81,22 +84,40 @@ ended last ls = next last closing_line ls >>= λ x. nothing x.1
     nothing [] = Ok []
     nothing (line ∷ rest) = Err (TextAfterEnd, line.0)
 
--- what a text presents; each polynomial is the sum of the terms of its line
-pub record Reading : Type 0 where
+-- what a text presents over a field; each polynomial is the sum of the terms of its line
+pub record Reading (E : Type 0) : Type 0 where
   pub head : Head
-  pub ideal : List (Polynomial ℕ)
-  pub generators : List (Polynomial ℕ)
+  pub ideal : List (Polynomial E)
+  pub generators : List (Polynomial E)
 
-unfoldable pub reading_of : ℕ → List Line → Result Reading Fault
-reading_of last ls = do
-  head ← head last ls
-  ideal ← counted last head.0 (codes "ideal") UnitIdeal head.1
-  generators ← counted last head.0 (codes "generators") ConstantGenerator ideal.1
+-- over a field of numbers, or of pairs
+pub data AnyReading : Type 0 where
+  word : Reading ℕ → AnyReading
+  pair : Reading Pair → AnyReading
+
+-- the lines behind the order
+unfoldable pub reading_over : {E : Type 0} → FieldOps E → ℕ → Head → List Line → Result (Reading E) Fault
+reading_over K last h ls = do
+  ideal ← counted K last h (codes "ideal") UnitIdeal ls
+  generators ← counted K last h (codes "generators") ConstantGenerator ideal.1
   end ← ended last generators.1
-  Ok (record { head = head.0; ideal = ideal.0; generators = generators.0 })
+  Ok (record { head = h; ideal = ideal.0; generators = generators.0 })
 
-abbrev pub reading : List ℕ → Result Reading Fault
-reading text = reading_of (end_line text) (content text)
+-- over the field of the size of the head
+unfoldable pub reading_behind : ℕ → Head → List Line → Result AnyReading Fault
+reading_behind last h ls =
+    if is_pair_size h.size then (reading_over (pairs_of h.size) last h ls >>= λ r. Ok (pair r))
+    else (reading_over (residues h.size) last h ls >>= λ r. Ok (word r))
+
+unfoldable pub reading_of : (ℕ → Bool) → ℕ → List Line → Result AnyReading Fault
+reading_of known last ls = head known last ls >>= λ x. reading_behind last x.0 x.1
+
+-- a text with a field of a known size
+abbrev pub reading_with : (ℕ → Bool) → List ℕ → Result AnyReading Fault
+reading_with known text = reading_of known (end_line text) (content text)
+
+abbrev pub reading : List ℕ → Result AnyReading Fault
+reading text = reading_with is_size text
 
 -- the polynomials of a query file, one on each line, each as the sum of the terms of its line
 abbrev pub queries : {E : Type 0} → FieldOps E → MonomialOrder → Names → List ℕ → Result (List (Polynomial E)) Fault

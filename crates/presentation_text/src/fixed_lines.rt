@@ -4,7 +4,6 @@ ghost use Rattle.std.specs.Prelude.{IfOk, IfErr, OnOk, if◌then◌else◌};
 ghost use Rattle.std.specs.List.{list_all, IsDistinct};
 ghost use Rattle.std.specs.Option.{option_map};
 ghost use Rattle.std.specs.Str.{bytes_eq};
-ghost use Rattle.word_field.specs.Residues.{is_listed};
 ghost use Rattle.poly_core.specs.Names.{has_name_form};
 ghost use Rattle.polynomial_text.specs.Canonical.{IsLineFaultOf};
 ghost use Rattle.polynomial_text.specs.LineReading.{Gives};
@@ -15,16 +14,17 @@ ghost use Rattle.presentation_text.specs.Heading.{header_line, field_line, vars_
 ghost use Rattle.presentation_text.specs.Heading.{count_line, closing_line};
 ghost use Rattle.presentation_text.specs.Kinds.{or_fault};
 ghost use Rattle.presentation_text.specs.Lines.{tokens};
+ghost use Rattle.presentation_text.specs.Sizes.{is_known};
 ghost use Rattle.presentation_text.specs.Taking.{are_names, with_front, IsRepeated};
 
 use crate::numbers::{number, number_within};
+use crate::sizes::Sizes;
 use crate::text_kind::TextKind;
 use crate::tokens::Tokens;
 use monomial_order::{Row, Tie};
 use poly_core::NameTable;
 use polynomial_text::{ByteClass, LineFault};
 use std::alloc::Global;
-use word_field::WordField;
 
 /// The greatest size of a field.
 const SIZE_MAX: u64 = 65521;
@@ -62,31 +62,32 @@ pub(crate) fn header_line(line: &[u8]) -> Result<(), LineFault<TextKind>>
     header(line).ok_or(LineFault::Kind(TextKind::Header))
 }
 
-fn field_of_size(size: u64) -> Option<WordField>
-    ensures { option_map (λ f. f.modulus) result ≡ (if is_listed size then Some size else None) }
+/// A size that is known.
+fn known_size(known: Sizes, size: u64) -> Option<u32>
+    ensures { result ≡ (if is_known known size then Some size else None) }
 {
-    if size > SIZE_MAX {
-        return None;
+    if size <= SIZE_MAX && known.has(size as u32) {
+        return Some(size as u32);
     }
-    WordField::new(size as u32)
+    None
 }
 
 /// `field` and a size.
 #[tactic(auto, unfolding(crate::specs::Heading::size))]
-fn field(line: &[u8]) -> Option<WordField>
-    ensures { option_map (λ f. f.modulus) result ≡ size (tokens line.now) }
+fn field(known: Sizes, line: &[u8]) -> Option<u32>
+    ensures { result ≡ size (is_known known) (tokens line.now) }
 {
     let mut tokens = Tokens::new(line);
     tokens.behind(b"field")?;
     let token = tokens.only()?;
     let size = number(token)?;
-    field_of_size(size)
+    known_size(known, size)
 }
 
-pub(crate) fn field_line(line: &[u8]) -> Result<WordField, LineFault<TextKind>>
-    ensures { Gives (λ f. f.modulus) result (field_line line.now) }
+pub(crate) fn field_line(known: Sizes, line: &[u8]) -> Result<u32, LineFault<TextKind>>
+    ensures { Gives (λ q. q) result (field_line (is_known known) line.now) }
 {
-    field(line).ok_or(LineFault::Kind(TextKind::FieldUnknown))
+    field(known, line).ok_or(LineFault::Kind(TextKind::FieldUnknown))
 }
 
 fn has_name_form(token: &[u8]) -> bool

@@ -1,23 +1,24 @@
 //! The lines of a presentation up to its order.
-ghost use Rattle.std.specs.Prelude.{◌≡◌, [], length, IfOk};
+ghost use Rattle.std.specs.Prelude.{◌≡◌, true, [], length, IfOk};
 ghost use Rattle.monomial_order.specs.Faults.{IsWeighing};
 ghost use Rattle.poly_core.specs.Names.{AreNames};
 ghost use Rattle.presentation_text.specs.Giving.{Gives, head_of};
 ghost use Rattle.presentation_text.specs.Heading.{header_line, field_line, vars_line, weights_line, order_line};
 ghost use Rattle.presentation_text.specs.Reading.{next, head};
+ghost use Rattle.presentation_text.specs.Sizes.{is_known};
 
 use crate::fixed_lines::{field_line, header_line, order_line, vars_line, weights_line};
 use crate::lines::{Lines, located};
+use crate::sizes::Sizes;
 use crate::text_fault::TextFault;
 use monomial_order::{Memory, OrderFault, Row, Tie, WeightOrder};
 use poly_core::{NameTable, Names};
 use std::alloc::Global;
-use word_field::WordField;
 
-/// What the first lines say: the field, the names and the order.
+/// What the first lines say: the size of the field, the names and the order.
 #[derive(Drop)]
 pub(crate) struct Head {
-    pub field: WordField,
+    pub size: u32,
     pub names: Names,
     pub order: WeightOrder,
 }
@@ -32,12 +33,13 @@ fn header(lines: &mut Lines) -> Result<(), TextFault>
 }
 
 #[tactic(auto, unfolding(crate::specs::Reading::next, crate::specs::Reading::at_line))]
-fn field(lines: &mut Lines) -> Result<WordField, TextFault>
+fn field(known: Sizes, lines: &mut Lines) -> Result<u32, TextFault>
     ensures missing { lines.new.missing ≡ lines.old.missing }
-    ensures read { Gives (λ f. (f.modulus, lines.new.left)) result (next lines.old.missing field_line lines.old.left) }
+    ensures read { Gives (λ q. (q, lines.new.left)) result
+        (next lines.old.missing (field_line (is_known known)) lines.old.left) }
 {
     let line = lines.needed_line()?;
-    located(line.number, field_line(line.bytes))
+    located(line.number, field_line(known, line.bytes))
 }
 
 #[tactic(auto, unfolding(crate::specs::Reading::next, crate::specs::Reading::at_line))]
@@ -92,20 +94,22 @@ fn weight_order(
 
 /// The lines up to the order.
 #[tactic(auto, unfolding(crate::specs::Reading::head))]
-pub(crate) fn read_head(alloc: Global, lines: &mut Lines) -> Result<Head, TextFault>
+pub(crate) fn read_head(alloc: Global, known: Sizes, lines: &mut Lines) -> Result<Head, TextFault>
     ensures missing { lines.new.missing ≡ lines.old.missing }
-    ensures read { Gives (λ h. (head_of h, lines.new.left)) result (head lines.old.missing lines.old.left) }
+    ensures read { Gives (λ h. (head_of h, lines.new.left)) result
+        (head (is_known known) lines.old.missing lines.old.left) }
+    ensures known { IfOk result (λ h. is_known known h.size ≡ true) }
     ensures named { IfOk result (λ h. AreNames (length h.order.weights.items) h.names) }
 {
     header(lines)?;
-    let field = field(lines)?;
+    let size = field(known, lines)?;
     let names = vars(alloc, lines)?;
     let count = names.len();
     let weights = weights(alloc, count, lines)?;
     let (rows, tie) = rows(alloc, count, lines)?;
     let order = weight_order(alloc, &weights, &rows, tie)?;
     Ok(Head {
-        field,
+        size,
         names: Names::Listed(names),
         order,
     })

@@ -1,16 +1,19 @@
 //! Laws of texts and of what they present: contracts of calls that do nothing, and of one that reads what it writes.
 ghost use Rattle.std.specs.Prelude.{◌≡◌, ◌<◌, ℕ, List, length, None, Ok, Err, IfSome, IfOk};
 ghost use Rattle.word_field.specs.Residues.{residues};
+ghost use Rattle.ext_field.specs.PairField.{pairs_of};
 ghost use Rattle.poly_core.specs.Presentation.{IsValid, IsSame, weight_order_of};
 ghost use Rattle.presentation_text.specs.Kinds.{Fault};
 ghost use Rattle.presentation_text.specs.Presenting.{IsPresented, IsFromReading};
 ghost use Rattle.presentation_text.specs.Reading.{Reading, reading};
-ghost use Rattle.presentation_text.specs.Meaning.{text_max, IsRead, IsTextOf};
+ghost use Rattle.presentation_text.specs.Reading.AnyReading.{word, pair};
+ghost use Rattle.presentation_text.specs.Meaning.{text_max, word_ops, pair_ops, IsRead, IsPairRead, IsTextOf};
 
 use crate::TEXT_MAX;
 use crate::reading::read;
 use crate::text_fault::TextFault;
 use crate::writing::write;
+use ext_field::{Pair, PairField};
 use monomial_order::{Memory, WeightOrder};
 use poly_core::Presentation;
 use std::alloc::Global;
@@ -18,53 +21,68 @@ use word_field::WordField;
 
 /// The canonical text of a presentation presents it.
 pub fn text_is_read()
-    ensures { (p : Presentation WordField WeightOrder ℕ) (text : List ℕ) →
-        IsValid (λ f. residues f.modulus) weight_order_of p → IsTextOf (λ f. residues f.modulus) p text →
-        IsRead text p }
+    ensures words { (p : Presentation WordField WeightOrder ℕ) (text : List ℕ) →
+        IsValid word_ops weight_order_of p → IsTextOf word_ops p text → IsRead text p }
+    ensures pairs { (p : Presentation PairField WeightOrder Pair) (text : List ℕ) →
+        IsValid pair_ops weight_order_of p → IsTextOf pair_ops p text → IsPairRead text p }
 {}
 
 /// A text presents one presentation at most.
 pub fn one_reading()
-    ensures { (p q : Presentation WordField WeightOrder ℕ) (text : List ℕ) →
+    ensures words { (p q : Presentation WordField WeightOrder ℕ) (text : List ℕ) →
         IsRead text p → IsRead text q → IsSame p q }
+    ensures pairs { (p q : Presentation PairField WeightOrder Pair) (text : List ℕ) →
+        IsPairRead text p → IsPairRead text q → IsSame p q }
 {}
 
 /// A text that presents something has no fault.
 pub fn one_outcome()
-    ensures { (p : Presentation WordField WeightOrder ℕ) (text : List ℕ) (fault : Fault) →
+    ensures words { (p : Presentation WordField WeightOrder ℕ) (text : List ℕ) (fault : Fault) →
         IsRead text p → reading text ≡ Err fault → ⊥ }
+    ensures pairs { (p : Presentation PairField WeightOrder Pair) (text : List ℕ) (fault : Fault) →
+        IsPairRead text p → reading text ≡ Err fault → ⊥ }
 {}
 
 /// What a text is read as is a presentation.
 pub fn reading_is_presented()
-    ensures { (text : List ℕ) (r : Reading) → reading text ≡ Ok r → IsPresented r }
+    ensures words { (text : List ℕ) (r : Reading ℕ) →
+        reading text ≡ Ok (word r) → IsPresented (residues r.head.size) r }
+    ensures pairs { (text : List ℕ) (r : Reading Pair) →
+        reading text ≡ Ok (pair r) → IsPresented (pairs_of r.head.size) r }
 {}
 
 /// Each presentation that is made of a reading is valid, and the text presents it.
 pub fn reading_is_valid()
-    ensures { (text : List ℕ) (r : Reading) (p : Presentation WordField WeightOrder ℕ) →
-        reading text ≡ Ok r → IsFromReading r p → IsRead text p }
+    ensures words { (text : List ℕ) (r : Reading ℕ) (p : Presentation WordField WeightOrder ℕ) →
+        reading text ≡ Ok (word r) → IsFromReading word_ops r p → IsRead text p }
+    ensures pairs { (text : List ℕ) (r : Reading Pair) (p : Presentation PairField WeightOrder Pair) →
+        reading text ≡ Ok (pair r) → IsFromReading pair_ops r p → IsPairRead text p }
 {}
 
 /// What is read of the canonical text of a presentation is that presentation.
 pub fn read_back()
-    ensures { (p q : Presentation WordField WeightOrder ℕ) (text : List ℕ) →
-        IsValid (λ f. residues f.modulus) weight_order_of p → IsTextOf (λ f. residues f.modulus) p text →
-        IsRead text q → IsSame p q }
+    ensures words { (p q : Presentation WordField WeightOrder ℕ) (text : List ℕ) →
+        IsValid word_ops weight_order_of p → IsTextOf word_ops p text → IsRead text q → IsSame p q }
+    ensures pairs { (p q : Presentation PairField WeightOrder Pair) (text : List ℕ) →
+        IsValid pair_ops weight_order_of p → IsTextOf pair_ops p text → IsPairRead text q → IsSame p q }
 {}
 
 /// The canonical text of a presentation has no fault.
 pub fn text_has_no_fault()
-    ensures { (p : Presentation WordField WeightOrder ℕ) (text : List ℕ) (fault : Fault) →
-        IsValid (λ f. residues f.modulus) weight_order_of p → IsTextOf (λ f. residues f.modulus) p text →
-        reading text ≡ Err fault → ⊥ }
+    ensures words { (p : Presentation WordField WeightOrder ℕ) (text : List ℕ) (fault : Fault) →
+        IsValid word_ops weight_order_of p → IsTextOf word_ops p text → reading text ≡ Err fault → ⊥ }
+    ensures pairs { (p : Presentation PairField WeightOrder Pair) (text : List ℕ) (fault : Fault) →
+        IsValid pair_ops weight_order_of p → IsTextOf pair_ops p text → reading text ≡ Err fault → ⊥ }
 {}
 
 /// Presentations with the same canonical text are the same.
 pub fn one_text()
-    ensures { (p q : Presentation WordField WeightOrder ℕ) (text : List ℕ) →
-        IsValid (λ f. residues f.modulus) weight_order_of p → IsValid (λ f. residues f.modulus) weight_order_of q →
-        IsTextOf (λ f. residues f.modulus) p text → IsTextOf (λ f. residues f.modulus) q text → IsSame p q }
+    ensures words { (p q : Presentation WordField WeightOrder ℕ) (text : List ℕ) →
+        IsValid word_ops weight_order_of p → IsValid word_ops weight_order_of q →
+        IsTextOf word_ops p text → IsTextOf word_ops q text → IsSame p q }
+    ensures pairs { (p q : Presentation PairField WeightOrder Pair) (text : List ℕ) →
+        IsValid pair_ops weight_order_of p → IsValid pair_ops weight_order_of q →
+        IsTextOf pair_ops p text → IsTextOf pair_ops q text → IsSame p q }
 {}
 
 /// What is read of what is written: the presentation itself, or None if its text is too long to be read.
@@ -72,10 +90,10 @@ pub fn read_written(
     alloc: Global,
     p: &Presentation<WordField, WeightOrder>,
 ) -> Result<Option<Presentation<WordField, WeightOrder>>, Memory>
-    requires { IsValid (λ f. residues f.modulus) weight_order_of p.now }
+    requires { IsValid word_ops weight_order_of p.now }
     ensures same { IfOk result (λ r. IfSome r (IsSame p.now)) }
     ensures none { result ≡ Ok None →
-        (text : List ℕ) → IsTextOf (λ f. residues f.modulus) p.now text → text_max < length text }
+        (text : List ℕ) → IsTextOf word_ops p.now text → text_max < length text }
 {
     let text = write(alloc, p)?;
     if text.len() as u64 > TEXT_MAX {

@@ -2,36 +2,57 @@
 use Rattle.std.proofs.Common.{◌≡◌, ◌≢◌, ◌<◌, ℕ, List, length, Option, Some, None, Result, Ok, Err, refl, sym, ap, subst, ◌∙◌, inl, inr, ⊎_elim, arith}
 use Rattle.std.specs.Prelude.{Contains}
 use Rattle.std.specs.FinMap as map
-use Rattle.word_field.specs.Residues.{residues}
+use Rattle.word_field.specs.Field.{FieldOps}
 use Rattle.word_field.specs.declared.WordField.{WordField}
+use Rattle.ext_field.specs.declared.pair.Pair.{Pair}
+use Rattle.ext_field.specs.declared.pair_field.PairField.{PairField}
 use Rattle.monomial_order.specs.declared.weight_order.WeightOrder.{WeightOrder}
 use Rattle.poly_core.specs.Presentation.{IsSame}
 use Rattle.poly_core.specs.declared.presentations.Presentation.{Presentation}
 use Rattle.presentation_text.specs.declared.text_kind.TextKind.{TextKind}
 use Rattle.presentation_text.specs.Kinds.{Fault}
-use Rattle.presentation_text.specs.Reading.{reading}
-use Rattle.presentation_text.specs.Meaning.{text_max, IsRead}
+use Rattle.presentation_text.specs.Reading.{Reading, reading}
+use Rattle.presentation_text.specs.Reading.AnyReading.{word, pair}
+use Rattle.presentation_text.specs.declared.any_presentation.AnyPresentation.{AnyPresentation}
+use Rattle.presentation_text.specs.declared.any_presentation.AnyPresentation.TheVariants as presentations
+use Rattle.presentation_text.specs.Meaning.{text_max, word_ops, pair_ops, IsRead, IsPairRead, IsAnyRead}
 use Rattle.shelf_io.specs.Shelf.{Files}
 use Rattle.monomial_basis.specs.MonomialGenerators.{IsMonomialOrZero}
-use Rattle.sagbi_cli.specs.Built.{IsBuilt, IsNotBuilt}
+use Rattle.sagbi_cli.specs.Built.{IsBuilt, IsNotBuilt, IsAnyBuilt, IsAnyNotBuilt}
+use Rattle.sagbi_cli.specs.Report.{IsReportOf, IsAnyReport}
+use Rattle.sagbi_cli.specs.Answer.{Answers}
 use Rattle.sagbi_cli.specs.Command.{IsCompleteCommand, IsNoCommand, pres_of}
 use Rattle.sagbi_cli.specs.Ending.{IsShort, IsOutcomeOn, IsOutcomeAt, IsOutcomeFor, EndsAs, PutsOn, PutsAt, TakesOnlyReports}
 use Rattle.sagbi_cli.specs.SinkChange.{SinkChange, HasFailed}
 use Rattle.sagbi_cli.specs.declared.outcome.Outcome.{Outcome}
 use Rattle.sagbi_cli.specs.declared.outcome.Outcome.TheVariants as outcomes
 
--- a text presents one presentation
-abbrev pub IsOne : Type 0
-IsOne = (text : List ℕ) (p q : Presentation WordField WeightOrder ℕ) → IsRead text p → IsRead text q → IsSame p q
+-- a text presents one presentation over fields of each kind
+pub record IsOne : Type 0 where
+  pub words : (p q : Presentation WordField WeightOrder ℕ) (text : List ℕ) → IsRead text p → IsRead text q → IsSame p q
+  pub pairs : (p q : Presentation PairField WeightOrder Pair) (text : List ℕ) → IsPairRead text p → IsPairRead text q → IsSame p q
 
 -- presentations that are the same are not one built and one not
-built_or_not : (p q : Presentation WordField WeightOrder ℕ) → IsSame p q → IsBuilt p → IsNotBuilt q → ⊥
-built_or_not p q same built not =
+same_built : {F E : Type 0} (ops : F → FieldOps E) (p q : Presentation F WeightOrder E) → IsSame p q → IsBuilt ops p → IsNotBuilt ops q → ⊥
+same_built ops p q same built not =
     ⊎_elim
     (λ some. some (same.ideal ∙ built.no_ideal))
-    (λ r. r.2 (subst (λ f. IsMonomialOrZero (residues f.modulus) r.0) (sym same.field)
+    (λ r. r.2 (subst (λ f. IsMonomialOrZero (ops f) r.0) (sym same.field)
     (built.monomials r.0 (subst (λ fs. Contains fs r.0) same.generators r.1))))
     not
+
+one_kind : (text : List ℕ) (r : Reading ℕ) (s : Reading Pair) → reading text ≡ Ok (word r) → reading text ≡ Ok (pair s) → ⊥
+one_kind text r s h k = absurd cc
+
+built_or_not : IsOne → (text : List ℕ) (p q : AnyPresentation) → IsAnyRead text p → IsAnyRead text q → IsAnyBuilt p → IsAnyNotBuilt q → ⊥
+built_or_not one text (presentations.Word p) (presentations.Word q) h k built not = same_built word_ops p q (one.words p q text h k) built not
+built_or_not one text (presentations.Pair p) (presentations.Pair q) h k built not = same_built pair_ops p q (one.pairs p q text h k) built not
+built_or_not one text (presentations.Word p) (presentations.Pair q) h k built not = one_kind text h.present k.present h.reading k.reading
+built_or_not one text (presentations.Pair p) (presentations.Word q) h k built not = one_kind text k.present h.present k.reading h.reading
+
+any_built : (p : AnyPresentation) (bound : ℕ) (text : List ℕ) → IsAnyReport p bound text → IsAnyBuilt p
+any_built (presentations.Word p) bound text h = h.built
+any_built (presentations.Pair p) bound text h = h.built
 
 ok_err : {A F : Type 0} (x : A) (e : F) (r : Result A F) → r ≡ Ok x → r ≡ Err e → ⊥
 ok_err x e (Ok y) p q = absurd cc
@@ -41,8 +62,9 @@ err_same : {A F : Type 0} (e f : F) (r : Result A F) → r ≡ Err e → r ≡ E
 err_same e f (Ok y) p q = absurd cc
 err_same e f (Err g) p q = cc
 
-no_fault : (text : List ℕ) (p : Presentation WordField WeightOrder ℕ) (kind : TextKind) (line : ℕ) → IsRead text p → reading text ≡ Err (kind, line) → ⊥
-no_fault text p kind line h e = ok_err h.present (kind, line) (reading text) h.reading e
+no_fault : (text : List ℕ) (p : AnyPresentation) (kind : TextKind) (line : ℕ) → IsAnyRead text p → reading text ≡ Err (kind, line) → ⊥
+no_fault text (presentations.Word p) kind line h e = ok_err (word h.present) (kind, line) (reading text) h.reading e
+no_fault text (presentations.Pair p) kind line h e = ok_err (pair h.present) (kind, line) (reading text) h.reading e
 
 -- two outcomes of the same bytes are one
 module _ (one : IsOne) (bytes : List ℕ) where
@@ -54,10 +76,10 @@ module _ (one : IsOne) (bytes : List ℕ) where
 
   pub one_outcome : (o q : Outcome) → IsOutcomeOn bytes o → IsOutcomeOn bytes q → o ≡ q
   one_outcome outcomes.Done outcomes.Done d e = refl
-  one_outcome outcomes.Done outcomes.NotBuilt d e = absurd (built_or_not d.1 e.1 (one bytes d.1 e.1 d.2 e.2) d.3 e.3)
+  one_outcome outcomes.Done outcomes.NotBuilt d e = absurd (built_or_not one bytes d.1 e.1 d.2 e.2 d.3 e.3)
   one_outcome outcomes.Done (outcomes.Fault k i) d e = absurd (no_fault bytes d.1 k i d.2 e.1)
   one_outcome outcomes.Done outcomes.TooLong d e = too_long d.0 e
-  one_outcome outcomes.NotBuilt outcomes.Done d e = absurd (built_or_not e.1 d.1 (one bytes e.1 d.1 e.2 d.2) e.3 d.3)
+  one_outcome outcomes.NotBuilt outcomes.Done d e = absurd (built_or_not one bytes e.1 d.1 e.2 d.2 e.3 d.3)
   one_outcome outcomes.NotBuilt outcomes.NotBuilt d e = refl
   one_outcome outcomes.NotBuilt (outcomes.Fault k i) d e = absurd (no_fault bytes d.1 k i d.2 e.1)
   one_outcome outcomes.NotBuilt outcomes.TooLong d e = too_long d.0 e
@@ -78,9 +100,9 @@ module _ (one : IsOne) (bytes : List ℕ) where
 
   ends_on : (defined o : Outcome) (bound : ℕ) (out : SinkChange) → IsOutcomeOn bytes defined → PutsOn bytes bound o out → EndsAs defined o
   ends_on defined outcomes.Done bound out d h =
-      inl (one_outcome outcomes.Done defined (h.0, h.2.presentation, h.2.read, h.2.report.built) d)
+      inl (one_outcome outcomes.Done defined (h.0, h.2.presentation, h.2.read, any_built h.2.presentation bound h.1 h.2.report) d)
   ends_on defined outcomes.Sink bound out d h =
-      inr (inr (inr (one_outcome defined outcomes.Done d (h.0.0, h.0.2.presentation, h.0.2.read, h.0.2.report.built), refl)))
+      inr (inr (inr (one_outcome defined outcomes.Done d (h.0.0, h.0.2.presentation, h.0.2.read, any_built h.0.2.presentation bound h.0.1 h.0.2.report), refl)))
   ends_on defined outcomes.Shelf bound out d h = inr (inl refl)
   ends_on defined outcomes.Memory bound out d h = inr (inr (inl refl))
   ends_on defined o bound out d h = inl (one_outcome o defined h.0 d)
@@ -124,3 +146,14 @@ module _ (bytes : List ℕ) (bound : ℕ) where
 
   pub never_usage : (o : Outcome) (out : SinkChange) → PutsOn bytes bound o out → o ≢ outcomes.Usage
   never_usage o out h is = (subst (λ x. PutsOn bytes bound x out) is h).0
+
+-- what is done with the presentation of the bytes is done with the bytes
+module _ {F E : Type 0} (ops : F → FieldOps E) (p : Presentation F WeightOrder E) (bytes : List ℕ) (bound : ℕ) (short : IsShort bytes) (any : AnyPresentation) (read : IsAnyRead bytes any)
+    (report_of : (text : List ℕ) → IsReportOf ops p bound text → IsAnyReport any bound text) (not_built : IsNotBuilt ops p → IsAnyNotBuilt any) where
+  pub answers_puts : (o : Outcome) (out : SinkChange) → Answers ops p bound o out → PutsOn bytes bound o out
+  answers_puts outcomes.Done out h = (short, h.0, record { presentation = any; read = read; report = report_of h.0 h.1 }, h.2)
+  answers_puts outcomes.Sink out h = ((short, h.0.0, record { presentation = any; read = read; report = report_of h.0.0 h.0.1 }, h.0.2), h.1)
+  answers_puts outcomes.Memory out (inl none) = inl none
+  answers_puts outcomes.Memory out (inr h) = inr (short, h.0, record { presentation = any; read = read; report = report_of h.0 h.1 }, h.2)
+  answers_puts outcomes.NotBuilt out h = ((short, any, read, not_built h.0), h.1)
+  answers_puts o out h = absurd h

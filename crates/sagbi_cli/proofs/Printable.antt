@@ -1,19 +1,17 @@
 -- A reduced basis can be printed.
 use Rattle.std.proofs.Common.{◌≡◌, ◌≢◌, ℕ, zero, suc, ◌<◌, ◌≤◌, List, [], ◌∷◌, length, get_or, refl, sym, arith}
 use Rattle.std.specs.Prelude.{All}
-use Rattle.word_field.specs.Field.{IsField}
+use Rattle.word_field.specs.Field.{FieldOps, IsField}
 use Rattle.monomial_order.specs.Monomial.{IsMonomial}
 use Rattle.poly_core.specs.declared.place_names.Names.{Names}
 use Rattle.poly_core.specs.Names.{AreNames}
 use Rattle.polynomials.specs.Polynomial.{Polynomial, IsDecreasing, lead_monomial, coefficient}
 use Rattle.polynomials.specs.Subalgebra.{Presented, IsElement, IsReducedBasis}
 use Rattle.poly_core.specs.laws.Text.{decreasing_values, decreasing_named}
-use Rattle.word_field.specs.declared.WordField.{WordField}
 use Rattle.monomial_order.specs.declared.weight_order.WeightOrder.{WeightOrder}
 use Rattle.poly_core.specs.declared.presentations.Presentation.{Presentation}
-use Rattle.presentation_text.specs.Meaning.{IsRead}
 use Rattle.sagbi_cli.specs.Built.{IsBuilt}
-use Rattle.sagbi_cli.specs.Report.{meaning_of, IsReport}
+use Rattle.sagbi_cli.specs.Report.{meaning_of, IsReportOf}
 use Rattle.sagbi_cli.specs.ReportText.{report_text, IsPrintable}
 
 same_default : {A : Type 0} (xs : List A) (k : ℕ) (d e : A) → k < length xs → get_or xs k d ≡ get_or xs k e
@@ -45,11 +43,7 @@ module _ {E : Type 0} (P : Presented E) (F : IsField P.field) (names : Names) (n
   pub basis_printable : (c : ℕ) → c ≤ 65535 → (S : List (Polynomial E)) → IsReducedBasis P c S → All (IsPrintable P names) S
   basis_printable c small S h = λ k d lt. element_printable c small (get_or S k d) (h.elements (get_or S k d) (k, lt, same_default S k (get_or S k d) d lt))
 
--- the text on the reduced basis is the report on the bytes
-pub reported : (p : Presentation WordField WeightOrder ℕ) (bytes : List ℕ) (bound : ℕ) (S : List (Polynomial ℕ)) → IsBuilt p → IsReducedBasis (meaning_of p) bound S → IsRead bytes p
-    → IsReport bytes bound (report_text (meaning_of p) p.names bound S)
-reported p bytes bound S built reduced read = record {
-  presentation = p;
-  read = read;
-  report = record { built = built; basis = S; reduced = reduced; is = refl };
-}
+-- the text on the reduced basis is the report
+pub reported : {F E : Type 0} (ops : F → FieldOps E) (p : Presentation F WeightOrder E) (bound : ℕ) (S : List (Polynomial E)) → IsBuilt ops p → IsReducedBasis (meaning_of ops p) bound S
+    → IsReportOf ops p bound (report_text (meaning_of ops p) p.names bound S)
+reported ops p bound S built reduced = record { built = built; basis = S; reduced = reduced; is = refl }

@@ -1,13 +1,11 @@
 -- Which outcome a run has, and what it puts on `out` and on `note`.
 use Rattle.std.specs.Prelude.{◌≡◌, ◌<◌, ◌≤◌, ◌⊎◌, ℕ, List, length, Option, Some, None, Err}
 use Rattle.std.specs.FinMap as map
-use Rattle.word_field.specs.declared.WordField.{WordField}
-use Rattle.monomial_order.specs.declared.weight_order.WeightOrder.{WeightOrder}
-use Rattle.poly_core.specs.declared.presentations.Presentation.{Presentation}
+use Rattle.presentation_text.specs.declared.any_presentation.AnyPresentation.{AnyPresentation}
 use Rattle.presentation_text.specs.Reading.{reading}
-use Rattle.presentation_text.specs.Meaning.{text_max, IsRead}
+use Rattle.presentation_text.specs.Meaning.{text_max, IsAnyRead}
 use Rattle.shelf_io.specs.Shelf.{Files}
-use Rattle.sagbi_cli.specs.Built.{IsBuilt, IsNotBuilt}
+use Rattle.sagbi_cli.specs.Built.{IsAnyBuilt, IsAnyNotBuilt}
 use Rattle.sagbi_cli.specs.Command.{IsCompleteCommand, IsNoCommand, pres_of}
 use Rattle.sagbi_cli.specs.Message.{line_of}
 use Rattle.sagbi_cli.specs.Outcome.{status_of}
@@ -23,8 +21,8 @@ IsShort bytes = length bytes ≤ text_max
 
 -- for the bytes of PRES
 abbrev pub IsOutcomeOn : List ℕ → Outcome → Type 0
-IsOutcomeOn bytes Done = IsShort bytes × (p : Presentation WordField WeightOrder ℕ) × IsRead bytes p × IsBuilt p
-IsOutcomeOn bytes NotBuilt = IsShort bytes × (p : Presentation WordField WeightOrder ℕ) × IsRead bytes p × IsNotBuilt p
+IsOutcomeOn bytes Done = IsShort bytes × (p : AnyPresentation) × IsAnyRead bytes p × IsAnyBuilt p
+IsOutcomeOn bytes NotBuilt = IsShort bytes × (p : AnyPresentation) × IsAnyRead bytes p × IsAnyNotBuilt p
 IsOutcomeOn bytes (Fault kind line) = IsShort bytes × (reading bytes ≡ Err (kind, line))
 IsOutcomeOn bytes TooLong = text_max < length bytes
 IsOutcomeOn bytes _ = ⊥

@@ -1,3 +1,4 @@
+pub mod Answer
 pub mod Built
 pub mod Command
 pub mod Ending

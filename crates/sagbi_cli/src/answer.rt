@@ -1,8 +1,7 @@
 //! What a run does with the bytes of its presentation.
-ghost use Rattle.std.specs.Prelude.{◌≢◌, ℕ, List};
-ghost use Rattle.word_field.specs.Residues.{residues};
+ghost use Rattle.std.specs.Prelude.{◌≢◌};
 ghost use Rattle.poly_core.specs.Presentation.{weight_order_of, IsValid};
-ghost use Rattle.presentation_text.specs.Meaning.{IsRead};
+ghost use Rattle.sagbi_cli.specs.Answer.{Answers};
 ghost use Rattle.sagbi_cli.specs.Built.{IsBuilt};
 ghost use Rattle.sagbi_cli.specs.Command.{IsBound};
 ghost use Rattle.sagbi_cli.specs.Ending.{IsShort, PutsOn};
@@ -14,10 +13,10 @@ use crate::{Outcome, PrintFault};
 use monomial_basis::complete;
 use monomial_order::WeightOrder;
 use poly_core::Presentation;
-use presentation_text::{TextFault, read};
+use presentation_text::{AnyPresentation, TextFault, read_any};
 use shelf_io::Sink;
 use std::alloc::Global;
-use word_field::WordField;
+use word_field::Field;
 
 /// Reads the presentation, completes it and prints its report.
 pub fn answer<K: Sink>(alloc: Global, bytes: &[u8], bound: u32, out: &mut K) -> Outcome
@@ -26,24 +25,24 @@ pub fn answer<K: Sink>(alloc: Global, bytes: &[u8], bound: u32, out: &mut K) -> 
     ensures puts { PutsOn bytes.now bound result (change K.taken K.faults out.old out.new) }
     ensures never_shelf { result ≢ Outcome.Shelf }
 {
-    match read(alloc, bytes) {
-        Ok(p) => report_if_built(alloc, &p, bound, out),
+    match read_any(alloc, bytes) {
+        Ok(AnyPresentation::Word(p)) => report_if_built(alloc, &p, bound, out),
+        Ok(AnyPresentation::Pair(p)) => report_if_built(alloc, &p, bound, out),
         Err(TextFault::At { kind, line }) => Outcome::Fault(kind, line),
         Err(TextFault::Memory) => Outcome::Memory,
     }
 }
 
 /// Completes the presentation and prints its report, if it is one that is completed so far.
-fn report_if_built<K: Sink>(
+fn report_if_built<F: Field, K: Sink>(
     alloc: Global,
-    p: &Presentation<WordField, WeightOrder>,
+    p: &Presentation<F, WeightOrder>,
     bound: u32,
     out: &mut K,
 ) -> Outcome
-    requires valid { IsValid (λ f. residues f.modulus) weight_order_of p.now }
+    requires valid { IsValid F.ops weight_order_of p.now }
     requires bound { IsBound bound }
-    ensures puts { (bytes : List ℕ) → IsRead bytes p.now → IsShort bytes
-        → PutsOn bytes bound result (change K.taken K.faults out.old out.new) }
+    ensures puts { Answers F.ops p.now bound result (change K.taken K.faults out.old out.new) }
     ensures never_shelf { result ≢ Outcome.Shelf }
 {
     if is_built(p) {
@@ -54,17 +53,16 @@ fn report_if_built<K: Sink>(
 }
 
 /// Completes the presentation and prints its report.
-fn report<K: Sink>(
+fn report<F: Field, K: Sink>(
     alloc: Global,
-    p: &Presentation<WordField, WeightOrder>,
+    p: &Presentation<F, WeightOrder>,
     bound: u32,
     out: &mut K,
 ) -> Outcome
-    requires valid { IsValid (λ f. residues f.modulus) weight_order_of p.now }
-    requires built { IsBuilt p.now }
+    requires valid { IsValid F.ops weight_order_of p.now }
+    requires built { IsBuilt F.ops p.now }
     requires bound { IsBound bound }
-    ensures puts { (bytes : List ℕ) → IsRead bytes p.now → IsShort bytes
-        → PutsOn bytes bound result (change K.taken K.faults out.old out.new) }
+    ensures puts { Answers F.ops p.now bound result (change K.taken K.faults out.old out.new) }
     ensures never_shelf { result ≢ Outcome.Shelf }
 {
     let Ok(basis) = complete(alloc, p, bound) else {

@@ -17,7 +17,7 @@ struct Case {
 const PLANE: &str =
     "subalgebra 1\nfield 101\nvars x y\nweights 1 1\norder lex\nideal 0\ngenerators 2\nx^2\nx*y\nend\n";
 
-const CASES: [Case; 13] = [
+const CASES: [Case; 16] = [
     Case {
         command: "complete P 4",
         text: PLANE,
@@ -105,6 +105,29 @@ const CASES: [Case; 13] = [
         status: 0,
         report: "report 1\nbound 2\nbasis 2\n1 2 x*z : x*z\n2 2 y^2 : y^2\nend\n",
         line: "",
+    },
+    // 5 is 1 modulo 4 elements
+    Case {
+        command: "complete P 2",
+        text: "subalgebra 1\nfield 4\nvars x y\nweights 1 1\norder lex\nideal 0\ngenerators 3\n5*x^2\nx*y\n4*y\nend\n",
+        status: 0,
+        report: "report 1\nbound 2\nbasis 2\n1 2 x*y : x*y\n2 2 x^2 : x^2\nend\n",
+        line: "",
+    },
+    // 3 is no 1 in a field of 9 elements
+    Case {
+        command: "complete P 2",
+        text: "subalgebra 1\nfield 9\nvars x y\nweights 1 1\norder lex\nideal 0\ngenerators 1\n3*x + y\nend\n",
+        status: 99,
+        report: "",
+        line: "error: not built yet\n",
+    },
+    Case {
+        command: "complete P 2",
+        text: "subalgebra 1\nfield 25\nvars x\nweights 1\norder lex\nideal 0\ngenerators 1\nx\nend\n",
+        status: 2,
+        report: "",
+        line: "error: presentation line 2: FieldUnknown\n",
     },
     // 10 = 4 + 6, 13 = 4 + 9, 15 = 6 + 9
     Case {

@@ -14,6 +14,8 @@ mod operations;
 #[cfg(test)]
 mod orders;
 #[cfg(test)]
+mod pairs;
+#[cfg(test)]
 mod products;
 #[cfg(test)]
 mod queues;

@@ -7,7 +7,7 @@ use crate::rows::{ensure, judge, number, part};
 use monomial_order::Memory;
 use poly_core::Poly;
 use presentation_text::laws::read_written;
-use presentation_text::{TEXT_MAX, read, read_polys, write};
+use presentation_text::{AnyPresentation, TEXT_MAX, read, read_any, read_polys, write};
 use std::alloc::Global;
 use std::test::Fail;
 use word_field::WordField;
@@ -115,6 +115,45 @@ fn fault_of(alloc: Global, text: &str) -> Result<String, Fail> {
         Ok(_) => Ok(format!(in alloc; "no fault")?),
         Err(fault) => Ok(format!(in alloc; "{fault}")?),
     }
+}
+
+/// A text with a field of that size and one generator.
+fn field_text(alloc: Global, size: &str, generator: &str) -> Result<String, Fail> {
+    Ok(format!(in alloc;
+        "subalgebra 1\nfield {size}\nvars x y\nweights 1 1\norder lex\nideal 0\n\
+             generators 1\n{generator}\nend\n"
+    )?)
+}
+
+/// A size and a generator are read over a field of either kind: the canonical text has the next two parts, or
+/// there is a fault.
+fn see_field(alloc: Global, row: &str) -> Result<(), Fail> {
+    let text = field_text(alloc, part(row, 0), part(row, 1))?;
+    let expected = field_text(alloc, part(row, 2), part(row, 3))?;
+    ensure(text.len() as u64 <= TEXT_MAX, "a long text")?;
+    let written = match read_any(alloc, text.as_bytes()) {
+        Ok(AnyPresentation::Word(p)) => write(alloc, &p)?,
+        Ok(AnyPresentation::Pair(p)) => write(alloc, &p)?,
+        Err(fault) => return judge(row, format!(in alloc; "{fault}")?.as_str()),
+    };
+    ensure(written.as_slice() == expected.as_bytes(), row)
+}
+
+#[test]
+fn reads_fields_of_either_kind(rt: HostRuntime) -> Result<(), Fail> {
+    for row in [
+        "4 | 7*x - 2*y | 4 | 3*x + 2*y",
+        "009 | 3*3*x - 4*y | 9 | 2*x + 8*y",
+        "49 | 7*7*x + 50*y | 49 | 6*x + y",
+        "0101 | 102*x - y | 101 | x + 100*y",
+        "25 | x | line 2: FieldUnknown",
+        "9 | x + z | line 8: UnknownName",
+        "4 | x + 2 | line 8: NotHomogeneous",
+        "49 | 48 | line 8: ConstantGenerator",
+    ] {
+        see_field(rt.alloc(), row)?;
+    }
+    Ok(())
 }
 
 #[test]

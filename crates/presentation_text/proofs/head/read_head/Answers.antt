@@ -1,6 +1,7 @@
 use Rattle.std.proofs.Common.{length, ℕ, sym, ap, subst, ◌∙◌}
 use Rattle.poly_core.specs.Names.{IsNameList}
 use Rattle.presentation_text.proofs.HeadFacts.{vars_read}
+use Rattle.presentation_text.proofs.ReadHeads.{field_read}
 use Rattle.presentation_text.proofs.Weighing.{weighing, weights_read}
 use Rattle.presentation_text.proofs.head.read_head.Goals as goal
 
@@ -15,3 +16,6 @@ returns-clause-named c =
     let weights = weights_read _ _ _ _ c.in_ok-weights.ensures.read in
     let places = ap length (c.in_ok-order.ensures.weights ∙ c.deref.ensures.value) ∙ weights.0 ∙ c.len-count.ensures.length in
     subst (λ (n : ℕ). IsNameList n c.in_ok-names.names) (sym places) names
+
+pub returns-clause-known : goal.returns-clause-known
+returns-clause-known c = field_read _ _ _ _ c.in_ok-size.ensures.read

@@ -1,5 +1,13 @@
 use Rattle.presentation_text.proofs.ReadingLaws.{read_once}
+use Rattle.presentation_text.specs.Meaning.{word_ops, pair_ops}
+use Rattle.word_field.specs.Residues.{residues}
+use Rattle.ext_field.specs.PairField.{pairs_of}
+use Rattle.presentation_text.specs.Reading.AnyReading.{word, pair}
+use Rattle.presentation_text.proofs.FieldKinds.{words, pairs_kind}
 use Rattle.presentation_text.proofs.laws.one_reading.Goals as goal
 
-pub returns : goal.returns
-returns c p q text h k = read_once p q text h k
+pub returns-clause-words : goal.returns-clause-words
+returns-clause-words c = λ p q text h j. read_once word_ops residues word words p q text h j
+
+pub returns-clause-pairs : goal.returns-clause-pairs
+returns-clause-pairs c = λ p q text h j. read_once pair_ops pairs_of pair pairs_kind p q text h j

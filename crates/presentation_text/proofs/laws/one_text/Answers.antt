@@ -1,6 +1,14 @@
 use Rattle.presentation_text.proofs.ReadingLaws.{read_once}
 use Rattle.presentation_text.proofs.TextRead.{presentation_read}
+use Rattle.presentation_text.specs.Meaning.{word_ops, pair_ops}
+use Rattle.word_field.specs.Residues.{residues}
+use Rattle.ext_field.specs.PairField.{pairs_of}
+use Rattle.presentation_text.specs.Reading.AnyReading.{word, pair}
+use Rattle.presentation_text.proofs.FieldKinds.{words, pairs_kind}
 use Rattle.presentation_text.proofs.laws.one_text.Goals as goal
 
-pub returns : goal.returns
-returns c p q text valid_p valid_q is_p is_q = read_once p q text (presentation_read p text valid_p is_p) (presentation_read q text valid_q is_q)
+pub returns-clause-words : goal.returns-clause-words
+returns-clause-words c = λ p q text valid_p valid_q is_p is_q. read_once word_ops residues word words p q text (presentation_read word_ops residues word words p text valid_p is_p) (presentation_read word_ops residues word words q text valid_q is_q)
+
+pub returns-clause-pairs : goal.returns-clause-pairs
+returns-clause-pairs c = λ p q text valid_p valid_q is_p is_q. read_once pair_ops pairs_of pair pairs_kind p q text (presentation_read pair_ops pairs_of pair pairs_kind p text valid_p is_p) (presentation_read pair_ops pairs_of pair pairs_kind q text valid_q is_q)

@@ -1,5 +1,13 @@
 use Rattle.presentation_text.proofs.ReadWhole.{read_presented}
+use Rattle.presentation_text.specs.Meaning.{word_ops, pair_ops}
+use Rattle.word_field.specs.Residues.{residues}
+use Rattle.ext_field.specs.PairField.{pairs_of}
+use Rattle.presentation_text.specs.Reading.AnyReading.{word, pair}
+use Rattle.presentation_text.proofs.FieldKinds.{words, pairs_kind}
 use Rattle.presentation_text.proofs.laws.reading_is_presented.Goals as goal
 
-pub returns : goal.returns
-returns c text r e = read_presented text r e
+pub returns-clause-words : goal.returns-clause-words
+returns-clause-words c = λ text r e. read_presented word_ops residues word words text r e
+
+pub returns-clause-pairs : goal.returns-clause-pairs
+returns-clause-pairs c = λ text r e. read_presented pair_ops pairs_of pair pairs_kind text r e

@@ -1,18 +1,30 @@
 use Rattle.std.proofs.lemmas.Result.{err_from_is_err_and}
-use Rattle.presentation_text.proofs.WholeTexts.{head_refused, lists_refused, is_read}
+use Rattle.word_field.specs.Residues.{residues, is_listed}
+use Rattle.presentation_text.specs.Giving.{head_of}
+use Rattle.presentation_text.specs.Heading.{is_size}
+use Rattle.presentation_text.specs.Meaning.{word_ops}
+use Rattle.presentation_text.specs.Reading.AnyReading.{word}
+use Rattle.presentation_text.proofs.FieldKinds.{words}
+use Rattle.presentation_text.proofs.ReadHeads.{head_more}
+use Rattle.presentation_text.proofs.WholeTexts.{head_refused, over_refused, over_read, if_ok, if_err}
 use Rattle.presentation_text.proofs.reading.read.Goals as goal
 
 pub returns-in_err-head-clause-refused : goal.returns-in_err-head-clause-refused
 returns-in_err-head-clause-refused c =
     let p = err_from_is_err_and c.from_residual.result c.from_residual.ensures.1 in
-    rw (p.1, p.2) (head_refused c.args.bytes.now c.new-lines.result c.in_err-head.field-0.0 c.new-lines.ensures c.in_err-head.ensures.read)
+    rw (p.1, p.2) (head_refused is_listed c.args.bytes.now c.new-lines.result c.in_err-head.field-0.0 c.new-lines.ensures c.in_err-head.ensures.read)
 
-pub returns-in_err-ideal-clause-refused : goal.returns-in_err-ideal-clause-refused
-returns-in_err-ideal-clause-refused c =
-    let p = err_from_is_err_and c.from_residual-in_err-ideal.result c.from_residual-in_err-ideal.ensures.1 in
-    rw (p.1, p.2) (lists_refused c.args.bytes.now c.new-lines.result c.new-lines.ensures c.in_ok-head.head c.read_head.new.lines.left c.in_ok-head.ensures.read c.in_err-ideal.field-0.0 (rw c.in_ok-head.ensures.missing at c.in_err-ideal.ensures.fault))
-
+-- with all sizes known, the text has the same reading
 pub returns-clause-accepted : goal.returns-clause-accepted
 returns-clause-accepted c =
-    is_read c.args.bytes.now c.new-lines.result c.new-lines.ensures c.in_ok-head.head c.read_head.new.lines.left c.in_ok-head.ensures.read c.in_ok-head.ensures.named
-    c.in_ok-ideal.ideal.items c.in_ok-ideal.generators.items (rw c.in_ok-head.ensures.missing at c.in_ok-ideal.ensures.read) c.in_ok-presentation.field-0 c.in_ok-presentation.ensures
+    let h = c.in_ok-head.head in
+    let rest = c.read_head.new.lines.left in
+    let first = head_more c.new-lines.result.missing c.new-lines.result.left (head_of h, rest) c.in_ok-head.ensures.read in
+    if_ok c.read_over.result (over_read word_ops residues word words is_size c.args.bytes.now c.new-lines.result c.new-lines.ensures c.in-Some.field h rest first c.in-Some.ensures.size)
+    (rw c.in_ok-head.ensures.missing at c.read_over.ensures.read)
+
+pub returns-clause-refused : goal.returns-clause-refused
+returns-clause-refused c =
+    if_err c.read_over.result
+    (over_refused word_ops residues word words is_listed c.args.bytes.now c.new-lines.result c.new-lines.ensures c.in-Some.field c.in_ok-head.head c.read_head.new.lines.left c.in_ok-head.ensures.read c.in-Some.ensures.size)
+    (rw c.in_ok-head.ensures.missing at c.read_over.ensures.fault)

@@ -28,7 +28,7 @@ returns-in-Some-clause-ends g c =
       known = λ files is.
           let puts = c.complete-outcome.ensures.puts files is in
           record {
-            defined = λ defined d. command_ends (λ text p q. c.one_reading.ensures p q text) c.args.words.now files c.in-Some.name.now c.in-Some.bound
+            defined = λ defined d. command_ends (record { words = c.one_reading.ensures.words; pairs = c.one_reading.ensures.pairs }) c.args.words.now files c.in-Some.name.now c.in-Some.bound
                 defined c.complete-outcome.result _ c.in-Some.ensures.some puts d;
             puts = inr (c.in-Some.name.now, c.in-Some.bound, c.in-Some.ensures.some, puts);
           };

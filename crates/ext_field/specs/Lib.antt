@@ -1,0 +1,2 @@
+pub mod PairField
+pub mod laws
