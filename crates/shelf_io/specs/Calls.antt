@@ -5,8 +5,8 @@ use Rattle.std.specs.Option.{option_map_or}
 use Rattle.shelf_io.specs.Counts.{raised}
 use Rattle.shelf_io.specs.declared.calls.Calls.{Calls}
 
--- How many calls were made, and how often a call has failed. The numbers of single calls that fail; and that of the stop,
--- if there is one, from which on all calls fail.
+-- How many calls were made, and how often a call has failed. The numbers of single calls that fail; and the number of
+-- the stop, if there is one, from which on all calls fail.
 pub record Tally : Type 0 where
   pub made : ℕ
   pub failing : List ℕ

@@ -20,8 +20,8 @@ abbrev pub IsHeldElsewhere : List ℕ → Option Files → Files → Type 0
 IsHeldElsewhere name None found = Unit {0}
 IsHeldElsewhere name (Some held) found = SameElsewhere name held found
 
--- What a call adds to the files that a stop may find. From each moment up to its start on, a stop may find what it might
--- have found before the call, and besides only files with this property.
+-- What a call adds to the files that a stop may find. From each moment up to its start on, a stop may find what it
+-- might have found before the call, and besides only files with this property.
 pub record Adds (moment : Option ℕ) (before now : ℕ → Files → Type 0) (P : Files → Type 0) : Type 0 where
   pub only : (start m : ℕ) (found : Files) → moment ≡ Some start → m ≤ start → now m found → before m found ⊎ P found
   pub all : (start m : ℕ) (found : Files) → moment ≡ Some start → m ≤ start → before m found → now m found

@@ -10,7 +10,8 @@ name_of slot = string_bytes slot.name
 -- the files in the slots that have one
 abbrev pub files_in : List Slot → Files
 files_in [] = files.empty
-files_in (slot ∷ slots) = if slot.is_present then files.insert (files_in slots) (name_of slot) slot.bytes.items else files_in slots
+files_in (slot ∷ slots) =
+    if slot.is_present then files.insert (files_in slots) (name_of slot) slot.bytes.items else files_in slots
 
 -- each slot has room for so many bytes
 abbrev pub IsReserved : ℕ → List Slot → Type 0

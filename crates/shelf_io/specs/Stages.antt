@@ -46,4 +46,5 @@ module _ {S : Type 0} (holds : S → Option Files) (moment : S → Option ℕ) (
   -- these saves one after the other, each with Ok, and loads before, between and after them
   abbrev pub Saves : List Save → S → S → Type 0
   Saves [] old new = Stays old new
-  Saves (s ∷ saves) old new = (before after : S) × Stays old before × Writes (Ok tt) s before after × Saves saves after new
+  Saves (s ∷ saves) old new =
+      (before after : S) × Stays old before × Writes (Ok tt) s before after × Saves saves after new

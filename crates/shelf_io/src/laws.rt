@@ -50,7 +50,8 @@ pub fn stops_at_stages<H: Shelf>()
     ensures more { (files : Files) (saves more : List Save) (least : ℕ) (found : Files)
         → IsFromStage files saves least found → IsFromStage files (saves ++ more) least found }
 
-    // A stage of the writes that follow others is a later stage of all; so after a write with Ok no earlier one is found.
+    // A stage of the writes that follow others is a later stage of all. So after a write with Ok no earlier stage is
+    // found.
     ensures later { (files : Files) (saves more : List Save) (found : Files)
         → IsFromStage (files_saved files saves) more 0 found
         → IsFromStage files (saves ++ more) (length saves) found }

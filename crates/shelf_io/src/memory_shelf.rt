@@ -110,8 +110,8 @@ impl MemoryShelf {
         self.calls.fail_at(call)
     }
 
-    /// The load or write of this number and all later ones fail. A write of this number leaves the first `keep` bytes of
-    /// what was to be written. The last call of `stop_at` counts.
+    /// The load or write of this number and all later ones fail. A write of this number leaves the first `keep` bytes
+    /// of what was to be written. The last call of `stop_at` counts.
     pub fn stop_at(&mut self, call: u64, keep: usize)
         ensures { shelf_state self.new ≡ stopped_at (shelf_state self.old) call keep }
     {

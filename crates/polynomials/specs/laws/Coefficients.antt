@@ -1,5 +1,5 @@
 -- Coefficients and leads of single terms, sums and differences, and what a decreasing list says of them.
-use Rattle.std.proofs.Common.{◌≡◌, ◌≢◌, ℕ, zero, suc, ◌<◌, ◌≤◌, List, length, get_or, append-nil, refl, sym, ◌∙◌, ap, [], ◌∷◌, ◌++◌, ◌⊎◌, inl, inr, ⊎_elim, cond, true, false, arith}
+use Rattle.std.proofs.Common.{◌≡◌, ◌≢◌, ℕ, zero, suc, ◌<◌, ◌≤◌, List, length, get_or, append-nil, refl, sym, ◌∙◌, ap, [], ◌∷◌, ◌++◌, ◌⊎◌, ⊎_elim, cond, true, false, arith}
 use Rattle.std.specs.declared.cmp.Ordering.TheVariants.{Less}
 use Rattle.word_field.specs.Field.{FieldOps, IsField}
 use Rattle.word_field.specs.laws.Field.{zero-plus-zero}

@@ -22,7 +22,8 @@ later_then (Some x) None c p q = absurd p
 later_then (Some x) (Some y) None p q = absurd q
 
 -- a known moment stays known
-pub known_later : (old new : Option ℕ) (start : ℕ) → IsLater old new → old ≡ Some start → (now : ℕ) × (new ≡ Some now) × (start ≤ now)
+pub known_later : (old new : Option ℕ) (start : ℕ) → IsLater old new → old ≡ Some start
+    → (now : ℕ) × (new ≡ Some now) × (start ≤ now)
 known_later None new start p e = absurd cc
 known_later (Some x) None start p e = absurd p
 known_later (Some x) (Some y) start p e =

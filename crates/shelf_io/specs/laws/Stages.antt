@@ -16,14 +16,17 @@ first_stage files [] = refl
 first_stage files (save ∷ saves) = λ other not. refl
 
 -- a stage of some saves is one of these and further ones
-pub stage_of_more : (files : Files) (saves more : List Save) (count : ℕ) (found : Files) → IsAtStage files saves count found → IsAtStage files (saves ++ more) count found
+pub stage_of_more : (files : Files) (saves more : List Save) (count : ℕ) (found : Files)
+    → IsAtStage files saves count found → IsAtStage files (saves ++ more) count found
 stage_of_more files [] more zero found is = subst (IsAtStage files more 0) (sym is) (first_stage files more)
 stage_of_more files [] more (suc count) found is = absurd is
 stage_of_more files (save ∷ saves) more zero found is = is
 stage_of_more files (save ∷ saves) more (suc count) found is = stage_of_more (map.insert files save.name save.bytes) saves more count found is
 
 -- a stage of the saves that come after others
-pub stage_after : (files : Files) (saves more : List Save) (count all : ℕ) (found : Files) → all ≡ length saves + count → IsAtStage (files_saved files saves) more count found → IsAtStage files (saves ++ more) all found
+pub stage_after : (files : Files) (saves more : List Save) (count all : ℕ) (found : Files)
+    → all ≡ length saves + count → IsAtStage (files_saved files saves) more count found
+    → IsAtStage files (saves ++ more) all found
 stage_after files [] more count all found e is =
     let same : count ≡ all = omega (arith, e) in
     subst (λ n. IsAtStage files more n found) same is
@@ -32,21 +35,31 @@ stage_after files (save ∷ saves) more count (suc all) found e is =
     stage_after (map.insert files save.name save.bytes) saves more count all found (omega (arith, e)) is
 
 -- while the name of one further save is written
-stage_in_write : (files : Files) (saves : List Save) (save : Save) (found : Files) → SameElsewhere save.name (files_saved files saves) found → IsFromStage files (saves ++ save ∷ []) 0 found
+stage_in_write : (files : Files) (saves : List Save) (save : Save) (found : Files)
+    → SameElsewhere save.name (files_saved files saves) found → IsFromStage files (saves ++ save ∷ []) 0 found
 stage_in_write files saves save found same =
     (length saves, omega arith, stage_after files saves (save ∷ []) 0 (length saves) found (omega arith) same)
 
 module _ {S : Type 0} (holds : S → Option Files) (moment : S → Option ℕ) (may_be_found : S → ℕ → Files → Type 0) where
+  abbrev Stay : S → S → Type 0
+  Stay = Stays holds moment may_be_found
+
+  abbrev Write : Result (Unit {0}) WriteFault → Save → S → S → Type 0
+  Write = Writes holds moment may_be_found
+
+  abbrev Made : List Save → S → S → Type 0
+  Made = Saves holds moment may_be_found
+
   -- ---- a chain of calls
 
-  pub stays_none : (s : S) → Stays holds moment may_be_found s s
+  pub stays_none : (s : S) → Stay s s
   stays_none s = record {
     same = refl;
     later = later_same (moment s);
     stops = adds_none (moment s) (may_be_found s) (IsHeld (holds s));
   }
 
-  pub stays_then : (a b c : S) → Stays holds moment may_be_found a b → Stays holds moment may_be_found b c → Stays holds moment may_be_found a c
+  pub stays_then : (a b c : S) → Stay a b → Stay b c → Stay a c
   stays_then a b c p q = record {
     same = q.same ∙ p.same;
     later = later_then (moment a) (moment b) (moment c) p.later q.later;
@@ -64,13 +77,14 @@ module _ {S : Type 0} (holds : S → Option Files) (moment : S → Option ℕ) (
   }
 
   -- the chain goes on after a load
-  pub saves_then_stays : (saves : List Save) (a b c : S) → Saves holds moment may_be_found saves a b → Stays holds moment may_be_found b c → Saves holds moment may_be_found saves a c
+  pub saves_then_stays : (saves : List Save) (a b c : S) → Made saves a b → Stay b c → Made saves a c
   saves_then_stays [] a b c chain q = stays_then a b c chain q
   saves_then_stays (save ∷ saves) a b c chain q =
       (chain.0, chain.1, chain.2, chain.3, saves_then_stays saves chain.1 b c chain.4 q)
 
   -- the chain goes on by a save
-  pub saves_then_write : (saves : List Save) (save : Save) (a b c : S) → Saves holds moment may_be_found saves a b → Writes holds moment may_be_found (Ok tt) save b c → Saves holds moment may_be_found (saves ++ save ∷ []) a c
+  pub saves_then_write : (saves : List Save) (save : Save) (a b c : S) → Made saves a b → Write (Ok tt) save b c
+      → Made (saves ++ save ∷ []) a c
   saves_then_write [] save a b c chain write = (b, c, chain, write, stays_none c)
   saves_then_write (x ∷ saves) save a b c chain write =
       (chain.0, chain.1, chain.2, chain.3, saves_then_write saves save chain.1 b c chain.4 write)
@@ -78,7 +92,8 @@ module _ {S : Type 0} (holds : S → Option Files) (moment : S → Option ℕ) (
   -- ---- what is held, and what may be found
 
   -- known files at the end were known at the start, and are those after the saves
-  pub held_after : (saves : List Save) (a b : S) (held : Files) → Saves holds moment may_be_found saves a b → holds b ≡ Some held → (files : Files) × (holds a ≡ Some files) × (held ≡ files_saved files saves)
+  pub held_after : (saves : List Save) (a b : S) (held : Files) → Made saves a b → holds b ≡ Some held
+      → (files : Files) × (holds a ≡ Some files) × (held ≡ files_saved files saves)
   held_after [] a b held chain is = (held, sym chain.same ∙ is, refl)
   held_after (save ∷ saves) a b held chain is =
       let rest = held_after saves chain.1 b held chain.4 is in
@@ -86,8 +101,10 @@ module _ {S : Type 0} (holds : S → Option Files) (moment : S → Option ℕ) (
       (written.0, sym chain.2.same ∙ written.1, rest.2 ∙ ap (λ files. files_saved files saves) written.2)
 
   -- From a moment before the chain on: what might have been found before it, or files at a stage.
-  found_in : (saves : List Save) (a b : S) (files held : Files) (start m : ℕ) (found : Files) → Saves holds moment may_be_found saves a b → holds a ≡ Some files → holds b ≡ Some held
-      → moment a ≡ Some start → m ≤ start → may_be_found b m found → may_be_found a m found ⊎ IsFromStage files saves 0 found
+  found_in : (saves : List Save) (a b : S) (files held : Files) (start m : ℕ) (found : Files) → Made saves a b
+      → holds a ≡ Some files → holds b ≡ Some held
+      → moment a ≡ Some start → m ≤ start → may_be_found b m found
+      → may_be_found a m found ⊎ IsFromStage files saves 0 found
   found_in [] a b files held start m found chain first last at le h =
       elim (chain.stops.only start m found at le h) [
         | inl before ↦ inl before
@@ -112,7 +129,8 @@ module _ {S : Type 0} (holds : S → Option Files) (moment : S → Option ℕ) (
         ]
       ]
 
-  known_moment : (saves : List Save) (a b : S) (start : ℕ) → Saves holds moment may_be_found saves a b → moment a ≡ Some start → (now : ℕ) × (moment b ≡ Some now) × (start ≤ now)
+  known_moment : (saves : List Save) (a b : S) (start : ℕ) → Made saves a b → moment a ≡ Some start
+      → (now : ℕ) × (moment b ≡ Some now) × (start ≤ now)
   known_moment [] a b start chain at = known_later (moment a) (moment b) start chain.later at
   known_moment (save ∷ saves) a b start chain at =
       let before = known_later (moment a) (moment chain.0) start chain.2.later at in
@@ -123,7 +141,8 @@ module _ {S : Type 0} (holds : S → Option Files) (moment : S → Option ℕ) (
   -- between two calls a stop finds just the files held
   module _ (only_held : (s : S) (now : ℕ) (held found : Files) → moment s ≡ Some now → holds s ≡ Some held → may_be_found s now found → found ≡ held) where
     -- from the start on, files at a stage
-    pub stages : (saves : List Save) (a b : S) (files held : Files) (start : ℕ) (found : Files) → Saves holds moment may_be_found saves a b → holds a ≡ Some files → holds b ≡ Some held
+    pub stages : (saves : List Save) (a b : S) (files held : Files) (start : ℕ) (found : Files) → Made saves a b
+        → holds a ≡ Some files → holds b ≡ Some held
         → moment a ≡ Some start → may_be_found b start found → IsFromStage files saves 0 found
     stages saves a b files held start found chain first last at h =
         elim (found_in saves a b files held start start found chain first last at (omega arith) h) [
@@ -132,8 +151,9 @@ module _ {S : Type 0} (holds : S → Option Files) (moment : S → Option ℕ) (
         ]
 
     -- the same, if a write with any answer comes last
-    pub stages_in_write : (saves : List Save) (save : Save) (result : Result (Unit {0}) WriteFault) (a b c : S) (files held : Files) (start : ℕ) (found : Files) → Saves holds moment may_be_found saves a b
-        → Writes holds moment may_be_found result save b c → holds a ≡ Some files → holds c ≡ Some held → moment a ≡ Some start → may_be_found c start found → IsFromStage files (saves ++ save ∷ []) 0 found
+    pub stages_in_write : (saves : List Save) (save : Save) (result : Result (Unit {0}) WriteFault) (a b c : S) (files held : Files) (start : ℕ) (found : Files) → Made saves a b
+        → Write result save b c → holds a ≡ Some files → holds c ≡ Some held → moment a ≡ Some start
+        → may_be_found c start found → IsFromStage files (saves ++ save ∷ []) 0 found
     stages_in_write saves save result a b c files held start found chain write first last at h =
         let mid = write.held held last in
         let known = held_after saves a b mid.0 chain mid.1 in

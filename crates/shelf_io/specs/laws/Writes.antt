@@ -14,7 +14,8 @@ replayed-append held [] ys = refl
 replayed-append held (x ∷ xs) ys = replayed-append (after_write held x) xs ys
 
 -- one write more
-pub files_after-append : (writes : List Written) (w : Written) → files_after (writes ++ w ∷ []) ≡ after_write (files_after writes) w
+pub files_after-append : (writes : List Written) (w : Written)
+    → files_after (writes ++ w ∷ []) ≡ after_write (files_after writes) w
 files_after-append writes w = replayed-append files.empty writes (w ∷ [])
 
 split_at : (m : ℕ) (writes : List Written) → replayed (files_after (take m writes)) (drop m writes) ≡ files_after writes
@@ -36,7 +37,8 @@ drop_all [] = refl
 drop_all (w ∷ writes) = drop_all writes
 
 -- from this moment on, just the files held now
-pub only_now : (writes : List Written) (now : ℕ) (held found : Files) → length writes ≡ now → files_after writes ≡ held → IsStopSince writes now found → found ≡ held
+pub only_now : (writes : List Written) (now : ℕ) (held found : Files) → length writes ≡ now
+    → files_after writes ≡ held → IsStopSince writes now found → found ≡ held
 only_now writes now held found at is stop =
     let here : IsStopOf (files_after (take (length writes) writes)) (drop (length writes) writes) found =
     subst (λ n. IsStopSince writes n found) (sym at) stop in
@@ -45,7 +47,8 @@ only_now writes now held found at is stop =
     end ∙ ap files_after (take-length writes) ∙ is
 
 -- a stop while one write more is made
-stop_in_last : (held : Files) (writes : List Written) (w : Written) (found : Files) → IsStopOf held (writes ++ w ∷ []) found
+stop_in_last : (held : Files) (writes : List Written) (w : Written) (found : Files)
+    → IsStopOf held (writes ++ w ∷ []) found
     → IsStopOf held writes found ⊎ SameElsewhere w.name (replayed held writes) found
 stop_in_last held [] w found (inl is) = inl is
 stop_in_last held [] w found (inr (inl torn)) =
@@ -61,7 +64,8 @@ stop_in_last held (x ∷ writes) w found (inr (inr stop)) =
     ]
 
 -- what might have been found before it
-stop_before_last : (held : Files) (writes : List Written) (w : Written) (found : Files) → IsStopOf held writes found → IsStopOf held (writes ++ w ∷ []) found
+stop_before_last : (held : Files) (writes : List Written) (w : Written) (found : Files) → IsStopOf held writes found
+    → IsStopOf held (writes ++ w ∷ []) found
 stop_before_last held [] w found is = inl is
 stop_before_last held (x ∷ writes) w found (inl is) = inl is
 stop_before_last held (x ∷ writes) w found (inr (inl torn)) = inr (inl torn)
@@ -69,18 +73,21 @@ stop_before_last held (x ∷ writes) w found (inr (inr stop)) = inr (inr (stop_b
 
 module _ (writes : List Written) (w : Written) (m : ℕ) (le : m ≤ length writes) (found : Files) where
   -- since an earlier moment, one write more
-  with_last : IsStopSince (writes ++ w ∷ []) m found → IsStopOf (files_after (take m writes)) (drop m writes ++ w ∷ []) found
+  with_last : IsStopSince (writes ++ w ∷ []) m found
+      → IsStopOf (files_after (take m writes)) (drop m writes ++ w ∷ []) found
   with_last h =
       subst (λ l. IsStopOf (files_after (take m writes)) l found) (drop-append-le m writes (w ∷ []) le)
       (subst (λ l. IsStopOf (files_after l) (drop m (writes ++ w ∷ [])) found) (take-append-le m writes (w ∷ []) le) h)
 
-  from_last : IsStopOf (files_after (take m writes)) (drop m writes ++ w ∷ []) found → IsStopSince (writes ++ w ∷ []) m found
+  from_last : IsStopOf (files_after (take m writes)) (drop m writes ++ w ∷ []) found
+      → IsStopSince (writes ++ w ∷ []) m found
   from_last h =
       subst (λ l. IsStopOf (files_after l) (drop m (writes ++ w ∷ [])) found) (sym (take-append-le m writes (w ∷ []) le))
       (subst (λ l. IsStopOf (files_after (take m writes)) l found) (sym (drop-append-le m writes (w ∷ []) le)) h)
 
 -- a write adds a front of its bytes under its name, and nothing elsewhere
-pub adds_write : (writes : List Written) (w : Written) → Adds (Some (length writes)) (IsStopSince writes) (IsStopSince (writes ++ w ∷ []))
+pub adds_write : (writes : List Written) (w : Written)
+    → Adds (Some (length writes)) (IsStopSince writes) (IsStopSince (writes ++ w ∷ []))
     (IsHeldElsewhere w.name (Some (files_after writes)))
 adds_write writes w = record {
   only = λ start m found e le h.
