@@ -25,6 +25,11 @@ pub record IsCompletion (IsZero : Exponents → Type 0) (Z : List Exponents) (L 
   pub zeros : (z : Exponents) → Contains Z z → Rewrites R (Some z) None
   pub pairs : AllPairs (IsJoinableOrListed R listed) R
 
+-- the list `new` has the pairs of `old`, and those of the rules with one more, t, if these are not joinable
+pub record HasPairsWith (R : List RewriteRule) (t : RewriteRule) (old new : List RulePair) : Type 0 where
+  pub keeps : (p : RulePair) → Contains old p → Contains new p
+  pub each : (r : RewriteRule) → Contains R r → IsJoinableOrListed (R ++ t ∷ []) new r t
+
 -- each lead is rewritten to its letter; the first letter is at the place n
 abbrev pub lead_rules : ℕ → List Exponents → List RewriteRule
 lead_rules n [] = []

@@ -4,7 +4,7 @@ use Rattle.word_laws.specs.Words.{word_order_of}
 use Rattle.word_laws.specs.laws.Reducible.{multiple_closed}
 use Rattle.word_rewriting.specs.laws.Criterion.{decreasing_rules}
 use Rattle.word_rewriting.specs.laws.Pairs.{coprime_joinable, pairs_enough}
-use Rattle.word_rewriting.specs.laws.NormalForms.{pair_images}
+use Rattle.word_rewriting.specs.laws.NormalForms.{pair_images, pair_shows}
 use Rattle.word_rewriting.proofs.critical_pairs.Goals as goal
 
 pub returns-clause-coprime : goal.returns-clause-coprime
@@ -15,3 +15,6 @@ returns-clause-later g Z L R rules = pairs_enough (word_order_of L) R (decreasin
 
 pub returns-clause-image : goal.returns-clause-image
 returns-clause-image g Z L R H rules = pair_images (IsMultiple Z) L H R rules (multiple_closed (length L.degrees) Z)
+
+pub returns-clause-missed : goal.returns-clause-missed
+returns-clause-missed g Z L R H rules = pair_shows (IsMultiple Z) L H R rules (multiple_closed (length L.degrees) Z)

@@ -1,6 +1,6 @@
 -- How a completion begins, goes on and ends.
 use Rattle.std.proofs.Common.{◌≡◌, ◌≢◌, ℕ, zero, suc, ◌+◌, ◌≤◌, ◌<◌, refl, sym, ◌∙◌, ap, subst, List, [], ◌∷◌, ◌++◌, length, get_or, length-append, arith, ◌⊎◌, inl, inr, ⊎_elim, Some, None, Contains}
-use Rattle.std.specs.Prelude.{map, AllPairs}
+use Rattle.std.specs.Prelude.{AllPairs}
 use Rattle.std.proofs.lemmas.List.{get_or_append_left, get_or-append-add}
 use Rattle.std.proofs.lemmas.List.Elements.{Contains-append_cases}
 use Rattle.std.proofs.lemmas.List.Quantifiers.{all_pairs_push}
@@ -9,9 +9,9 @@ use Rattle.monomial_order.specs.laws.Comparing.{le_or_not, three_ways}
 use Rattle.monomial_order.specs.laws.Lists.{contains_at, contains_cases, contains_here, contains_there, contains_none, contains_left, contains_right, contains_map}
 use Rattle.word_laws.specs.Words.{Letters, AreLetters, word_order_of, image_of, IsWord, IsSmaller, IsZeroClosed}
 use Rattle.word_laws.specs.laws.Words.{word_laws, x_word, image_same}
-use Rattle.word_rewriting.specs.Rewriting.{WordOrZero, RewriteRule, Rewrites, stays, steps, AreJoinable, IsCriticalPair, multiple}
+use Rattle.word_rewriting.specs.Rewriting.{WordOrZero, RewriteRule, Rewrites, stays, steps, AreJoinable, multiple}
 use Rattle.word_rewriting.specs.Completeness.{lead_letter, with_leads, AreInX, IsRightSide, AreRewriteRules, HasImage, GeneratesReducible, AreComplete}
-use Rattle.word_rewriting.specs.Completion.{RulePair, HasJoinablePair, IsJoinableOrListed, IsCompletion, lead_rules, zero_rules, first_rules, Orients, lead_rule_of, zero_rule_of}
+use Rattle.word_rewriting.specs.Completion.{RulePair, HasJoinablePair, IsJoinableOrListed, IsCompletion, HasPairsWith, lead_rules, zero_rules, first_rules, Orients, lead_rule_of, zero_rule_of}
 use Rattle.word_rewriting.specs.laws.Rewriting.{rewrites_trans, more_rewrites, more_joinable}
 use Rattle.word_rewriting.specs.laws.Criterion.{decreasing_rules}
 use Rattle.word_rewriting.specs.laws.NormalForms.{rewrites_image}
@@ -38,13 +38,12 @@ more_listed : (R S : List RewriteRule) (old new : List RulePair) → Grows R S �
 more_listed R S old new h k r s j = ⊎_elim inl (λ x. ⊎_elim (λ l. inr (inl (k (r, s) l))) (λ y. inr (inr (more_pair R S h r s y))) x) j
 
 -- the pairs of the rules with one more
-pub pairs_push : (R : List RewriteRule) (t : RewriteRule) (old new : List RulePair) → ((p : RulePair) → Contains old p → Contains new p) →
-    ((r : RewriteRule) → Contains R r → IsJoinableOrListed (R ++ t ∷ []) new r t) →
+pub pairs_push : (R : List RewriteRule) (t : RewriteRule) (old new : List RulePair) → HasPairsWith R t old new →
     AllPairs (IsJoinableOrListed R old) R → AllPairs (IsJoinableOrListed (R ++ t ∷ []) new) (R ++ t ∷ [])
-pairs_push R t old new h k all =
+pairs_push R t old new h all =
     all_pairs_push (IsJoinableOrListed (R ++ t ∷ []) new) R t
-    (λ i j d l n. more_listed R (R ++ t ∷ []) old new (contains_left R (t ∷ [])) h (get_or R i d) (get_or R j d) (all i j d l n))
-    (λ i d l. k (get_or R i d) (contains_at R i d l))
+    (λ i j d l n. more_listed R (R ++ t ∷ []) old new (contains_left R (t ∷ [])) h.keeps (get_or R i d) (get_or R j d) (all i j d l n))
+    (λ i d l. h.each (get_or R i d) (contains_at R i d l))
 
 rules_push : (IsZero : Exponents → Type 0) (L : Letters) (R : List RewriteRule) (t : RewriteRule) → AreRewriteRules IsZero L R → IsWord L t.left × IsRightSide IsZero L t.left t.right → AreRewriteRules IsZero L (R ++ t ∷ [])
 rules_push IsZero L R t rules h r k =
@@ -54,13 +53,12 @@ rules_push IsZero L R t rules h r k =
 module _ (IsZero : Exponents → Type 0) (Z : List Exponents) (L : Letters) where
   -- a rule is added
   pub adds : (R : List RewriteRule) (t : RewriteRule) (old new : List RulePair) → IsCompletion IsZero Z L R old →
-      IsWord L t.left × IsRightSide IsZero L t.left t.right → ((p : RulePair) → Contains old p → Contains new p) →
-      ((r : RewriteRule) → Contains R r → IsJoinableOrListed (R ++ t ∷ []) new r t) → IsCompletion IsZero Z L (R ++ t ∷ []) new
-  adds R t old new h rule more pairs = record {
+      IsWord L t.left × IsRightSide IsZero L t.left t.right → HasPairsWith R t old new → IsCompletion IsZero Z L (R ++ t ∷ []) new
+  adds R t old new h rule more = record {
     rules = rules_push IsZero L R t h.rules rule;
     leads = λ i l. more_joinable R (R ++ t ∷ []) (contains_left R (t ∷ [])) (Some (get_or L.leads i [])) (Some (lead_letter L i)) (h.leads i l);
     zeros = λ z k. more_rewrites R (R ++ t ∷ []) (contains_left R (t ∷ [])) (h.zeros z k);
-    pairs = pairs_push R t old new more pairs h.pairs;
+    pairs = pairs_push R t old new more h.pairs;
   }
 
   -- pairs are joined
@@ -199,10 +197,9 @@ module _ (IsZero : Exponents → Type 0) (L : Letters) (H : AreLetters L) (close
 
   -- a lead is added at the end, with the rule of its letter
   pub adds_lead : (R : List RewriteRule) (old new : List RulePair) (m u : Exponents) → IsCompletion IsZero Z L R old →
-      IsMonomial (length L.degrees) m → m ≢ [] → Rewrites R (Some m) (Some u) → ((p : RulePair) → Contains old p → Contains new p) →
-      ((r : RewriteRule) → Contains R r → IsJoinableOrListed (R ++ lead_rule_of L u ∷ []) new r (lead_rule_of L u)) →
+      IsMonomial (length L.degrees) m → m ≢ [] → Rewrites R (Some m) (Some u) → HasPairsWith R (lead_rule_of L u) old new →
       IsCompletion IsZero Z (with_leads L (m ∷ [])) (R ++ lead_rule_of L u ∷ []) new
-  adds_lead R old new m u h hm ne to more pairs = record {
+  adds_lead R old new m u h hm ne to more = record {
     rules = rules_push IsZero (with_leads L (m ∷ [])) R t (rules_stay L (m ∷ []) IsZero IsZero (λ x z. z) R h.rules) (
       word_stays L (m ∷ []) u image.0,
       subst (λ j. IsSmaller (with_leads L (m ∷ [])) u (lead_letter L j)) (let e : length L.leads + 0 ≡ length L.leads = omega arith in e)
@@ -210,7 +207,7 @@ module _ (IsZero : Exponents → Type 0) (L : Letters) (H : AreLetters L) (close
     );
     leads = λ i l. ⊎_elim (λ k. older i (let z = k in omega arith)) (λ k. newer i (let z = length-append L.leads (m ∷ []) in omega (arith, k))) (le_or_not (suc i) (length L.leads));
     zeros = λ z k. more_rewrites R (R ++ t ∷ []) (contains_left R (t ∷ [])) (h.zeros z k);
-    pairs = pairs_push R t old new more pairs h.pairs;
+    pairs = pairs_push R t old new more h.pairs;
   }
     where
       t : RewriteRule
@@ -231,8 +228,7 @@ module _ (IsZero : Exponents → Type 0) (L : Letters) (H : AreLetters L) (close
       newer i e =
           subst (λ j. AreJoinable (R ++ t ∷ []) (Some (get_or (L.leads ++ m ∷ []) j [])) (Some (lead_letter L j))) (sym e)
           (subst (λ x. AreJoinable (R ++ t ∷ []) (Some x) (Some (lead_letter L (length L.leads))))
-          (sym (ap (λ j. get_or (L.leads ++ m ∷ []) j []) (let q : length L.leads ≡ length L.leads + 0 = omega arith in q) ∙ get_or-append-add L.leads (m ∷ []) 0 []))
-          (
+          (sym (ap (λ j. get_or (L.leads ++ m ∷ []) j []) (let q : length L.leads ≡ length L.leads + 0 = omega arith in q) ∙ get_or-append-add L.leads (m ∷ []) 0 [])) (
             Some (lead_letter L (length L.leads)),
             rewrites_trans (R ++ t ∷ []) (more_rewrites R (R ++ t ∷ []) (contains_left R (t ∷ [])) to) (rule_rewrites (R ++ t ∷ []) t (contains_right R (t ∷ []) t (contains_here t []))),
             stays,
@@ -259,16 +255,15 @@ module _ (IsZero : Exponents → Type 0) (L : Letters) (H : AreLetters L) (close
 
   -- a zero is added, with the rule of a word to which it rewrites
   pub adds_zero_rule : (Y : Exponents → Type 0) → ((m : Exponents) → IsZero m → Y m) → (R : List RewriteRule) (old new : List RulePair) (z u : Exponents) →
-      IsCompletion IsZero Z L R old → IsMonomial (length L.degrees) z → Y z → Rewrites R (Some z) (Some u) → ((p : RulePair) → Contains old p → Contains new p) →
-      ((r : RewriteRule) → Contains R r → IsJoinableOrListed (R ++ zero_rule_of u ∷ []) new r (zero_rule_of u)) →
+      IsCompletion IsZero Z L R old → IsMonomial (length L.degrees) z → Y z → Rewrites R (Some z) (Some u) → HasPairsWith R (zero_rule_of u) old new →
       IsCompletion Y (Z ++ z ∷ []) L (R ++ zero_rule_of u ∷ []) new
-  adds_zero_rule Y bigger R old new z u h hz yz to more pairs = record {
+  adds_zero_rule Y bigger R old new z u h hz yz to more = record {
     rules = rules_push Y L R t (more_zeros Y bigger R h.rules) (image.0, subst Y (sym image.1) yz);
     leads = λ i l. more_joinable R (R ++ t ∷ []) (contains_left R (t ∷ [])) (Some (get_or L.leads i [])) (Some (lead_letter L i)) (h.leads i l);
     zeros = λ y k. ⊎_elim (λ a. more_rewrites R (R ++ t ∷ []) (contains_left R (t ∷ [])) (h.zeros y a))
         (λ b. ⊎_elim (λ e. subst (λ x. Rewrites (R ++ t ∷ []) (Some x) None) e last) (λ n. absurd (contains_none y n)) (contains_cases z [] y b))
         (Contains-append_cases Z (z ∷ []) y k);
-    pairs = pairs_push R t old new more pairs h.pairs;
+    pairs = pairs_push R t old new more h.pairs;
   }
     where
       t : RewriteRule
