@@ -4,7 +4,7 @@ use Rattle.monomial_order.specs.Monomial.{Exponents, IsMonomial, IsMultiple, Div
 use Rattle.word_laws.specs.Words.{Letters, AreLetters, word_order_of, image_of, IsWord, IsSWord, IsSmaller, IsReducible, IsMinimalReducible, IsLeast}
 use Rattle.word_rewriting.specs.Rewriting.{WordOrZero, RewriteRule, Rewrites, AreJoinable, HasLeftDivisor, IsNormalForm, IsCriticalPair, JoinsPair, JoinsPairs}
 use Rattle.word_rewriting.specs.Renumbering.{AreRenumbered, AreRenumberedRules, IsRenumbered}
-use Rattle.word_rewriting.specs.Completion.{RulePair, IsJoinableOrListed, IsCompletion, HasPairsWith, first_rules, Orients, lead_rule_of, zero_rule_of}
+use Rattle.word_rewriting.specs.Completion.{RulePair, HasConnectedPair, IsCompletion, HasPairsWith, first_rules, Orients, lead_rule_of, zero_rule_of}
 use Rattle.word_rewriting.specs.Completeness.{lead_letter, with_leads, AreInX, AreRewriteRules, HasImage, IsLeastOrZero, IsRightSide, GeneratesReducible, IsMissedWord, AreComplete, HaveDegreesTo, IsMinimalLeftSide}
 
 -- What a law holds of: rules R over letters L, with the multiples of Z as zero.
@@ -154,7 +154,7 @@ module _ (Z : List Exponents) (L : Letters) where
   -- a completion begins with the rules of leads and zeros, and with their pairs
   abbrev pub CompletionsBegin : Type 0
   CompletionsBegin = AreInX L Z → (listed : List RulePair) →
-      AllPairs (IsJoinableOrListed (first_rules Z L) listed) (first_rules Z L) →
+      AllPairs (HasConnectedPair (first_rules Z L) listed) (first_rules Z L) →
       IsCompletion (IsMultiple Z) Z L (first_rules Z L) listed
 
   -- two normal forms of one image that differ are the sides of a rule
@@ -170,10 +170,10 @@ module _ (Z : List Exponents) (L : Letters) (R : List RewriteRule) (listed : Lis
       IsWord L t.left × IsRightSide (IsMultiple Z) L t.left t.right → HasPairsWith R t listed new →
       IsCompletion (IsMultiple Z) Z L (R ++ t ∷ []) new
 
-  -- pairs that are joinable can be left out of the list
-  abbrev pub JoinablePairsAreLeftOut : Type 0
-  JoinablePairsAreLeftOut = (new : List RulePair) →
-      ((r s : RewriteRule) → Contains listed (r, s) → IsJoinableOrListed R new r s) →
+  -- pairs whose rules are connected without them, as joinable ones, can be left out of the list
+  abbrev pub ConnectedPairsAreLeftOut : Type 0
+  ConnectedPairsAreLeftOut = (new : List RulePair) →
+      ((r s : RewriteRule) → Contains listed (r, s) → HasConnectedPair R new r s) →
       IsCompletion (IsMultiple Z) Z L R new
 
   -- if all pairs in the list are above the degree c, the rules are complete to c

@@ -9,7 +9,7 @@ ghost use Rattle.monomial_order.specs.Monomial.{Exponents, IsMonomial, IsMultipl
 ghost use Rattle.word_laws.specs.Words.{AreLetters, Letters};
 ghost use Rattle.word_rewriting.specs.Rewriting.{RewriteRule};
 ghost use Rattle.word_rewriting.specs.Completeness.{AreRewriteRules};
-ghost use Rattle.word_rewriting.specs.Statements.{CompleteIfClosed, CompletenessIsExact, CompletionsBegin, CompletionsEnd, CompletionsGoOn, CoprimePairsAreJoinable, DifferencesMakeRules, DifferencesShowMissedWords, ForCompletions, ForGeneratingRules, ForRenumberedLeads, ForRules, JoinablePairsAreLeftOut, JoinableStays, LaterPairsAreEnough, LeadsAreAdded, LeastWordsAreRenumbered, MinimalLeftSidesAreExact, NewLettersAreSmaller, NormalFormsAreFactors, NormalFormsAreLeast, NormalFormsExist, OrientedRulesJoin, PairsHaveOneImage, PairsShowMissedWords, ReducibleWordsAreRenumbered, RulesAreAdded, RulesAreRenumbered, RulesExist, RulesStay, TwiceTheDegreeIsEnough, WordsAreRenumbered, ZeroRulesAreAdded, ZerosAreAdded};
+ghost use Rattle.word_rewriting.specs.Statements.{CompleteIfClosed, CompletenessIsExact, CompletionsBegin, CompletionsEnd, CompletionsGoOn, ConnectedPairsAreLeftOut, CoprimePairsAreJoinable, DifferencesMakeRules, DifferencesShowMissedWords, ForCompletions, ForGeneratingRules, ForRenumberedLeads, ForRules, JoinableStays, LaterPairsAreEnough, LeadsAreAdded, LeastWordsAreRenumbered, MinimalLeftSidesAreExact, NewLettersAreSmaller, NormalFormsAreFactors, NormalFormsAreLeast, NormalFormsExist, OrientedRulesJoin, PairsHaveOneImage, PairsShowMissedWords, ReducibleWordsAreRenumbered, RulesAreAdded, RulesAreRenumbered, RulesExist, RulesStay, TwiceTheDegreeIsEnough, WordsAreRenumbered, ZeroRulesAreAdded, ZerosAreAdded};
 
 /// Rules are complete exactly if their left sides generate the reducible words. There are such rules to each degree.
 pub fn criterion()
@@ -63,7 +63,7 @@ pub fn completion()
     ensures orient { (Z : List Exponents) (L : Letters) → AreLetters L → DifferencesMakeRules Z L }
     ensures join { (R : List RewriteRule) → OrientedRulesJoin R }
     ensures add { ForCompletions RulesAreAdded }
-    ensures leave_out { ForCompletions JoinablePairsAreLeftOut }
+    ensures leave_out { ForCompletions ConnectedPairsAreLeftOut }
     ensures end { ForCompletions CompletionsEnd }
 {}
 

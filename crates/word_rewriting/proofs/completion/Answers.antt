@@ -13,7 +13,7 @@ pub returns-clause-leave_out : goal.returns-clause-leave_out
 returns-clause-leave_out g Z L R listed H h new = joins (IsMultiple Z) Z L R listed new h
 
 pub returns-clause-end : goal.returns-clause-end
-returns-clause-end g Z L R listed H h c = ends (IsMultiple Z) Z L R listed c h
+returns-clause-end g Z L R listed H h c = ends (IsMultiple Z) Z L H R listed c h
 
 pub returns-clause-orient : goal.returns-clause-orient
 returns-clause-orient g Z L H = orients (IsMultiple Z) Z L H

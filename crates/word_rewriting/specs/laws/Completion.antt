@@ -4,18 +4,19 @@ use Rattle.std.specs.Prelude.{AllPairs}
 use Rattle.std.proofs.lemmas.List.{get_or_append_left, get_or-append-add}
 use Rattle.std.proofs.lemmas.List.Elements.{Contains-append_cases}
 use Rattle.std.proofs.lemmas.List.Quantifiers.{all_pairs_push}
-use Rattle.monomial_order.specs.Monomial.{Exponents, IsMonomial, AreCoprime, variable, weighted_degree, least_common_multiple as lcm}
+use Rattle.monomial_order.specs.Monomial.{Exponents, IsMonomial, Divides, AreCoprime, variable, weighted_degree, least_common_multiple as lcm}
+use Rattle.monomial_order.specs.laws.Cofactors.{Divides-trans, least_common_multiple_least, Divides-least_common_multiple, Divides-least_common_multiple_right}
 use Rattle.monomial_order.specs.laws.Comparing.{le_or_not, three_ways}
 use Rattle.monomial_order.specs.laws.Lists.{contains_at, contains_cases, contains_here, contains_there, contains_none, contains_left, contains_right, contains_map}
 use Rattle.word_laws.specs.Words.{Letters, AreLetters, word_order_of, image_of, IsWord, IsSmaller, IsZeroClosed}
 use Rattle.word_laws.specs.laws.Words.{word_laws, x_word, image_same}
 use Rattle.word_rewriting.specs.Rewriting.{WordOrZero, RewriteRule, Rewrites, stays, steps, AreJoinable, multiple}
 use Rattle.word_rewriting.specs.Completeness.{lead_letter, with_leads, AreInX, IsRightSide, AreRewriteRules, HasImage, GeneratesReducible, AreComplete}
-use Rattle.word_rewriting.specs.Completion.{RulePair, HasJoinablePair, IsJoinableOrListed, IsCompletion, HasPairsWith, lead_rules, zero_rules, first_rules, Orients, lead_rule_of, zero_rule_of}
+use Rattle.word_rewriting.specs.Completion.{RulePair, AreConnected, directly, turned, through, HasConnectedPair, IsCompletion, HasPairsWith, lead_rules, zero_rules, first_rules, Orients, lead_rule_of, zero_rule_of}
 use Rattle.word_rewriting.specs.laws.Rewriting.{rewrites_trans, more_rewrites, more_joinable}
 use Rattle.word_rewriting.specs.laws.Criterion.{decreasing_rules}
 use Rattle.word_rewriting.specs.laws.NormalForms.{rewrites_image}
-use Rattle.word_rewriting.specs.laws.Pairs.{pairs_enough}
+use Rattle.word_rewriting.specs.laws.Connected.{later_connected}
 use Rattle.word_rewriting.specs.laws.Complete.{AreZeros, generates_complete}
 use Rattle.word_rewriting.specs.laws.MoreLeads.{word_stays, rules_stay, new_letter_smaller}
 
@@ -27,22 +28,36 @@ rule_rewrites R t h = steps (record { rule = t; listed = h; by = record { cofact
     once None = refl
     once (Some v) = refl
 
+-- what is connected below l is connected below the multiples of l
+lift : (R : List RewriteRule) (pairs : List RulePair) (l m : Exponents) → Divides l m → {r s : RewriteRule} → AreConnected R pairs l r s → AreConnected R pairs m r s
+lift R pairs l m d (directly x) = directly x
+lift R pairs l m d (turned x) = turned (lift R pairs l m d x)
+lift R pairs l m d (through t ht dt x y) = through t ht (Divides-trans t.left l m dt d) (lift R pairs l m d x) (lift R pairs l m d y)
+
 abbrev Grows : List RewriteRule → List RewriteRule → Type 0
 Grows R S = (r : RewriteRule) → Contains R r → Contains S r
 
-more_pair : (R S : List RewriteRule) → Grows R S → (r s : RewriteRule) → HasJoinablePair R r s → HasJoinablePair S r s
-more_pair R S h r s k a b p = more_joinable R S h a b (k a b p)
+-- with more rules, and another list that has the listed pairs connected, what is connected stays so
+connected_stays : (R S : List RewriteRule) (old new : List RulePair) → Grows R S →
+    ((r s : RewriteRule) → Contains old (r, s) → HasConnectedPair S new r s) → (l : Exponents) {r s : RewriteRule} → Divides r.left l → Divides s.left l →
+    AreConnected R old l r s → AreConnected S new l r s
+connected_stays R S old new h k l dr ds (directly {r = r} {s = s} x) =
+    ⊎_elim (λ co. directly (inl co))
+    (λ y. ⊎_elim (λ z. lift S new (lcm r.left s.left) l (least_common_multiple_least r.left s.left l dr ds) (k r s z)) (λ z. directly (inr (inr (λ a b p. more_joinable R S h a b (z a b p))))) y) x
+connected_stays R S old new h k l dr ds (turned x) = turned (connected_stays R S old new h k l ds dr x)
+connected_stays R S old new h k l dr ds (through t ht dt x y) = through t (h t ht) dt (connected_stays R S old new h k l dr dt x) (connected_stays R S old new h k l dt ds y)
 
-more_listed : (R S : List RewriteRule) (old new : List RulePair) → Grows R S → ((p : RulePair) → Contains old p → Contains new p) →
-    (r s : RewriteRule) → IsJoinableOrListed R old r s → IsJoinableOrListed S new r s
-more_listed R S old new h k r s j = ⊎_elim inl (λ x. ⊎_elim (λ l. inr (inl (k (r, s) l))) (λ y. inr (inr (more_pair R S h r s y))) x) j
+more_connected : (R S : List RewriteRule) (old new : List RulePair) → Grows R S → ((p : RulePair) → Contains old p → Contains new p) →
+    (r s : RewriteRule) → HasConnectedPair R old r s → HasConnectedPair S new r s
+more_connected R S old new h k r s x =
+    connected_stays R S old new h (λ r s z. directly (inr (inl (k (r, s) z)))) (lcm r.left s.left) (Divides-least_common_multiple r.left s.left) (Divides-least_common_multiple_right r.left s.left) x
 
 -- the pairs of the rules with one more
 pub pairs_push : (R : List RewriteRule) (t : RewriteRule) (old new : List RulePair) → HasPairsWith R t old new →
-    AllPairs (IsJoinableOrListed R old) R → AllPairs (IsJoinableOrListed (R ++ t ∷ []) new) (R ++ t ∷ [])
+    AllPairs (HasConnectedPair R old) R → AllPairs (HasConnectedPair (R ++ t ∷ []) new) (R ++ t ∷ [])
 pairs_push R t old new h all =
-    all_pairs_push (IsJoinableOrListed (R ++ t ∷ []) new) R t
-    (λ i j d l n. more_listed R (R ++ t ∷ []) old new (contains_left R (t ∷ [])) h.keeps (get_or R i d) (get_or R j d) (all i j d l n))
+    all_pairs_push (HasConnectedPair (R ++ t ∷ []) new) R t
+    (λ i j d l n. more_connected R (R ++ t ∷ []) old new (contains_left R (t ∷ [])) h.keeps (get_or R i d) (get_or R j d) (all i j d l n))
     (λ i d l. h.each (get_or R i d) (contains_at R i d l))
 
 rules_push : (IsZero : Exponents → Type 0) (L : Letters) (R : List RewriteRule) (t : RewriteRule) → AreRewriteRules IsZero L R → IsWord L t.left × IsRightSide IsZero L t.left t.right → AreRewriteRules IsZero L (R ++ t ∷ [])
@@ -61,25 +76,26 @@ module _ (IsZero : Exponents → Type 0) (Z : List Exponents) (L : Letters) wher
     pairs = pairs_push R t old new more h.pairs;
   }
 
-  -- pairs are joined
+  -- listed pairs are left out if their rules are connected without them
   pub joins : (R : List RewriteRule) (old new : List RulePair) → IsCompletion IsZero Z L R old →
-      ((r s : RewriteRule) → Contains old (r, s) → IsJoinableOrListed R new r s) → IsCompletion IsZero Z L R new
+      ((r s : RewriteRule) → Contains old (r, s) → HasConnectedPair R new r s) → IsCompletion IsZero Z L R new
   joins R old new h k = record {
     rules = h.rules;
     leads = h.leads;
     zeros = h.zeros;
-    pairs = λ i j d l n. ⊎_elim inl (λ x. ⊎_elim (k (get_or R i d) (get_or R j d)) (λ y. inr (inr y)) x) (h.pairs i j d l n);
+    pairs = λ i j d l n.
+        let r = get_or R i d in
+        let s = get_or R j d in
+        connected_stays R R old new (λ x y. y) k (lcm r.left s.left) (Divides-least_common_multiple r.left s.left) (Divides-least_common_multiple_right r.left s.left) (h.pairs i j d l n);
   }
 
   -- if the pairs in the list are above the degree c, the rules are complete to c
-  pub ends : (R : List RewriteRule) (listed : List RulePair) (c : ℕ) → IsCompletion IsZero Z L R listed →
+  pub ends : AreLetters L → (R : List RewriteRule) (listed : List RulePair) (c : ℕ) → IsCompletion IsZero Z L R listed →
       ((r s : RewriteRule) → Contains listed (r, s) → c < (word_order_of L).degree (lcm r.left s.left)) → AreComplete Z L R c
-  ends R listed c h high = record {
+  ends H R listed c h high = record {
     leads = λ i l e. h.leads i l;
     zeros = λ z k e. h.zeros z k;
-    pairs = pairs_enough (word_order_of L) R (decreasing_rules IsZero L R h.rules) c
-        (λ i j d l n co low a b p. ⊎_elim (λ x. absurd (co x))
-        (λ x. ⊎_elim (λ y. absurd (let z = high (get_or R i d) (get_or R j d) y in omega arith)) (λ y. y a b p) x) (h.pairs i j d l n));
+    pairs = later_connected (word_order_of L) (word_laws L H) R (decreasing_rules IsZero L R h.rules) c listed high h.pairs;
   }
 
   -- rules whose left sides generate the reducible words to c go on with the pairs above c
@@ -94,8 +110,8 @@ module _ (IsZero : Exponents → Type 0) (Z : List Exponents) (L : Letters) wher
         leads = λ i l. k.leads i l (low_leads (get_or L.leads i []) (contains_at L.leads i [] l));
         zeros = λ z n. k.zeros z n (low_zeros z n);
         pairs = λ i j d l n. ⊎_elim
-            (λ low. inr (inr (k.pairs (get_or R i d) (get_or R j d) (contains_at R i d (omega arith)) (contains_at R j d n) low)))
-            (λ high. ⊎_elim inl (λ y. inr (inl y)) (above i j d l n (omega (arith, high))))
+            (λ low. directly (inr (inr (k.pairs (get_or R i d) (get_or R j d) (contains_at R i d (omega arith)) (contains_at R j d n) low))))
+            (λ high. directly (⊎_elim inl (λ y. inr (inl y)) (above i j d l n (omega (arith, high)))))
             (le_or_not ((word_order_of L).degree (lcm (get_or R i d).left (get_or R j d).left)) c);
       }
 
@@ -176,7 +192,7 @@ module _ (L : Letters) (H : AreLetters L) where
         (Contains-append_cases (lead_rules (length L.degrees) L.leads) (zero_rules Z) r k)
 
     -- a completion begins with the rules of leads and zeros
-    pub begins : (listed : List RulePair) → AllPairs (IsJoinableOrListed (first_rules Z L) listed) (first_rules Z L) → IsCompletion IsZero Z L (first_rules Z L) listed
+    pub begins : (listed : List RulePair) → AllPairs (HasConnectedPair (first_rules Z L) listed) (first_rules Z L) → IsCompletion IsZero Z L (first_rules Z L) listed
     begins listed pairs = record {
       rules = first_rules_rules;
       leads = λ i l. (
