@@ -1,6 +1,7 @@
 -- The state of a completion: rules, and the critical pairs that are still to be joined.
 use Rattle.std.specs.Prelude.{◌≡◌, ◌⊎◌, ℕ, suc, ◌<◌, List, [], ◌∷◌, ◌++◌, length, get_or, map, Contains, AllPairs, Some, None}
 use Rattle.monomial_order.specs.Monomial.{Exponents, Divides, AreCoprime, least_common_multiple, variable}
+use Rattle.monomial_order.specs.MonomialOrder.{MonomialOrder}
 use Rattle.word_laws.specs.Words.{Letters}
 use Rattle.word_rewriting.specs.Rewriting.{WordOrZero, RewriteRule, Rewrites, AreJoinable, HasJoinablePair}
 use Rattle.word_rewriting.specs.Completeness.{lead_letter, AreRewriteRules}
@@ -24,6 +25,10 @@ pub data AreConnected (R : List RewriteRule) (pairs : List RulePair) (l : Expone
 -- the same, with the least common multiple of the left sides
 abbrev pub HasConnectedPair : List RewriteRule → List RulePair → RewriteRule → RewriteRule → Type 0
 HasConnectedPair R pairs r s = AreConnected R pairs (least_common_multiple r.left s.left) r s
+
+-- the pairs in the list have degrees above c
+abbrev pub AreAbove : MonomialOrder → ℕ → List RulePair → Type 0
+AreAbove O c pairs = (r s : RewriteRule) → Contains pairs (r, s) → c < O.degree (least_common_multiple r.left s.left)
 
 -- Each lead, written in the x, is joinable with its letter, each member of Z rewrites to zero, and each two rules are
 -- connected if the pairs in the list count as joinable.

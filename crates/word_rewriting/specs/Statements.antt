@@ -4,7 +4,7 @@ use Rattle.monomial_order.specs.Monomial.{Exponents, IsMonomial, IsMultiple, Div
 use Rattle.word_laws.specs.Words.{Letters, AreLetters, word_order_of, image_of, IsWord, IsSWord, IsSmaller, IsReducible, IsMinimalReducible, IsLeast}
 use Rattle.word_rewriting.specs.Rewriting.{WordOrZero, RewriteRule, Rewrites, AreJoinable, HasLeftDivisor, IsNormalForm, IsCriticalPair, JoinsPair, JoinsPairs}
 use Rattle.word_rewriting.specs.Renumbering.{AreRenumbered, AreRenumberedRules, IsRenumbered}
-use Rattle.word_rewriting.specs.Completion.{RulePair, HasConnectedPair, IsCompletion, HasPairsWith, first_rules, Orients, lead_rule_of, zero_rule_of}
+use Rattle.word_rewriting.specs.Completion.{RulePair, HasConnectedPair, AreAbove, IsCompletion, HasPairsWith, first_rules, Orients, lead_rule_of, zero_rule_of}
 use Rattle.word_rewriting.specs.Completeness.{lead_letter, with_leads, AreInX, AreRewriteRules, HasImage, IsLeastOrZero, IsRightSide, GeneratesReducible, IsMissedWord, AreComplete, HaveDegreesTo, IsMinimalLeftSide}
 
 -- What a law holds of: rules R over letters L, with the multiples of Z as zero.
@@ -48,6 +48,11 @@ module _ (Z : List Exponents) (L : Letters) (R : List RewriteRule) where
       AllPairs (λ r s. ¬ AreCoprime r.left s.left → JoinsPair (word_order_of L) R c r s) R →
       JoinsPairs (word_order_of L) R c
 
+  -- it is also enough that each two rules are connected, if the listed pairs are above the degree
+  abbrev pub ConnectedPairsAreEnough : Type 0
+  ConnectedPairsAreEnough = (c : ℕ) (listed : List RulePair) → AreAbove (word_order_of L) c listed →
+      AllPairs (HasConnectedPair R listed) R → JoinsPairs (word_order_of L) R c
+
   -- both members of a critical pair have the image of the least common multiple
   abbrev pub PairsHaveOneImage : Type 0
   PairsHaveOneImage = (r s : RewriteRule) → Contains R r → Contains R s → (a b : WordOrZero) → IsCriticalPair r s a b →
@@ -90,6 +95,12 @@ module _ (Z : List Exponents) (L : Letters) (R : List RewriteRule) where
   abbrev pub MinimalLeftSidesAreExact : ℕ → Type 0
   MinimalLeftSidesAreExact c = (u : Exponents) → IsWord L u → (word_order_of L).degree u ≤ c →
       IsMinimalReducible (IsMultiple Z) L u ↔ IsMinimalLeftSide R u
+
+-- the chain criterion: a rule whose left side divides the least common multiple connects two others
+abbrev pub ChainsConnect : List RewriteRule → List RulePair → Type 0
+ChainsConnect R listed = (r t s : RewriteRule) →
+    Contains R t → Divides t.left (least_common_multiple r.left s.left) →
+    HasConnectedPair R listed r t → HasConnectedPair R listed t s → HasConnectedPair R listed r s
 
 -- to each degree there are rules whose left sides generate the reducible words
 abbrev pub RulesExist : List Exponents → Letters → Type 0

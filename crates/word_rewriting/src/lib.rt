@@ -9,7 +9,8 @@ ghost use Rattle.monomial_order.specs.Monomial.{Exponents, IsMonomial, IsMultipl
 ghost use Rattle.word_laws.specs.Words.{AreLetters, Letters};
 ghost use Rattle.word_rewriting.specs.Rewriting.{RewriteRule};
 ghost use Rattle.word_rewriting.specs.Completeness.{AreRewriteRules};
-ghost use Rattle.word_rewriting.specs.Statements.{CompleteIfClosed, CompletenessIsExact, CompletionsBegin, CompletionsEnd, CompletionsGoOn, ConnectedPairsAreLeftOut, CoprimePairsAreJoinable, DifferencesMakeRules, DifferencesShowMissedWords, ForCompletions, ForGeneratingRules, ForRenumberedLeads, ForRules, JoinableStays, LaterPairsAreEnough, LeadsAreAdded, LeastWordsAreRenumbered, MinimalLeftSidesAreExact, NewLettersAreSmaller, NormalFormsAreFactors, NormalFormsAreLeast, NormalFormsExist, OrientedRulesJoin, PairsHaveOneImage, PairsShowMissedWords, ReducibleWordsAreRenumbered, RulesAreAdded, RulesAreRenumbered, RulesExist, RulesStay, TwiceTheDegreeIsEnough, WordsAreRenumbered, ZeroRulesAreAdded, ZerosAreAdded};
+ghost use Rattle.word_rewriting.specs.Completion.{RulePair};
+ghost use Rattle.word_rewriting.specs.Statements.{ChainsConnect, CompleteIfClosed, CompletenessIsExact, CompletionsBegin, CompletionsEnd, CompletionsGoOn, ConnectedPairsAreEnough, ConnectedPairsAreLeftOut, CoprimePairsAreJoinable, DifferencesMakeRules, DifferencesShowMissedWords, ForCompletions, ForGeneratingRules, ForRenumberedLeads, ForRules, JoinableStays, LaterPairsAreEnough, LeadsAreAdded, LeastWordsAreRenumbered, MinimalLeftSidesAreExact, NewLettersAreSmaller, NormalFormsAreFactors, NormalFormsAreLeast, NormalFormsExist, OrientedRulesJoin, PairsHaveOneImage, PairsShowMissedWords, ReducibleWordsAreRenumbered, RulesAreAdded, RulesAreRenumbered, RulesExist, RulesStay, TwiceTheDegreeIsEnough, WordsAreRenumbered, ZeroRulesAreAdded, ZerosAreAdded};
 
 /// Rules are complete exactly if their left sides generate the reducible words. There are such rules to each degree.
 pub fn criterion()
@@ -20,12 +21,14 @@ pub fn criterion()
     ensures minimal { ForGeneratingRules MinimalLeftSidesAreExact }
 {}
 
-/// Which critical pairs need no look, what they have in common, and what one shows that is not joinable.
+/// Which critical pairs are enough, what members of a pair have in common, and what a pair shows that is not joinable.
 pub fn critical_pairs()
     ensures coprime { (Z : List Exponents) (L : Letters) (R : List RewriteRule) →
         AreRewriteRules (IsMultiple Z) L R → CoprimePairsAreJoinable Z L R }
     ensures later { (Z : List Exponents) (L : Letters) (R : List RewriteRule) →
         AreRewriteRules (IsMultiple Z) L R → LaterPairsAreEnough Z L R }
+    ensures connected { ForRules ConnectedPairsAreEnough }
+    ensures chain { (R : List RewriteRule) (listed : List RulePair) → ChainsConnect R listed }
     ensures image { ForRules PairsHaveOneImage }
     ensures missed { ForRules PairsShowMissedWords }
 {}

@@ -5,18 +5,18 @@ use Rattle.std.proofs.lemmas.List.{get_or_append_left, get_or-append-add}
 use Rattle.std.proofs.lemmas.List.Elements.{Contains-append_cases}
 use Rattle.std.proofs.lemmas.List.Quantifiers.{all_pairs_push}
 use Rattle.monomial_order.specs.Monomial.{Exponents, IsMonomial, Divides, AreCoprime, variable, weighted_degree, least_common_multiple as lcm}
-use Rattle.monomial_order.specs.laws.Cofactors.{Divides-trans, least_common_multiple_least, Divides-least_common_multiple, Divides-least_common_multiple_right}
+use Rattle.monomial_order.specs.laws.Cofactors.{least_common_multiple_least, Divides-least_common_multiple, Divides-least_common_multiple_right}
 use Rattle.monomial_order.specs.laws.Comparing.{le_or_not, three_ways}
 use Rattle.monomial_order.specs.laws.Lists.{contains_at, contains_cases, contains_here, contains_there, contains_none, contains_left, contains_right, contains_map}
 use Rattle.word_laws.specs.Words.{Letters, AreLetters, word_order_of, image_of, IsWord, IsSmaller, IsZeroClosed}
 use Rattle.word_laws.specs.laws.Words.{word_laws, x_word, image_same}
 use Rattle.word_rewriting.specs.Rewriting.{WordOrZero, RewriteRule, Rewrites, stays, steps, AreJoinable, multiple}
 use Rattle.word_rewriting.specs.Completeness.{lead_letter, with_leads, AreInX, IsRightSide, AreRewriteRules, HasImage, GeneratesReducible, AreComplete}
-use Rattle.word_rewriting.specs.Completion.{RulePair, AreConnected, directly, turned, through, HasConnectedPair, IsCompletion, HasPairsWith, lead_rules, zero_rules, first_rules, Orients, lead_rule_of, zero_rule_of}
+use Rattle.word_rewriting.specs.Completion.{RulePair, AreConnected, directly, turned, through, HasConnectedPair, AreAbove, IsCompletion, HasPairsWith, lead_rules, zero_rules, first_rules, Orients, lead_rule_of, zero_rule_of}
 use Rattle.word_rewriting.specs.laws.Rewriting.{rewrites_trans, more_rewrites, more_joinable}
 use Rattle.word_rewriting.specs.laws.Criterion.{decreasing_rules}
 use Rattle.word_rewriting.specs.laws.NormalForms.{rewrites_image}
-use Rattle.word_rewriting.specs.laws.Connected.{later_connected}
+use Rattle.word_rewriting.specs.laws.Connected.{later_connected, lift}
 use Rattle.word_rewriting.specs.laws.Complete.{AreZeros, generates_complete}
 use Rattle.word_rewriting.specs.laws.MoreLeads.{word_stays, rules_stay, new_letter_smaller}
 
@@ -27,12 +27,6 @@ rule_rewrites R t h = steps (record { rule = t; listed = h; by = record { cofact
     once : (a : WordOrZero) → multiple [] a ≡ a
     once None = refl
     once (Some v) = refl
-
--- what is connected below l is connected below the multiples of l
-lift : (R : List RewriteRule) (pairs : List RulePair) (l m : Exponents) → Divides l m → {r s : RewriteRule} → AreConnected R pairs l r s → AreConnected R pairs m r s
-lift R pairs l m d (directly x) = directly x
-lift R pairs l m d (turned x) = turned (lift R pairs l m d x)
-lift R pairs l m d (through t ht dt x y) = through t ht (Divides-trans t.left l m dt d) (lift R pairs l m d x) (lift R pairs l m d y)
 
 abbrev Grows : List RewriteRule → List RewriteRule → Type 0
 Grows R S = (r : RewriteRule) → Contains R r → Contains S r
@@ -91,7 +85,7 @@ module _ (IsZero : Exponents → Type 0) (Z : List Exponents) (L : Letters) wher
 
   -- if the pairs in the list are above the degree c, the rules are complete to c
   pub ends : AreLetters L → (R : List RewriteRule) (listed : List RulePair) (c : ℕ) → IsCompletion IsZero Z L R listed →
-      ((r s : RewriteRule) → Contains listed (r, s) → c < (word_order_of L).degree (lcm r.left s.left)) → AreComplete Z L R c
+      AreAbove (word_order_of L) c listed → AreComplete Z L R c
   ends H R listed c h high = record {
     leads = λ i l e. h.leads i l;
     zeros = λ z k e. h.zeros z k;

@@ -1,23 +1,34 @@
 -- If each two rules are connected by joinable pairs, all critical pairs are joinable.
-use Rattle.std.proofs.Common.{◌≡◌, ℕ, ◌≤◌, ◌<◌, refl, sym, ◌∙◌, ap, subst, List, length, get_or, arith, inl, inr, ⊎_elim, Some, None, Contains}
+use Rattle.std.proofs.Common.{◌≡◌, ℕ, ◌≤◌, ◌<◌, refl, sym, ◌∙◌, ap, subst, List, length, get_or, arith, inr, ⊎_elim, Some, None, Contains}
 use Rattle.std.specs.Prelude.{AllPairs}
 use Rattle.std.specs.declared.cmp.Ordering.TheVariants.{Less}
 use Rattle.std.proofs.lemmas.List.{get_or_default}
-use Rattle.monomial_order.specs.Monomial.{Exponents, IsTrimmed, Divides, least_common_multiple as lcm}
+use Rattle.monomial_order.specs.Monomial.{Exponents, Divides, least_common_multiple as lcm}
 use Rattle.monomial_order.specs.MonomialOrder.{MonomialOrder, IsMonomialOrder}
 use Rattle.monomial_order.specs.laws.Monomial.{product_comm, IsTrimmed-least_common_multiple as IsTrimmed-lcm, IsMonomial-least_common_multiple as IsMonomial-lcm, least_common_multiple_comm as lcm_comm}
-use Rattle.monomial_order.specs.laws.Cofactors.{cofactor, Divides-refl, Divides-trans, least_common_multiple_least, Divides-least_common_multiple, Divides-least_common_multiple_right}
+use Rattle.monomial_order.specs.laws.Cofactors.{cofactor, Divides-trans, least_common_multiple_least, Divides-least_common_multiple, Divides-least_common_multiple_right}
 use Rattle.monomial_order.specs.laws.Comparing.{divisor_degree}
 use Rattle.monomial_order.specs.laws.Rank.{IsWithin, below_induction}
-use Rattle.word_rewriting.specs.Rewriting.{WordOrZero, RewriteRule, RewritesBy, RewritesOnce, Rewrites, steps, AreJoinable, IsInNormalForm, IsNormalForm, IsCriticalPair, HasJoinablePair, JoinsPair, JoinsPairs, multiple}
-use Rattle.word_rewriting.specs.Completion.{RulePair, IsJoinableOrListed, AreConnected, directly, turned, through, HasConnectedPair}
+use Rattle.word_rewriting.specs.Rewriting.{WordOrZero, RewriteRule, RewritesBy, RewritesOnce, Rewrites, steps, IsInNormalForm, IsNormalForm, JoinsPair, JoinsPairs, multiple}
+use Rattle.word_rewriting.specs.Completion.{RulePair, IsJoinableOrListed, AreConnected, directly, turned, through, HasConnectedPair, AreAbove}
 use Rattle.word_rewriting.specs.laws.Rewriting.{rewrites_trans, first_step, none_stays, normal_stays, left_divides}
-use Rattle.word_rewriting.specs.laws.Confluence.{IsBelow, IsDecreasingRule, IsWithinDegree, step_below, step_within, rewrites_within, below_within, normal, pair_steps}
+use Rattle.word_rewriting.specs.laws.Confluence.{IsBelow, IsDecreasingRule, step_below, step_within, rewrites_within, below_within, normal, pair_steps}
 use Rattle.word_rewriting.specs.laws.Pairs.{coprime_joinable, pair_itself, trichotomy}
 
--- the pairs in the list are above the degree c
-abbrev pub AreAbove : MonomialOrder → ℕ → List RulePair → Type 0
-AreAbove O c pairs = (r s : RewriteRule) → Contains pairs (r, s) → c < O.degree (lcm r.left s.left)
+-- what is connected below l is connected below the multiples of l
+pub lift : (R : List RewriteRule) (pairs : List RulePair) (l m : Exponents) → Divides l m → {r s : RewriteRule} → AreConnected R pairs l r s → AreConnected R pairs m r s
+lift R pairs l m d (directly x) = directly x
+lift R pairs l m d (turned x) = turned (lift R pairs l m d x)
+lift R pairs l m d (through t ht dt x y) = through t ht (Divides-trans t.left l m dt d) (lift R pairs l m d x) (lift R pairs l m d y)
+
+-- the chain criterion: a rule whose left side divides the least common multiple connects two others
+pub chain : (R : List RewriteRule) (pairs : List RulePair) (r t s : RewriteRule) → Contains R t → Divides t.left (lcm r.left s.left) →
+    HasConnectedPair R pairs r t → HasConnectedPair R pairs t s → HasConnectedPair R pairs r s
+chain R pairs r t s ht d h k =
+    let l = lcm r.left s.left in
+    through t ht d
+    (lift R pairs (lcm r.left t.left) l (least_common_multiple_least r.left t.left l (Divides-least_common_multiple r.left s.left) d) h)
+    (lift R pairs (lcm t.left s.left) l (least_common_multiple_least t.left s.left l d (Divides-least_common_multiple_right r.left s.left)) k)
 
 module _ (O : MonomialOrder) (LO : IsMonomialOrder O) (R : List RewriteRule) (decreasing : (r : RewriteRule) → Contains R r → IsDecreasingRule O r)
     (c : ℕ) (pairs : List RulePair) (above : AreAbove O c pairs) where
