@@ -14,9 +14,10 @@ RulePair = RewriteRule × RewriteRule
 abbrev pub IsJoinableOrListed : List RewriteRule → List RulePair → RewriteRule → RewriteRule → Type 0
 IsJoinableOrListed R pairs r s = AreCoprime r.left s.left ⊎ (Contains pairs (r, s) ⊎ HasJoinablePair R r s)
 
--- r and s, whose left sides divide l, are connected by rules whose left sides divide l: the pair of each two neighbours is
--- coprime, listed or joinable
-pub data AreConnected (R : List RewriteRule) (pairs : List RulePair) (l : Exponents) : RewriteRule → RewriteRule → Type 0 where
+-- r and s are connected by rules whose left sides divide l: the left sides of each two neighbours are coprime, or their
+-- pair is listed or joinable
+pub data AreConnected (R : List RewriteRule) (pairs : List RulePair) (l : Exponents) :
+    RewriteRule → RewriteRule → Type 0 where
   directly : {r s : RewriteRule} → IsJoinableOrListed R pairs r s → AreConnected R pairs l r s
   turned : {r s : RewriteRule} → AreConnected R pairs l s r → AreConnected R pairs l r s
   through : {r s : RewriteRule} (t : RewriteRule) → Contains R t → Divides t.left l →

@@ -2,7 +2,7 @@
 use Rattle.std.specs.Prelude.{◌≡◌, ◌≢◌, ◌⊎◌, ◌↔◌, ℕ, ◌+◌, ◌≤◌, ◌<◌, List, [], ◌∷◌, ◌++◌, length, get_or, Contains, AllPairs, Some, None}
 use Rattle.monomial_order.specs.Monomial.{Exponents, IsMonomial, IsMultiple, Divides, AreCoprime, least_common_multiple, weighted_degree}
 use Rattle.word_laws.specs.Words.{Letters, AreLetters, word_order_of, image_of, IsWord, IsSWord, IsSmaller, IsReducible, IsMinimalReducible, IsLeast}
-use Rattle.word_rewriting.specs.Rewriting.{WordOrZero, RewriteRule, Rewrites, AreJoinable, HasLeftDivisor, IsNormalForm, IsCriticalPair, JoinsPair, JoinsPairs}
+use Rattle.word_rewriting.specs.Rewriting.{WordOrZero, RewriteRule, Rewrites, AreJoinable, HasLeftDivisor, IsNormalForm, IsCriticalPair, HasJoinablePair, JoinsPair, JoinsPairs}
 use Rattle.word_rewriting.specs.Renumbering.{AreRenumbered, AreRenumberedRules, IsRenumbered}
 use Rattle.word_rewriting.specs.Completion.{RulePair, HasConnectedPair, AreAbove, IsCompletion, HasPairsWith, first_rules, Orients, lead_rule_of, zero_rule_of}
 use Rattle.word_rewriting.specs.Completeness.{lead_letter, with_leads, AreInX, AreRewriteRules, HasImage, IsLeastOrZero, IsRightSide, GeneratesReducible, IsMissedWord, AreComplete, HaveDegreesTo, IsMinimalLeftSide}
@@ -40,7 +40,7 @@ module _ (Z : List Exponents) (L : Letters) (R : List RewriteRule) where
   -- the critical pair of rules with coprime left sides is joinable
   abbrev pub CoprimePairsAreJoinable : Type 0
   CoprimePairsAreJoinable = (r s : RewriteRule) → Contains R r → Contains R s → AreCoprime r.left s.left →
-      (a b : WordOrZero) → IsCriticalPair r s a b → AreJoinable R a b
+      HasJoinablePair R r s
 
   -- it is enough to join the pairs of each rule with the later ones whose left sides are not coprime to its own
   abbrev pub LaterPairsAreEnough : Type 0
@@ -96,6 +96,12 @@ module _ (Z : List Exponents) (L : Letters) (R : List RewriteRule) where
   MinimalLeftSidesAreExact c = (u : Exponents) → IsWord L u → (word_order_of L).degree u ≤ c →
       IsMinimalReducible (IsMultiple Z) L u ↔ IsMinimalLeftSide R u
 
+  -- rules whose left sides divide those of R generate the reducible words to the degree c, as R does
+  abbrev pub DivisorsGenerate : ℕ → Type 0
+  DivisorsGenerate c = (S : List RewriteRule) →
+      ((r : RewriteRule) → Contains R r → (word_order_of L).degree r.left ≤ c → HasLeftDivisor S r.left) →
+      GeneratesReducible (IsMultiple Z) L S c
+
 -- the chain criterion: a rule whose left side divides the least common multiple connects two others
 abbrev pub ChainsConnect : List RewriteRule → List RulePair → Type 0
 ChainsConnect R listed = (r t s : RewriteRule) →
@@ -132,7 +138,8 @@ ForRenumberedLeads Law = (L : Letters) (d : ℕ) (before after : List Exponents)
 module _ (L : Letters) (d : ℕ) (before after : List Exponents) where
   -- to the degree d each word has one renumbered word, and this has the same image
   abbrev pub WordsAreRenumbered : Type 0
-  WordsAreRenumbered = (v : Exponents) → IsWord (with_leads L before) v → (word_order_of (with_leads L before)).degree v ≤ d →
+  WordsAreRenumbered = (v : Exponents) →
+      IsWord (with_leads L before) v → (word_order_of (with_leads L before)).degree v ≤ d →
       (w : Exponents) × IsRenumbered L before after v w × IsWord (with_leads L after) w ×
       (image_of (with_leads L after) w ≡ image_of (with_leads L before) v) ×
       ((u : Exponents) → IsRenumbered L before after v u → u ≡ w)
@@ -154,7 +161,8 @@ module _ (L : Letters) (d : ℕ) (before after : List Exponents) where
   RulesAreRenumbered = (Z : List Exponents) (R S : List RewriteRule) →
       AreRewriteRules (IsMultiple Z) (with_leads L before) R → AreRenumberedRules L before after R S →
       AreRewriteRules (IsMultiple Z) (with_leads L after) S ×
-      (GeneratesReducible (IsMultiple Z) (with_leads L before) R d → GeneratesReducible (IsMultiple Z) (with_leads L after) S d)
+      (GeneratesReducible (IsMultiple Z) (with_leads L before) R d →
+      GeneratesReducible (IsMultiple Z) (with_leads L after) S d)
 
 -- the state of a completion, with the multiples of Z as zero
 abbrev pub ForCompletions : (List Exponents → Letters → List RewriteRule → List RulePair → Type 0) → Type 0
@@ -189,10 +197,7 @@ module _ (Z : List Exponents) (L : Letters) (R : List RewriteRule) (listed : Lis
 
   -- if all pairs in the list are above the degree c, the rules are complete to c
   abbrev pub CompletionsEnd : Type 0
-  CompletionsEnd = (c : ℕ) →
-      ((r s : RewriteRule) → Contains listed (r, s) →
-      c < (word_order_of L).degree (least_common_multiple r.left s.left)) →
-      AreComplete Z L R c
+  CompletionsEnd = (c : ℕ) → AreAbove (word_order_of L) c listed → AreComplete Z L R c
 
   -- a lead m can be added at the end, with a rule that rewrites a word u, to which m rewrites, to its letter
   abbrev pub LeadsAreAdded : Type 0
@@ -201,12 +206,13 @@ module _ (Z : List Exponents) (L : Letters) (R : List RewriteRule) (listed : Lis
       HasPairsWith R (lead_rule_of L u) listed new →
       IsCompletion (IsMultiple Z) Z (with_leads L (m ∷ [])) (R ++ lead_rule_of L u ∷ []) new
 
-  -- a zero can be added if it rewrites to zero
+  -- zeros can be added if they rewrite to zero
   abbrev pub ZerosAreAdded : Type 0
-  ZerosAreAdded = (z : Exponents) → Rewrites R (Some z) None →
-      IsCompletion (IsMultiple (Z ++ z ∷ [])) (Z ++ z ∷ []) L R listed
+  ZerosAreAdded = (Y : List Exponents) →
+      ((z : Exponents) → Contains Z z → Contains Y z) → ((z : Exponents) → Contains Y z → Rewrites R (Some z) None) →
+      IsCompletion (IsMultiple Y) Y L R listed
 
-  -- or with a rule that rewrites a word, to which it rewrites, to zero
+  -- or one with a rule that rewrites a word u, to which it rewrites, to zero
   abbrev pub ZeroRulesAreAdded : Type 0
   ZeroRulesAreAdded = (new : List RulePair) (z u : Exponents) →
       IsMonomial (length L.degrees) z → Rewrites R (Some z) (Some u) → HasPairsWith R (zero_rule_of u) listed new →
@@ -217,8 +223,8 @@ abbrev pub OrientedRulesJoin : List RewriteRule → Type 0
 OrientedRulesJoin R = (t : RewriteRule) (a b u v : WordOrZero) →
     Orients t u v → Rewrites R a u → Rewrites R b v → AreJoinable (R ++ t ∷ []) a b
 
--- rules whose left sides generate the reducible words to c go on with their pairs above c, if leads and zeros have degrees
--- of at most c
+-- rules whose left sides generate the reducible words to c go on with their pairs above c, if leads and zeros have
+-- degrees of at most c
 abbrev pub CompletionsGoOn : List Exponents → Letters → List RewriteRule → ℕ → Type 0
 CompletionsGoOn Z L R c = AreInX L Z → (listed : List RulePair) →
     ((m : Exponents) → Contains L.leads m → weighted_degree L.degrees m ≤ c) →

@@ -252,16 +252,10 @@ module _ (IsZero : Exponents → Type 0) (L : Letters) (H : AreLetters L) (close
       side None z = more (image_of L r.left) z
       side (Some v) s = s
 
-  -- a zero that rewrites to zero is added
-  pub adds_zero : (Y : Exponents → Type 0) → ((m : Exponents) → IsZero m → Y m) → (R : List RewriteRule) (listed : List RulePair) (z : Exponents) →
-      IsCompletion IsZero Z L R listed → Rewrites R (Some z) None → IsCompletion Y (Z ++ z ∷ []) L R listed
-  adds_zero Y more R listed z h to = record {
-    rules = more_zeros Y more R h.rules;
-    leads = h.leads;
-    zeros = λ y k. ⊎_elim (h.zeros y) (λ b. ⊎_elim (λ e. subst (λ x. Rewrites R (Some x) None) e to) (λ n. absurd (contains_none y n)) (contains_cases z [] y b))
-        (Contains-append_cases Z (z ∷ []) y k);
-    pairs = h.pairs;
-  }
+  -- zeros that rewrite to zero are added
+  pub adds_zeros : (Y : Exponents → Type 0) → ((m : Exponents) → IsZero m → Y m) → (R : List RewriteRule) (listed : List RulePair) (zs : List Exponents) →
+      IsCompletion IsZero Z L R listed → ((z : Exponents) → Contains zs z → Rewrites R (Some z) None) → IsCompletion Y zs L R listed
+  adds_zeros Y more R listed zs h to = record { rules = more_zeros Y more R h.rules; leads = h.leads; zeros = to; pairs = h.pairs }
 
   -- a zero is added, with the rule of a word to which it rewrites
   pub adds_zero_rule : (Y : Exponents → Type 0) → ((m : Exponents) → IsZero m → Y m) → (R : List RewriteRule) (old new : List RulePair) (z u : Exponents) →
