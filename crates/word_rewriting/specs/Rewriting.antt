@@ -57,10 +57,13 @@ abbrev pub IsCriticalPair : RewriteRule → RewriteRule → WordOrZero → WordO
 IsCriticalPair r s a b =
     RewritesBy r (least_common_multiple r.left s.left) a × RewritesBy s (least_common_multiple r.left s.left) b
 
--- if the critical pair of r and s has a degree of at most c, it is joinable
+-- the critical pair of r and s is joinable
+abbrev pub HasJoinablePair : List RewriteRule → RewriteRule → RewriteRule → Type 0
+HasJoinablePair R r s = (a b : WordOrZero) → IsCriticalPair r s a b → AreJoinable R a b
+
+-- it is joinable if its degree is at most c
 abbrev pub JoinsPair : MonomialOrder → List RewriteRule → ℕ → RewriteRule → RewriteRule → Type 0
-JoinsPair O R c r s = O.degree (least_common_multiple r.left s.left) ≤ c →
-    (a b : WordOrZero) → IsCriticalPair r s a b → AreJoinable R a b
+JoinsPair O R c r s = O.degree (least_common_multiple r.left s.left) ≤ c → HasJoinablePair R r s
 
 -- the critical pairs of degree at most c are joinable
 abbrev pub JoinsPairs : MonomialOrder → List RewriteRule → ℕ → Type 0

@@ -1,10 +1,11 @@
 -- The laws. The contracts say of which letters, zeros and rules each of them holds.
-use Rattle.std.specs.Prelude.{◌≡◌, ◌≢◌, ◌↔◌, ℕ, ◌+◌, ◌≤◌, ◌<◌, List, [], length, get_or, Contains, AllPairs, Some}
+use Rattle.std.specs.Prelude.{◌≡◌, ◌≢◌, ◌⊎◌, ◌↔◌, ℕ, ◌+◌, ◌≤◌, ◌<◌, List, [], ◌∷◌, ◌++◌, length, get_or, Contains, AllPairs, Some, None}
 use Rattle.monomial_order.specs.Monomial.{Exponents, IsMonomial, IsMultiple, Divides, AreCoprime, least_common_multiple, weighted_degree}
 use Rattle.word_laws.specs.Words.{Letters, AreLetters, word_order_of, image_of, IsWord, IsSWord, IsSmaller, IsReducible, IsMinimalReducible, IsLeast}
-use Rattle.word_rewriting.specs.Rewriting.{WordOrZero, RewriteRule, AreJoinable, HasLeftDivisor, IsNormalForm, IsCriticalPair, JoinsPair, JoinsPairs}
+use Rattle.word_rewriting.specs.Rewriting.{WordOrZero, RewriteRule, Rewrites, AreJoinable, HasLeftDivisor, IsNormalForm, IsCriticalPair, HasJoinablePair, JoinsPair, JoinsPairs}
 use Rattle.word_rewriting.specs.Renumbering.{AreRenumbered, AreRenumberedRules, IsRenumbered}
-use Rattle.word_rewriting.specs.Completeness.{lead_letter, with_leads, AreInX, AreRewriteRules, HasImage, IsLeastOrZero, GeneratesReducible, IsMissedWord, AreComplete, HaveDegreesTo, IsMinimalLeftSide}
+use Rattle.word_rewriting.specs.Completion.{RulePair, HasConnectedPair, AreAbove, IsCompletion, HasPairsWith, first_rules, Orients, lead_rule_of, zero_rule_of}
+use Rattle.word_rewriting.specs.Completeness.{lead_letter, with_leads, AreInX, AreRewriteRules, HasImage, IsLeastOrZero, IsRightSide, GeneratesReducible, IsMissedWord, AreComplete, HaveDegreesTo, IsMinimalLeftSide}
 
 -- What a law holds of: rules R over letters L, with the multiples of Z as zero.
 abbrev pub ForRules : (List Exponents → Letters → List RewriteRule → Type 0) → Type 0
@@ -39,13 +40,18 @@ module _ (Z : List Exponents) (L : Letters) (R : List RewriteRule) where
   -- the critical pair of rules with coprime left sides is joinable
   abbrev pub CoprimePairsAreJoinable : Type 0
   CoprimePairsAreJoinable = (r s : RewriteRule) → Contains R r → Contains R s → AreCoprime r.left s.left →
-      (a b : WordOrZero) → IsCriticalPair r s a b → AreJoinable R a b
+      HasJoinablePair R r s
 
   -- it is enough to join the pairs of each rule with the later ones whose left sides are not coprime to its own
   abbrev pub LaterPairsAreEnough : Type 0
   LaterPairsAreEnough = (c : ℕ) →
       AllPairs (λ r s. ¬ AreCoprime r.left s.left → JoinsPair (word_order_of L) R c r s) R →
       JoinsPairs (word_order_of L) R c
+
+  -- it is also enough that each two rules are connected, if the listed pairs are above the degree
+  abbrev pub ConnectedPairsAreEnough : Type 0
+  ConnectedPairsAreEnough = (c : ℕ) (listed : List RulePair) → AreAbove (word_order_of L) c listed →
+      AllPairs (HasConnectedPair R listed) R → JoinsPairs (word_order_of L) R c
 
   -- both members of a critical pair have the image of the least common multiple
   abbrev pub PairsHaveOneImage : Type 0
@@ -90,6 +96,18 @@ module _ (Z : List Exponents) (L : Letters) (R : List RewriteRule) where
   MinimalLeftSidesAreExact c = (u : Exponents) → IsWord L u → (word_order_of L).degree u ≤ c →
       IsMinimalReducible (IsMultiple Z) L u ↔ IsMinimalLeftSide R u
 
+  -- rules whose left sides divide those of R generate the reducible words to the degree c, as R does
+  abbrev pub DivisorsGenerate : ℕ → Type 0
+  DivisorsGenerate c = (S : List RewriteRule) →
+      ((r : RewriteRule) → Contains R r → (word_order_of L).degree r.left ≤ c → HasLeftDivisor S r.left) →
+      GeneratesReducible (IsMultiple Z) L S c
+
+-- the chain criterion: a rule whose left side divides the least common multiple connects two others
+abbrev pub ChainsConnect : List RewriteRule → List RulePair → Type 0
+ChainsConnect R listed = (r t s : RewriteRule) →
+    Contains R t → Divides t.left (least_common_multiple r.left s.left) →
+    HasConnectedPair R listed r t → HasConnectedPair R listed t s → HasConnectedPair R listed r s
+
 -- to each degree there are rules whose left sides generate the reducible words
 abbrev pub RulesExist : List Exponents → Letters → Type 0
 RulesExist Z L = (c : ℕ) →
@@ -120,7 +138,8 @@ ForRenumberedLeads Law = (L : Letters) (d : ℕ) (before after : List Exponents)
 module _ (L : Letters) (d : ℕ) (before after : List Exponents) where
   -- to the degree d each word has one renumbered word, and this has the same image
   abbrev pub WordsAreRenumbered : Type 0
-  WordsAreRenumbered = (v : Exponents) → IsWord (with_leads L before) v → (word_order_of (with_leads L before)).degree v ≤ d →
+  WordsAreRenumbered = (v : Exponents) →
+      IsWord (with_leads L before) v → (word_order_of (with_leads L before)).degree v ≤ d →
       (w : Exponents) × IsRenumbered L before after v w × IsWord (with_leads L after) w ×
       (image_of (with_leads L after) w ≡ image_of (with_leads L before) v) ×
       ((u : Exponents) → IsRenumbered L before after v u → u ≡ w)
@@ -142,4 +161,74 @@ module _ (L : Letters) (d : ℕ) (before after : List Exponents) where
   RulesAreRenumbered = (Z : List Exponents) (R S : List RewriteRule) →
       AreRewriteRules (IsMultiple Z) (with_leads L before) R → AreRenumberedRules L before after R S →
       AreRewriteRules (IsMultiple Z) (with_leads L after) S ×
-      (GeneratesReducible (IsMultiple Z) (with_leads L before) R d → GeneratesReducible (IsMultiple Z) (with_leads L after) S d)
+      (GeneratesReducible (IsMultiple Z) (with_leads L before) R d →
+      GeneratesReducible (IsMultiple Z) (with_leads L after) S d)
+
+-- the state of a completion, with the multiples of Z as zero
+abbrev pub ForCompletions : (List Exponents → Letters → List RewriteRule → List RulePair → Type 0) → Type 0
+ForCompletions Law = (Z : List Exponents) (L : Letters) (R : List RewriteRule) (listed : List RulePair) →
+    AreLetters L → IsCompletion (IsMultiple Z) Z L R listed → Law Z L R listed
+
+module _ (Z : List Exponents) (L : Letters) where
+  -- a completion begins with the rules of leads and zeros, and with their pairs
+  abbrev pub CompletionsBegin : Type 0
+  CompletionsBegin = AreInX L Z → (listed : List RulePair) →
+      AllPairs (HasConnectedPair (first_rules Z L) listed) (first_rules Z L) →
+      IsCompletion (IsMultiple Z) Z L (first_rules Z L) listed
+
+  -- two normal forms of one image that differ are the sides of a rule
+  abbrev pub DifferencesMakeRules : Type 0
+  DifferencesMakeRules = (m : Exponents) (u v : WordOrZero) →
+      HasImage (IsMultiple Z) L m u → HasImage (IsMultiple Z) L m v → u ≢ v →
+      (t : RewriteRule) × Orients t u v × (IsWord L t.left × IsRightSide (IsMultiple Z) L t.left t.right)
+
+module _ (Z : List Exponents) (L : Letters) (R : List RewriteRule) (listed : List RulePair) where
+  -- a rule can be added, with its pairs
+  abbrev pub RulesAreAdded : Type 0
+  RulesAreAdded = (t : RewriteRule) (new : List RulePair) →
+      IsWord L t.left × IsRightSide (IsMultiple Z) L t.left t.right → HasPairsWith R t listed new →
+      IsCompletion (IsMultiple Z) Z L (R ++ t ∷ []) new
+
+  -- pairs whose rules are connected without them, as joinable ones, can be left out of the list
+  abbrev pub ConnectedPairsAreLeftOut : Type 0
+  ConnectedPairsAreLeftOut = (new : List RulePair) →
+      ((r s : RewriteRule) → Contains listed (r, s) → HasConnectedPair R new r s) →
+      IsCompletion (IsMultiple Z) Z L R new
+
+  -- if all pairs in the list are above the degree c, the rules are complete to c
+  abbrev pub CompletionsEnd : Type 0
+  CompletionsEnd = (c : ℕ) → AreAbove (word_order_of L) c listed → AreComplete Z L R c
+
+  -- a lead m can be added at the end, with a rule that rewrites a word u, to which m rewrites, to its letter
+  abbrev pub LeadsAreAdded : Type 0
+  LeadsAreAdded = (new : List RulePair) (m u : Exponents) →
+      IsMonomial (length L.degrees) m → m ≢ [] → Rewrites R (Some m) (Some u) →
+      HasPairsWith R (lead_rule_of L u) listed new →
+      IsCompletion (IsMultiple Z) Z (with_leads L (m ∷ [])) (R ++ lead_rule_of L u ∷ []) new
+
+  -- zeros can be added if they rewrite to zero
+  abbrev pub ZerosAreAdded : Type 0
+  ZerosAreAdded = (Y : List Exponents) →
+      ((z : Exponents) → Contains Z z → Contains Y z) → ((z : Exponents) → Contains Y z → Rewrites R (Some z) None) →
+      IsCompletion (IsMultiple Y) Y L R listed
+
+  -- or one with a rule that rewrites a word u, to which it rewrites, to zero
+  abbrev pub ZeroRulesAreAdded : Type 0
+  ZeroRulesAreAdded = (new : List RulePair) (z u : Exponents) →
+      IsMonomial (length L.degrees) z → Rewrites R (Some z) (Some u) → HasPairsWith R (zero_rule_of u) listed new →
+      IsCompletion (IsMultiple (Z ++ z ∷ [])) (Z ++ z ∷ []) L (R ++ zero_rule_of u ∷ []) new
+
+-- what rewrites to u and what rewrites to v is joined by a rule of u and v
+abbrev pub OrientedRulesJoin : List RewriteRule → Type 0
+OrientedRulesJoin R = (t : RewriteRule) (a b u v : WordOrZero) →
+    Orients t u v → Rewrites R a u → Rewrites R b v → AreJoinable (R ++ t ∷ []) a b
+
+-- rules whose left sides generate the reducible words to c go on with their pairs above c, if leads and zeros have
+-- degrees of at most c
+abbrev pub CompletionsGoOn : List Exponents → Letters → List RewriteRule → ℕ → Type 0
+CompletionsGoOn Z L R c = AreInX L Z → (listed : List RulePair) →
+    ((m : Exponents) → Contains L.leads m → weighted_degree L.degrees m ≤ c) →
+    ((z : Exponents) → Contains Z z → weighted_degree L.degrees z ≤ c) →
+    AllPairs (λ r s. c < (word_order_of L).degree (least_common_multiple r.left s.left) →
+    AreCoprime r.left s.left ⊎ Contains listed (r, s)) R →
+    IsCompletion (IsMultiple Z) Z L R listed

@@ -9,4 +9,5 @@ pub mod Complete
 pub mod Existence
 pub mod MoreLeads
 pub mod Renumbering
+pub mod Connected
 pub mod Completion

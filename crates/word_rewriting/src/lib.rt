@@ -9,41 +9,38 @@ ghost use Rattle.monomial_order.specs.Monomial.{Exponents, IsMonomial, IsMultipl
 ghost use Rattle.word_laws.specs.Words.{AreLetters, Letters};
 ghost use Rattle.word_rewriting.specs.Rewriting.{RewriteRule};
 ghost use Rattle.word_rewriting.specs.Completeness.{AreRewriteRules};
-ghost use Rattle.word_rewriting.specs.Statements.{CompleteIfClosed, CompletenessIsExact, CoprimePairsAreJoinable, DifferencesShowMissedWords, ForGeneratingRules, ForRenumberedLeads, ForRules, JoinableStays, LaterPairsAreEnough, LeastWordsAreRenumbered, MinimalLeftSidesAreExact, NewLettersAreSmaller, NormalFormsAreFactors, NormalFormsAreLeast, NormalFormsExist, PairsHaveOneImage, PairsShowMissedWords, ReducibleWordsAreRenumbered, RulesAreRenumbered, RulesExist, RulesStay, TwiceTheDegreeIsEnough, WordsAreRenumbered};
+ghost use Rattle.word_rewriting.specs.Completion.{RulePair};
+ghost use Rattle.word_rewriting.specs.Statements.{ChainsConnect, CompleteIfClosed, CompletenessIsExact, CompletionsBegin, CompletionsEnd, CompletionsGoOn, ConnectedPairsAreEnough, ConnectedPairsAreLeftOut, CoprimePairsAreJoinable, DifferencesMakeRules, DifferencesShowMissedWords, DivisorsGenerate, ForCompletions, ForGeneratingRules, ForRenumberedLeads, ForRules, JoinableStays, LaterPairsAreEnough, LeadsAreAdded, LeastWordsAreRenumbered, MinimalLeftSidesAreExact, NewLettersAreSmaller, NormalFormsAreFactors, NormalFormsAreLeast, NormalFormsExist, OrientedRulesJoin, PairsHaveOneImage, PairsShowMissedWords, ReducibleWordsAreRenumbered, RulesAreAdded, RulesAreRenumbered, RulesExist, RulesStay, TwiceTheDegreeIsEnough, WordsAreRenumbered, ZeroRulesAreAdded, ZerosAreAdded};
 
-/// Rules are complete exactly if their left sides generate the reducible words.
+/// Rules are complete exactly if their left sides generate the reducible words. There are such rules to each degree.
 pub fn criterion()
     ensures exact { ForRules CompletenessIsExact }
     ensures twice { ForRules TwiceTheDegreeIsEnough }
     ensures closed { ForRules CompleteIfClosed }
+    ensures exist { (Z : List Exponents) (L : Letters) → AreLetters L → RulesExist Z L }
+    ensures minimal { ForGeneratingRules MinimalLeftSidesAreExact }
+    ensures divisors { ForGeneratingRules DivisorsGenerate }
 {}
 
-/// Which critical pairs need no look, and what they have in common.
+/// Which critical pairs are enough, what members of a pair have in common, and what a pair shows that is not joinable.
 pub fn critical_pairs()
     ensures coprime { (Z : List Exponents) (L : Letters) (R : List RewriteRule) →
         AreRewriteRules (IsMultiple Z) L R → CoprimePairsAreJoinable Z L R }
     ensures later { (Z : List Exponents) (L : Letters) (R : List RewriteRule) →
         AreRewriteRules (IsMultiple Z) L R → LaterPairsAreEnough Z L R }
+    ensures connected { ForRules ConnectedPairsAreEnough }
+    ensures chain { (R : List RewriteRule) (listed : List RulePair) → ChainsConnect R listed }
     ensures image { ForRules PairsHaveOneImage }
+    ensures missed { ForRules PairsShowMissedWords }
 {}
 
-/// If two results for one image differ, the left sides do not generate the reducible words of its degree.
-pub fn missed_words()
-    ensures differences { ForRules DifferencesShowMissedWords }
-    ensures pairs { ForRules PairsShowMissedWords }
-{}
-
-/// Normal forms exist. If the left sides generate the reducible words, they are the least words.
+/// Normal forms exist. If the left sides generate the reducible words, they are the least words; two normal forms of
+/// one image that differ show that they do not.
 pub fn normal_forms()
     ensures exist { ForRules NormalFormsExist }
     ensures least { ForGeneratingRules NormalFormsAreLeast }
     ensures factors { ForGeneratingRules NormalFormsAreFactors }
-{}
-
-/// Rules whose left sides generate the reducible words.
-pub fn generating_rules()
-    ensures exist { (Z : List Exponents) (L : Letters) → AreLetters L → RulesExist Z L }
-    ensures minimal { ForGeneratingRules MinimalLeftSidesAreExact }
+    ensures missed { ForRules DifferencesShowMissedWords }
 {}
 
 /// What stays with more rules, more zeros and further leads at the end.
@@ -61,4 +58,23 @@ pub fn renumbering()
     ensures reducible { ForRenumberedLeads ReducibleWordsAreRenumbered }
     ensures least { ForRenumberedLeads LeastWordsAreRenumbered }
     ensures rules { ForRenumberedLeads RulesAreRenumbered }
+{}
+
+/// A completion, from the rules of leads and zeros on. Each step keeps `IsCompletion`, and at the end the rules are
+/// complete. Two different normal forms of one image make a rule, and it joins what rewrites to them.
+pub fn completion()
+    ensures begin { (Z : List Exponents) (L : Letters) → AreLetters L → CompletionsBegin Z L }
+    ensures orient { (Z : List Exponents) (L : Letters) → AreLetters L → DifferencesMakeRules Z L }
+    ensures join { (R : List RewriteRule) → OrientedRulesJoin R }
+    ensures add { ForCompletions RulesAreAdded }
+    ensures leave_out { ForCompletions ConnectedPairsAreLeftOut }
+    ensures end { ForCompletions CompletionsEnd }
+{}
+
+/// A completion goes on with new leads, new zeros, or other rules whose left sides generate the reducible words.
+pub fn resuming()
+    ensures leads { ForCompletions LeadsAreAdded }
+    ensures zeros { ForCompletions ZerosAreAdded }
+    ensures zero_rules { ForCompletions ZeroRulesAreAdded }
+    ensures rules { ForGeneratingRules CompletionsGoOn }
 {}

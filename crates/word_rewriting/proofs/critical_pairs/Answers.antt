@@ -3,8 +3,10 @@ use Rattle.monomial_order.specs.Monomial.{IsMultiple}
 use Rattle.word_laws.specs.Words.{word_order_of}
 use Rattle.word_laws.specs.laws.Reducible.{multiple_closed}
 use Rattle.word_rewriting.specs.laws.Criterion.{decreasing_rules}
+use Rattle.word_laws.specs.laws.Words.{word_laws}
+use Rattle.word_rewriting.specs.laws.Connected.{chain, later_connected}
 use Rattle.word_rewriting.specs.laws.Pairs.{coprime_joinable, pairs_enough}
-use Rattle.word_rewriting.specs.laws.NormalForms.{pair_images}
+use Rattle.word_rewriting.specs.laws.NormalForms.{pair_images, pair_shows}
 use Rattle.word_rewriting.proofs.critical_pairs.Goals as goal
 
 pub returns-clause-coprime : goal.returns-clause-coprime
@@ -15,3 +17,13 @@ returns-clause-later g Z L R rules = pairs_enough (word_order_of L) R (decreasin
 
 pub returns-clause-image : goal.returns-clause-image
 returns-clause-image g Z L R H rules = pair_images (IsMultiple Z) L H R rules (multiple_closed (length L.degrees) Z)
+
+pub returns-clause-missed : goal.returns-clause-missed
+returns-clause-missed g Z L R H rules = pair_shows (IsMultiple Z) L H R rules (multiple_closed (length L.degrees) Z)
+
+pub returns-clause-connected : goal.returns-clause-connected
+returns-clause-connected g Z L R H rules c listed =
+    later_connected (word_order_of L) (word_laws L H) R (decreasing_rules (IsMultiple Z) L R rules) c listed
+
+pub returns-clause-chain : goal.returns-clause-chain
+returns-clause-chain g R listed = chain R listed

@@ -31,6 +31,15 @@ module _ (IsZero : Exponents → Type 0) (L : Letters) (H : AreLetters L) (R : L
   complete_generates c zs k w hw d red =
       reducible_divided IsZero L H R rules c k.pairs k.leads Z zs.in_x zs.generate k.zeros w (record { monomial = hw; degree = d }) red
 
+  -- rules whose left sides divide those of R generate as much
+  pub divisors_generate : (c : ℕ) → GeneratesReducible IsZero L R c → (S : List RewriteRule) →
+      ((r : RewriteRule) → Contains R r → (word_order_of L).degree r.left ≤ c → HasLeftDivisor S r.left) → GeneratesReducible IsZero L S c
+  divisors_generate c generates S divide w hw d red =
+      let r = generates w hw d red in
+      let e = divisor_degree (word_order_of L) (word_laws L H) r.0.left w (rules r.0 r.1).0.trimmed hw.trimmed r.2 in
+      let s = divide r.0 r.1 (omega arith) in
+      (s.0, s.1, Divides-trans s.0.left r.0.left w s.2 r.2)
+
   module _ (closed : IsZeroClosed (length L.degrees) IsZero) where
     -- rules whose left sides generate the reducible words are complete
     pub generates_complete : (c : ℕ) → AreZeros IsZero L Z c → GeneratesReducible IsZero L R c → AreComplete Z L R c

@@ -1,21 +1,22 @@
 -- How a completion begins, goes on and ends.
 use Rattle.std.proofs.Common.{◌≡◌, ◌≢◌, ℕ, zero, suc, ◌+◌, ◌≤◌, ◌<◌, refl, sym, ◌∙◌, ap, subst, List, [], ◌∷◌, ◌++◌, length, get_or, length-append, arith, ◌⊎◌, inl, inr, ⊎_elim, Some, None, Contains}
-use Rattle.std.specs.Prelude.{map, AllPairs}
+use Rattle.std.specs.Prelude.{AllPairs}
 use Rattle.std.proofs.lemmas.List.{get_or_append_left, get_or-append-add}
 use Rattle.std.proofs.lemmas.List.Elements.{Contains-append_cases}
 use Rattle.std.proofs.lemmas.List.Quantifiers.{all_pairs_push}
-use Rattle.monomial_order.specs.Monomial.{Exponents, IsMonomial, AreCoprime, variable, weighted_degree, least_common_multiple as lcm}
+use Rattle.monomial_order.specs.Monomial.{Exponents, IsMonomial, Divides, AreCoprime, variable, weighted_degree, least_common_multiple as lcm}
+use Rattle.monomial_order.specs.laws.Cofactors.{least_common_multiple_least, Divides-least_common_multiple, Divides-least_common_multiple_right}
 use Rattle.monomial_order.specs.laws.Comparing.{le_or_not, three_ways}
 use Rattle.monomial_order.specs.laws.Lists.{contains_at, contains_cases, contains_here, contains_there, contains_none, contains_left, contains_right, contains_map}
 use Rattle.word_laws.specs.Words.{Letters, AreLetters, word_order_of, image_of, IsWord, IsSmaller, IsZeroClosed}
 use Rattle.word_laws.specs.laws.Words.{word_laws, x_word, image_same}
-use Rattle.word_rewriting.specs.Rewriting.{WordOrZero, RewriteRule, Rewrites, stays, steps, AreJoinable, IsCriticalPair, multiple}
+use Rattle.word_rewriting.specs.Rewriting.{WordOrZero, RewriteRule, Rewrites, stays, steps, AreJoinable, multiple}
 use Rattle.word_rewriting.specs.Completeness.{lead_letter, with_leads, AreInX, IsRightSide, AreRewriteRules, HasImage, GeneratesReducible, AreComplete}
-use Rattle.word_rewriting.specs.Completion.{RulePair, HasJoinablePair, IsJoinableOrListed, IsCompletion, lead_rules, zero_rules, first_rules, Orients, lead_rule_of, zero_rule_of}
+use Rattle.word_rewriting.specs.Completion.{RulePair, AreConnected, directly, turned, through, HasConnectedPair, AreAbove, IsCompletion, HasPairsWith, lead_rules, zero_rules, first_rules, Orients, lead_rule_of, zero_rule_of}
 use Rattle.word_rewriting.specs.laws.Rewriting.{rewrites_trans, more_rewrites, more_joinable}
 use Rattle.word_rewriting.specs.laws.Criterion.{decreasing_rules}
 use Rattle.word_rewriting.specs.laws.NormalForms.{rewrites_image}
-use Rattle.word_rewriting.specs.laws.Pairs.{pairs_enough}
+use Rattle.word_rewriting.specs.laws.Connected.{later_connected, lift}
 use Rattle.word_rewriting.specs.laws.Complete.{AreZeros, generates_complete}
 use Rattle.word_rewriting.specs.laws.MoreLeads.{word_stays, rules_stay, new_letter_smaller}
 
@@ -30,21 +31,28 @@ rule_rewrites R t h = steps (record { rule = t; listed = h; by = record { cofact
 abbrev Grows : List RewriteRule → List RewriteRule → Type 0
 Grows R S = (r : RewriteRule) → Contains R r → Contains S r
 
-more_pair : (R S : List RewriteRule) → Grows R S → (r s : RewriteRule) → HasJoinablePair R r s → HasJoinablePair S r s
-more_pair R S h r s k a b p = more_joinable R S h a b (k a b p)
+-- with more rules, and another list that has the listed pairs connected, what is connected stays so
+connected_stays : (R S : List RewriteRule) (old new : List RulePair) → Grows R S →
+    ((r s : RewriteRule) → Contains old (r, s) → HasConnectedPair S new r s) → (l : Exponents) {r s : RewriteRule} → Divides r.left l → Divides s.left l →
+    AreConnected R old l r s → AreConnected S new l r s
+connected_stays R S old new h k l dr ds (directly {r = r} {s = s} x) =
+    ⊎_elim (λ co. directly (inl co))
+    (λ y. ⊎_elim (λ z. lift S new (lcm r.left s.left) l (least_common_multiple_least r.left s.left l dr ds) (k r s z)) (λ z. directly (inr (inr (λ a b p. more_joinable R S h a b (z a b p))))) y) x
+connected_stays R S old new h k l dr ds (turned x) = turned (connected_stays R S old new h k l ds dr x)
+connected_stays R S old new h k l dr ds (through t ht dt x y) = through t (h t ht) dt (connected_stays R S old new h k l dr dt x) (connected_stays R S old new h k l dt ds y)
 
-more_listed : (R S : List RewriteRule) (old new : List RulePair) → Grows R S → ((p : RulePair) → Contains old p → Contains new p) →
-    (r s : RewriteRule) → IsJoinableOrListed R old r s → IsJoinableOrListed S new r s
-more_listed R S old new h k r s j = ⊎_elim inl (λ x. ⊎_elim (λ l. inr (inl (k (r, s) l))) (λ y. inr (inr (more_pair R S h r s y))) x) j
+more_connected : (R S : List RewriteRule) (old new : List RulePair) → Grows R S → ((p : RulePair) → Contains old p → Contains new p) →
+    (r s : RewriteRule) → HasConnectedPair R old r s → HasConnectedPair S new r s
+more_connected R S old new h k r s x =
+    connected_stays R S old new h (λ r s z. directly (inr (inl (k (r, s) z)))) (lcm r.left s.left) (Divides-least_common_multiple r.left s.left) (Divides-least_common_multiple_right r.left s.left) x
 
 -- the pairs of the rules with one more
-pub pairs_push : (R : List RewriteRule) (t : RewriteRule) (old new : List RulePair) → ((p : RulePair) → Contains old p → Contains new p) →
-    ((r : RewriteRule) → Contains R r → IsJoinableOrListed (R ++ t ∷ []) new r t) →
-    AllPairs (IsJoinableOrListed R old) R → AllPairs (IsJoinableOrListed (R ++ t ∷ []) new) (R ++ t ∷ [])
-pairs_push R t old new h k all =
-    all_pairs_push (IsJoinableOrListed (R ++ t ∷ []) new) R t
-    (λ i j d l n. more_listed R (R ++ t ∷ []) old new (contains_left R (t ∷ [])) h (get_or R i d) (get_or R j d) (all i j d l n))
-    (λ i d l. k (get_or R i d) (contains_at R i d l))
+pub pairs_push : (R : List RewriteRule) (t : RewriteRule) (old new : List RulePair) → HasPairsWith R t old new →
+    AllPairs (HasConnectedPair R old) R → AllPairs (HasConnectedPair (R ++ t ∷ []) new) (R ++ t ∷ [])
+pairs_push R t old new h all =
+    all_pairs_push (HasConnectedPair (R ++ t ∷ []) new) R t
+    (λ i j d l n. more_connected R (R ++ t ∷ []) old new (contains_left R (t ∷ [])) h.keeps (get_or R i d) (get_or R j d) (all i j d l n))
+    (λ i d l. h.each (get_or R i d) (contains_at R i d l))
 
 rules_push : (IsZero : Exponents → Type 0) (L : Letters) (R : List RewriteRule) (t : RewriteRule) → AreRewriteRules IsZero L R → IsWord L t.left × IsRightSide IsZero L t.left t.right → AreRewriteRules IsZero L (R ++ t ∷ [])
 rules_push IsZero L R t rules h r k =
@@ -54,34 +62,34 @@ rules_push IsZero L R t rules h r k =
 module _ (IsZero : Exponents → Type 0) (Z : List Exponents) (L : Letters) where
   -- a rule is added
   pub adds : (R : List RewriteRule) (t : RewriteRule) (old new : List RulePair) → IsCompletion IsZero Z L R old →
-      IsWord L t.left × IsRightSide IsZero L t.left t.right → ((p : RulePair) → Contains old p → Contains new p) →
-      ((r : RewriteRule) → Contains R r → IsJoinableOrListed (R ++ t ∷ []) new r t) → IsCompletion IsZero Z L (R ++ t ∷ []) new
-  adds R t old new h rule more pairs = record {
+      IsWord L t.left × IsRightSide IsZero L t.left t.right → HasPairsWith R t old new → IsCompletion IsZero Z L (R ++ t ∷ []) new
+  adds R t old new h rule more = record {
     rules = rules_push IsZero L R t h.rules rule;
     leads = λ i l. more_joinable R (R ++ t ∷ []) (contains_left R (t ∷ [])) (Some (get_or L.leads i [])) (Some (lead_letter L i)) (h.leads i l);
     zeros = λ z k. more_rewrites R (R ++ t ∷ []) (contains_left R (t ∷ [])) (h.zeros z k);
-    pairs = pairs_push R t old new more pairs h.pairs;
+    pairs = pairs_push R t old new more h.pairs;
   }
 
-  -- pairs are joined
+  -- listed pairs are left out if their rules are connected without them
   pub joins : (R : List RewriteRule) (old new : List RulePair) → IsCompletion IsZero Z L R old →
-      ((r s : RewriteRule) → Contains old (r, s) → IsJoinableOrListed R new r s) → IsCompletion IsZero Z L R new
+      ((r s : RewriteRule) → Contains old (r, s) → HasConnectedPair R new r s) → IsCompletion IsZero Z L R new
   joins R old new h k = record {
     rules = h.rules;
     leads = h.leads;
     zeros = h.zeros;
-    pairs = λ i j d l n. ⊎_elim inl (λ x. ⊎_elim (k (get_or R i d) (get_or R j d)) (λ y. inr (inr y)) x) (h.pairs i j d l n);
+    pairs = λ i j d l n.
+        let r = get_or R i d in
+        let s = get_or R j d in
+        connected_stays R R old new (λ x y. y) k (lcm r.left s.left) (Divides-least_common_multiple r.left s.left) (Divides-least_common_multiple_right r.left s.left) (h.pairs i j d l n);
   }
 
   -- if the pairs in the list are above the degree c, the rules are complete to c
-  pub ends : (R : List RewriteRule) (listed : List RulePair) (c : ℕ) → IsCompletion IsZero Z L R listed →
-      ((r s : RewriteRule) → Contains listed (r, s) → c < (word_order_of L).degree (lcm r.left s.left)) → AreComplete Z L R c
-  ends R listed c h high = record {
+  pub ends : AreLetters L → (R : List RewriteRule) (listed : List RulePair) (c : ℕ) → IsCompletion IsZero Z L R listed →
+      AreAbove (word_order_of L) c listed → AreComplete Z L R c
+  ends H R listed c h high = record {
     leads = λ i l e. h.leads i l;
     zeros = λ z k e. h.zeros z k;
-    pairs = pairs_enough (word_order_of L) R (decreasing_rules IsZero L R h.rules) c
-        (λ i j d l n co low a b p. ⊎_elim (λ x. absurd (co x))
-        (λ x. ⊎_elim (λ y. absurd (let z = high (get_or R i d) (get_or R j d) y in omega arith)) (λ y. y a b p) x) (h.pairs i j d l n));
+    pairs = later_connected (word_order_of L) (word_laws L H) R (decreasing_rules IsZero L R h.rules) c listed high h.pairs;
   }
 
   -- rules whose left sides generate the reducible words to c go on with the pairs above c
@@ -96,8 +104,8 @@ module _ (IsZero : Exponents → Type 0) (Z : List Exponents) (L : Letters) wher
         leads = λ i l. k.leads i l (low_leads (get_or L.leads i []) (contains_at L.leads i [] l));
         zeros = λ z n. k.zeros z n (low_zeros z n);
         pairs = λ i j d l n. ⊎_elim
-            (λ low. inr (inr (k.pairs (get_or R i d) (get_or R j d) (contains_at R i d (omega arith)) (contains_at R j d n) low)))
-            (λ high. ⊎_elim inl (λ y. inr (inl y)) (above i j d l n (omega (arith, high))))
+            (λ low. directly (inr (inr (k.pairs (get_or R i d) (get_or R j d) (contains_at R i d (omega arith)) (contains_at R j d n) low))))
+            (λ high. directly (⊎_elim inl (λ y. inr (inl y)) (above i j d l n (omega (arith, high)))))
             (le_or_not ((word_order_of L).degree (lcm (get_or R i d).left (get_or R j d).left)) c);
       }
 
@@ -178,7 +186,7 @@ module _ (L : Letters) (H : AreLetters L) where
         (Contains-append_cases (lead_rules (length L.degrees) L.leads) (zero_rules Z) r k)
 
     -- a completion begins with the rules of leads and zeros
-    pub begins : (listed : List RulePair) → AllPairs (IsJoinableOrListed (first_rules Z L) listed) (first_rules Z L) → IsCompletion IsZero Z L (first_rules Z L) listed
+    pub begins : (listed : List RulePair) → AllPairs (HasConnectedPair (first_rules Z L) listed) (first_rules Z L) → IsCompletion IsZero Z L (first_rules Z L) listed
     begins listed pairs = record {
       rules = first_rules_rules;
       leads = λ i l. (
@@ -199,10 +207,9 @@ module _ (IsZero : Exponents → Type 0) (L : Letters) (H : AreLetters L) (close
 
   -- a lead is added at the end, with the rule of its letter
   pub adds_lead : (R : List RewriteRule) (old new : List RulePair) (m u : Exponents) → IsCompletion IsZero Z L R old →
-      IsMonomial (length L.degrees) m → m ≢ [] → Rewrites R (Some m) (Some u) → ((p : RulePair) → Contains old p → Contains new p) →
-      ((r : RewriteRule) → Contains R r → IsJoinableOrListed (R ++ lead_rule_of L u ∷ []) new r (lead_rule_of L u)) →
+      IsMonomial (length L.degrees) m → m ≢ [] → Rewrites R (Some m) (Some u) → HasPairsWith R (lead_rule_of L u) old new →
       IsCompletion IsZero Z (with_leads L (m ∷ [])) (R ++ lead_rule_of L u ∷ []) new
-  adds_lead R old new m u h hm ne to more pairs = record {
+  adds_lead R old new m u h hm ne to more = record {
     rules = rules_push IsZero (with_leads L (m ∷ [])) R t (rules_stay L (m ∷ []) IsZero IsZero (λ x z. z) R h.rules) (
       word_stays L (m ∷ []) u image.0,
       subst (λ j. IsSmaller (with_leads L (m ∷ [])) u (lead_letter L j)) (let e : length L.leads + 0 ≡ length L.leads = omega arith in e)
@@ -210,7 +217,7 @@ module _ (IsZero : Exponents → Type 0) (L : Letters) (H : AreLetters L) (close
     );
     leads = λ i l. ⊎_elim (λ k. older i (let z = k in omega arith)) (λ k. newer i (let z = length-append L.leads (m ∷ []) in omega (arith, k))) (le_or_not (suc i) (length L.leads));
     zeros = λ z k. more_rewrites R (R ++ t ∷ []) (contains_left R (t ∷ [])) (h.zeros z k);
-    pairs = pairs_push R t old new more pairs h.pairs;
+    pairs = pairs_push R t old new more h.pairs;
   }
     where
       t : RewriteRule
@@ -231,8 +238,7 @@ module _ (IsZero : Exponents → Type 0) (L : Letters) (H : AreLetters L) (close
       newer i e =
           subst (λ j. AreJoinable (R ++ t ∷ []) (Some (get_or (L.leads ++ m ∷ []) j [])) (Some (lead_letter L j))) (sym e)
           (subst (λ x. AreJoinable (R ++ t ∷ []) (Some x) (Some (lead_letter L (length L.leads))))
-          (sym (ap (λ j. get_or (L.leads ++ m ∷ []) j []) (let q : length L.leads ≡ length L.leads + 0 = omega arith in q) ∙ get_or-append-add L.leads (m ∷ []) 0 []))
-          (
+          (sym (ap (λ j. get_or (L.leads ++ m ∷ []) j []) (let q : length L.leads ≡ length L.leads + 0 = omega arith in q) ∙ get_or-append-add L.leads (m ∷ []) 0 [])) (
             Some (lead_letter L (length L.leads)),
             rewrites_trans (R ++ t ∷ []) (more_rewrites R (R ++ t ∷ []) (contains_left R (t ∷ [])) to) (rule_rewrites (R ++ t ∷ []) t (contains_right R (t ∷ []) t (contains_here t []))),
             stays,
@@ -246,29 +252,22 @@ module _ (IsZero : Exponents → Type 0) (L : Letters) (H : AreLetters L) (close
       side None z = more (image_of L r.left) z
       side (Some v) s = s
 
-  -- a zero that rewrites to zero is added
-  pub adds_zero : (Y : Exponents → Type 0) → ((m : Exponents) → IsZero m → Y m) → (R : List RewriteRule) (listed : List RulePair) (z : Exponents) →
-      IsCompletion IsZero Z L R listed → Rewrites R (Some z) None → IsCompletion Y (Z ++ z ∷ []) L R listed
-  adds_zero Y more R listed z h to = record {
-    rules = more_zeros Y more R h.rules;
-    leads = h.leads;
-    zeros = λ y k. ⊎_elim (h.zeros y) (λ b. ⊎_elim (λ e. subst (λ x. Rewrites R (Some x) None) e to) (λ n. absurd (contains_none y n)) (contains_cases z [] y b))
-        (Contains-append_cases Z (z ∷ []) y k);
-    pairs = h.pairs;
-  }
+  -- zeros that rewrite to zero are added
+  pub adds_zeros : (Y : Exponents → Type 0) → ((m : Exponents) → IsZero m → Y m) → (R : List RewriteRule) (listed : List RulePair) (zs : List Exponents) →
+      IsCompletion IsZero Z L R listed → ((z : Exponents) → Contains zs z → Rewrites R (Some z) None) → IsCompletion Y zs L R listed
+  adds_zeros Y more R listed zs h to = record { rules = more_zeros Y more R h.rules; leads = h.leads; zeros = to; pairs = h.pairs }
 
   -- a zero is added, with the rule of a word to which it rewrites
   pub adds_zero_rule : (Y : Exponents → Type 0) → ((m : Exponents) → IsZero m → Y m) → (R : List RewriteRule) (old new : List RulePair) (z u : Exponents) →
-      IsCompletion IsZero Z L R old → IsMonomial (length L.degrees) z → Y z → Rewrites R (Some z) (Some u) → ((p : RulePair) → Contains old p → Contains new p) →
-      ((r : RewriteRule) → Contains R r → IsJoinableOrListed (R ++ zero_rule_of u ∷ []) new r (zero_rule_of u)) →
+      IsCompletion IsZero Z L R old → IsMonomial (length L.degrees) z → Y z → Rewrites R (Some z) (Some u) → HasPairsWith R (zero_rule_of u) old new →
       IsCompletion Y (Z ++ z ∷ []) L (R ++ zero_rule_of u ∷ []) new
-  adds_zero_rule Y bigger R old new z u h hz yz to more pairs = record {
+  adds_zero_rule Y bigger R old new z u h hz yz to more = record {
     rules = rules_push Y L R t (more_zeros Y bigger R h.rules) (image.0, subst Y (sym image.1) yz);
     leads = λ i l. more_joinable R (R ++ t ∷ []) (contains_left R (t ∷ [])) (Some (get_or L.leads i [])) (Some (lead_letter L i)) (h.leads i l);
     zeros = λ y k. ⊎_elim (λ a. more_rewrites R (R ++ t ∷ []) (contains_left R (t ∷ [])) (h.zeros y a))
         (λ b. ⊎_elim (λ e. subst (λ x. Rewrites (R ++ t ∷ []) (Some x) None) e last) (λ n. absurd (contains_none y n)) (contains_cases z [] y b))
         (Contains-append_cases Z (z ∷ []) y k);
-    pairs = pairs_push R t old new more pairs h.pairs;
+    pairs = pairs_push R t old new more h.pairs;
   }
     where
       t : RewriteRule

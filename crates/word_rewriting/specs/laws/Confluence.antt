@@ -7,7 +7,7 @@ use Rattle.monomial_order.specs.laws.Monomial.{product_comm, length-product, pro
 use Rattle.monomial_order.specs.laws.Cofactors.{cofactor, least_common_multiple_least, Divides-least_common_multiple, Divides-least_common_multiple_right}
 use Rattle.monomial_order.specs.laws.Comparing.{degree_falls, divisor_degree}
 use Rattle.monomial_order.specs.laws.Rank.{IsWithin, below_induction}
-use Rattle.word_rewriting.specs.Rewriting.{WordOrZero, RewriteRule, RewritesOnce, Rewrites, stays, steps, AreJoinable, HasLeftDivisor, IsInNormalForm, IsNormalForm, multiple, JoinsPairs}
+use Rattle.word_rewriting.specs.Rewriting.{WordOrZero, RewriteRule, RewritesOnce, Rewrites, stays, steps, AreJoinable, HasLeftDivisor, IsInNormalForm, IsNormalForm, multiple, JoinsPair, JoinsPairs}
 use Rattle.word_rewriting.specs.laws.Rewriting.{rewrites_trans, joinable_sym, first_step, none_stays, multiple_joinable, divided_or_not, left_divides, normal_stays, multiple_multiple, product_cancel_right}
 
 -- a smaller word, or zero
@@ -50,10 +50,10 @@ module _ (O : MonomialOrder) (LO : IsMonomialOrder O) (R : List RewriteRule) (de
       (multiple_below s.by.cofactor s.rule.left w s.rule.right s.by.trimmed (decreasing s.rule s.listed).left.trimmed hw s.by.word (decreasing s.rule s.listed).right)
 
   module _ (c : ℕ) where
-    below_within : (w v : Exponents) → IsWithin O LO c w → IsBelow O w (Some v) → IsWithin O LO c v
+    pub below_within : (w v : Exponents) → IsWithin O LO c w → IsBelow O w (Some v) → IsWithin O LO c v
     below_within w v hw h = record { monomial = h.0; degree = let l = degree_falls O LO v w h.1 in let d = hw.degree in omega arith }
 
-    step_within : (w : Exponents) (a : WordOrZero) → IsWithin O LO c w → RewritesOnce R w a → IsWithinDegree O LO c a
+    pub step_within : (w : Exponents) (a : WordOrZero) → IsWithin O LO c w → RewritesOnce R w a → IsWithinDegree O LO c a
     step_within w a hw s = by_case a (step_below w a hw.monomial s)
       where
         by_case : (a : WordOrZero) → IsBelow O w a → IsWithinDegree O LO c a
@@ -103,51 +103,54 @@ module _ (O : MonomialOrder) (LO : IsMonomialOrder O) (R : List RewriteRule) (de
     normal None h = (None, record { rewrites = stays; normal = tt })
     normal (Some w) h = normal_word w h
 
+    -- the results of two steps are joinable if the critical pair of their rules is
+    pub pair_steps : (w : Exponents) (a b : WordOrZero) → IsWithin O LO c w → (s : RewritesOnce R w a) (t : RewritesOnce R w b) → JoinsPair O R c s.rule t.rule → AreJoinable R a b
+    pair_steps w a b hw s t pair =
+        subst (λ x. AreJoinable R x b) first (subst (AreJoinable R (multiple q.0 (multiple u.0 s.rule.right))) second
+        (multiple_joinable R q.0 (multiple u.0 s.rule.right) (multiple v.0 t.rule.right) q.1
+        (pair small (multiple u.0 s.rule.right) (multiple v.0 t.rule.right) (
+          record { cofactor = u.0; trimmed = u.1; word = product_comm u.0 s.rule.left ∙ u.2; result = refl },
+          record { cofactor = v.0; trimmed = v.1; word = product_comm v.0 t.rule.left ∙ v.2; result = refl },
+        ))))
+      where
+        left : IsTrimmed s.rule.left
+        left = (decreasing s.rule s.listed).left.trimmed
+
+        right : IsTrimmed t.rule.left
+        right = (decreasing t.rule t.listed).left.trimmed
+
+        whole : IsTrimmed (lcm s.rule.left t.rule.left)
+        whole = IsTrimmed-least_common_multiple s.rule.left t.rule.left left right
+
+        divides : Divides (lcm s.rule.left t.rule.left) w
+        divides = least_common_multiple_least s.rule.left t.rule.left w (left_divides R w a s) (left_divides R w b t)
+
+        q : (k : Exponents) × IsTrimmed k × (product k (lcm s.rule.left t.rule.left) ≡ w)
+        q = let k = cofactor (lcm s.rule.left t.rule.left) w whole hw.monomial.trimmed divides in (k.0, k.1, product_comm k.0 (lcm s.rule.left t.rule.left) ∙ k.2)
+
+        u : (k : Exponents) × IsTrimmed k × (product s.rule.left k ≡ lcm s.rule.left t.rule.left)
+        u = cofactor s.rule.left (lcm s.rule.left t.rule.left) left whole (Divides-least_common_multiple s.rule.left t.rule.left)
+
+        v : (k : Exponents) × IsTrimmed k × (product t.rule.left k ≡ lcm s.rule.left t.rule.left)
+        v = cofactor t.rule.left (lcm s.rule.left t.rule.left) right whole (Divides-least_common_multiple_right s.rule.left t.rule.left)
+
+        small : O.degree (lcm s.rule.left t.rule.left) ≤ c
+        small = let d = divisor_degree O LO (lcm s.rule.left t.rule.left) w whole hw.monomial.trimmed divides in let e = hw.degree in omega arith
+
+        side : (x y m f : Exponents) → IsTrimmed x → IsTrimmed y → IsTrimmed f → product m x ≡ lcm s.rule.left t.rule.left → product y (lcm s.rule.left t.rule.left) ≡ w → product f m ≡ w → product y x ≡ f
+        side x y m f hx hy hf e k h =
+            product_cancel_right (product y x) f m (IsTrimmed-product y x hy hx) hf
+            (product_assoc y x m ∙ (ap (product y) (product_comm x m ∙ e) ∙ (k ∙ sym h)))
+
+        first : multiple q.0 (multiple u.0 s.rule.right) ≡ a
+        first = multiple_multiple q.0 u.0 s.rule.right ∙ (ap (λ x. multiple x s.rule.right) (side u.0 q.0 s.rule.left s.by.cofactor u.1 q.1 s.by.trimmed u.2 q.2 s.by.word) ∙ s.by.result)
+
+        second : multiple q.0 (multiple v.0 t.rule.right) ≡ b
+        second = multiple_multiple q.0 v.0 t.rule.right ∙ (ap (λ x. multiple x t.rule.right) (side v.0 q.0 t.rule.left t.by.cofactor v.1 q.1 t.by.trimmed v.2 q.2 t.by.word) ∙ t.by.result)
+
     module _ (pairs : JoinsPairs O R c) where
-      -- the results of two steps are joinable
-      pub steps_joinable : (w : Exponents) (a b : WordOrZero) → IsWithin O LO c w → RewritesOnce R w a → RewritesOnce R w b → AreJoinable R a b
-      steps_joinable w a b hw s t =
-          subst (λ x. AreJoinable R x b) first (subst (AreJoinable R (multiple q.0 (multiple u.0 s.rule.right))) second
-          (multiple_joinable R q.0 (multiple u.0 s.rule.right) (multiple v.0 t.rule.right) q.1
-          (pairs s.rule t.rule s.listed t.listed small (multiple u.0 s.rule.right) (multiple v.0 t.rule.right) (
-            record { cofactor = u.0; trimmed = u.1; word = product_comm u.0 s.rule.left ∙ u.2; result = refl },
-            record { cofactor = v.0; trimmed = v.1; word = product_comm v.0 t.rule.left ∙ v.2; result = refl },
-          ))))
-        where
-          left : IsTrimmed s.rule.left
-          left = (decreasing s.rule s.listed).left.trimmed
-
-          right : IsTrimmed t.rule.left
-          right = (decreasing t.rule t.listed).left.trimmed
-
-          whole : IsTrimmed (lcm s.rule.left t.rule.left)
-          whole = IsTrimmed-least_common_multiple s.rule.left t.rule.left left right
-
-          divides : Divides (lcm s.rule.left t.rule.left) w
-          divides = least_common_multiple_least s.rule.left t.rule.left w (left_divides R w a s) (left_divides R w b t)
-
-          q : (k : Exponents) × IsTrimmed k × (product k (lcm s.rule.left t.rule.left) ≡ w)
-          q = let k = cofactor (lcm s.rule.left t.rule.left) w whole hw.monomial.trimmed divides in (k.0, k.1, product_comm k.0 (lcm s.rule.left t.rule.left) ∙ k.2)
-
-          u : (k : Exponents) × IsTrimmed k × (product s.rule.left k ≡ lcm s.rule.left t.rule.left)
-          u = cofactor s.rule.left (lcm s.rule.left t.rule.left) left whole (Divides-least_common_multiple s.rule.left t.rule.left)
-
-          v : (k : Exponents) × IsTrimmed k × (product t.rule.left k ≡ lcm s.rule.left t.rule.left)
-          v = cofactor t.rule.left (lcm s.rule.left t.rule.left) right whole (Divides-least_common_multiple_right s.rule.left t.rule.left)
-
-          small : O.degree (lcm s.rule.left t.rule.left) ≤ c
-          small = let d = divisor_degree O LO (lcm s.rule.left t.rule.left) w whole hw.monomial.trimmed divides in let e = hw.degree in omega arith
-
-          side : (x y m f : Exponents) → IsTrimmed x → IsTrimmed y → IsTrimmed f → product m x ≡ lcm s.rule.left t.rule.left → product y (lcm s.rule.left t.rule.left) ≡ w → product f m ≡ w → product y x ≡ f
-          side x y m f hx hy hf e k h =
-              product_cancel_right (product y x) f m (IsTrimmed-product y x hy hx) hf
-              (product_assoc y x m ∙ (ap (product y) (product_comm x m ∙ e) ∙ (k ∙ sym h)))
-
-          first : multiple q.0 (multiple u.0 s.rule.right) ≡ a
-          first = multiple_multiple q.0 u.0 s.rule.right ∙ (ap (λ x. multiple x s.rule.right) (side u.0 q.0 s.rule.left s.by.cofactor u.1 q.1 s.by.trimmed u.2 q.2 s.by.word) ∙ s.by.result)
-
-          second : multiple q.0 (multiple v.0 t.rule.right) ≡ b
-          second = multiple_multiple q.0 v.0 t.rule.right ∙ (ap (λ x. multiple x t.rule.right) (side v.0 q.0 t.rule.left t.by.cofactor v.1 q.1 t.by.trimmed v.2 q.2 t.by.word) ∙ t.by.result)
+      steps_joinable : (w : Exponents) (a b : WordOrZero) → IsWithin O LO c w → RewritesOnce R w a → RewritesOnce R w b → AreJoinable R a b
+      steps_joinable w a b hw s t = pair_steps w a b hw s t (pairs s.rule t.rule s.listed t.listed)
 
       -- normal forms are unique
       pub unique_word : (w : Exponents) → IsWithin O LO c w → (a b : WordOrZero) → IsNormalForm R (Some w) a → IsNormalForm R (Some w) b → a ≡ b

@@ -45,7 +45,7 @@ pair_turned : (r s : RewriteRule) (a b : WordOrZero) → IsCriticalPair r s a b 
 pair_turned r s a b p =
     (subst (λ l. RewritesBy s l b) (lcm_comm r.left s.left) p.1, subst (λ l. RewritesBy r l a) (lcm_comm r.left s.left) p.0)
 
-pair_itself : (R : List RewriteRule) (r s : RewriteRule) (a b : WordOrZero) → IsTrimmed r.left → r ≡ s → IsCriticalPair r s a b → AreJoinable R a b
+pub pair_itself : (R : List RewriteRule) (r s : RewriteRule) (a b : WordOrZero) → IsTrimmed r.left → r ≡ s → IsCriticalPair r s a b → AreJoinable R a b
 pair_itself R r s a b h e p =
     subst (AreJoinable R a) (sym p.0.result ∙ (ap (λ k. multiple k r.right) same ∙ (ap (λ x. multiple p.1.cofactor x.right) e ∙ p.1.result))) (joinable_itself R a)
   where
