@@ -3,11 +3,10 @@ ghost use Rattle.std.specs.Prelude.{◌≡◌, [], OnOk};
 ghost use Rattle.worked_cases.specs.Rings.{IsIn, IsRing};
 
 use crate::rings::{Ring, X_AND_Y, polynomial, ring};
-use crate::rows::number;
+use crate::rows::{ensure, number};
 use linked_terms::TermChain;
 use monomial_order::{Monomial, Term};
 use std::alloc::Global;
-use std::process::Abort;
 use std::test::Fail;
 use word_field::{Field, WordField};
 
@@ -31,51 +30,43 @@ fn add(alloc: Global, p: &Ring, chain: &mut TermChain<WordField>, product: &str)
     }
 }
 
+/// Whether it is the term, or there is none.
+fn is_term(found: Option<&Term<u32>>, expected: Option<&Term<u32>>) -> bool {
+    match (found, expected) {
+        (Some(t), Some(e)) => t.at == e.at && t.by == e.by,
+        (None, None) => true,
+        _ => false,
+    }
+}
+
 /// Takes the first term out, and compares it.
 fn pop(
-    rt: &impl Abort,
     p: &Ring,
     chain: &mut TermChain<WordField>,
     expected: Option<&Term<u32>>,
     step: &str,
-)
+) -> Result<(), Fail>
     requires { IsIn p.now chain.old.terms }
     ensures { IsIn p.now chain.new.terms }
 {
     let _ring = p;
     let found = chain.pop_lead();
-    match (&found, expected) {
-        (Some(t), Some(e)) => {
-            assert!(rt; t.at == e.at, "{step}");
-            assert_eq!(rt; t.by, e.by, "{step}");
-        }
-        (found, expected) => assert_eq!(rt; found.is_some(), expected.is_some(), "{step}"),
-    }
+    ensure(is_term(found.as_ref(), expected), step)
 }
 
 /// Takes all terms out, and compares them.
-fn pop_all(rt: &impl Abort, chain: &mut TermChain<WordField>, expected: &[Term<u32>], step: &str)
-    ensures { chain.new.terms ≡ [] }
+fn pop_all(chain: &mut TermChain<WordField>, expected: &[Term<u32>], step: &str) -> Result<(), Fail>
+    ensures { OnOk result (chain.new.terms ≡ []) }
 {
-    assert_eq!(rt; chain.len(), expected.len(), "{step}");
     for e in expected {
         let found = chain.pop_lead();
-        assert!(rt;
-            found.is_some_and(|t| t.at == e.at && t.by == e.by),
-            "{step}"
-        );
+        ensure(is_term(found.as_ref(), Some(e)), step)?;
     }
-    assert!(rt; chain.pop_lead().is_none(), "{step}");
+    ensure(chain.pop_lead().is_none(), step)
 }
 
 /// One step of a row.
-fn follow(
-    rt: &impl Abort,
-    alloc: Global,
-    p: &Ring,
-    chain: &mut TermChain<WordField>,
-    step: &str,
-) -> Result<(), Fail>
+fn follow(alloc: Global, p: &Ring, chain: &mut TermChain<WordField>, step: &str) -> Result<(), Fail>
     requires ring { IsRing p.now }
     requires chain { IsIn p.now chain.old.terms }
     ensures { OnOk result (IsIn p.now chain.new.terms) }
@@ -88,36 +79,28 @@ fn follow(
         "add" => add(alloc, p, chain, operand),
         "pop" => {
             let expected = polynomial(alloc, p, operand)?;
-            pop(rt, p, chain, expected.lead(), step);
-            Ok(())
+            pop(p, chain, expected.lead(), step)
         }
         "has" => {
             let expected = polynomial(alloc, p, operand)?;
-            pop_all(rt, chain, expected.terms(), step);
-            Ok(())
+            pop_all(chain, expected.terms(), step)
         }
         "clear" => {
             chain.clear();
             Ok(())
         }
-        "len" => {
-            assert_eq!(rt; chain.len(), number(operand)? as usize, "{step}");
-            Ok(())
-        }
-        "spare" => {
-            assert_eq!(rt; chain.spare(), number(operand)? as usize, "{step}");
-            Ok(())
-        }
+        "len" => ensure(chain.len() == number(operand)? as usize, step),
+        "spare" => ensure(chain.spare() == number(operand)? as usize, step),
         _ => Err(Fail::new("no step")),
     }
 }
 
 /// The steps of a row, from the empty chain on.
-fn judge(rt: &impl Abort, alloc: Global, row: &str) -> Result<(), Fail> {
+fn see_steps(alloc: Global, row: &str) -> Result<(), Fail> {
     let p = ring(alloc, X_AND_Y)?;
     let mut chain = TermChain::new(alloc);
     for step in row.split(" | ") {
-        follow(rt, alloc, &p, &mut chain, step)?;
+        follow(alloc, &p, &mut chain, step)?;
     }
     Ok(())
 }
@@ -145,7 +128,7 @@ fn sums_in_place(rt: HostRuntime) -> Result<(), Fail> {
         "reserve 4 | add 3*x*y times x + 2*y | add 2*x*y times x + y | has 5*x^2*y + 8*x*y^2",
         "add 1 times x + y + 1 | add 1 times x^2 + y | has x^2 + x + 2*y + 1",
     ] {
-        judge(&rt, rt.alloc(), row)?;
+        see_steps(rt.alloc(), row)?;
     }
     Ok(())
 }
