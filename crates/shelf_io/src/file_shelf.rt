@@ -1,6 +1,7 @@
 //! The real files.
-ghost use Rattle.std.specs.Prelude.{◌≡◌, ◌<◌, ◌≤◌, ◌+◌, ◌⊎◌, ⊤, ℕ, length, Some, None, IfSome, IfOk, OnOk, IsErrOf};
+ghost use Rattle.std.specs.Prelude.{◌≡◌, ◌≢◌, ◌<◌, ◌≤◌, ◌+◌, ◌⊎◌, ⊤, ℕ, length, Some, None, IfSome, IfOk, IfErr, OnOk, IsErrOf};
 ghost use Rattle.std.specs.Io.KnownBytes.{Appends};
+ghost use Rattle.std.specs.IoError.{error_kind};
 ghost use Rattle.shelf_io.specs.Counts.{HasRisen};
 ghost use Rattle.shelf_io.specs.FileShelf.{fault_count, IsRead, ReadsNearly};
 ghost use Rattle.shelf_io.specs.Moments.{IsHeld, IsHeldElsewhere, Adds, LeavesWritten};
@@ -73,15 +74,18 @@ fn read_within<F: Read>(alloc: Global, file: &mut F, max: Option<u64>) -> Result
     }
 }
 
-fn load_file<R: Files>(
-    rt: &R,
+/// What is loaded of a file, as it was opened.
+fn load_opened<F: Read + Drop>(
     alloc: Global,
-    name: &str,
+    opened: io::Result<F>,
     max: Option<u64>,
 ) -> Result<Loaded, LoadFault>
-    ensures { IfOk result (KeepsLimit max) }
+    ensures limit { IfOk result (KeepsLimit max) }
+    ensures bytes { IfOk opened (λ file. IfSome (F.remaining file) (λ bytes. IfOk result (IsRead max bytes))) }
+    ensures missing { IfErr opened (λ e. error_kind e ≡ ErrorKind.NotFound → result ≡ Ok Loaded.Missing) }
+    ensures failed { IfErr opened (λ e. error_kind e ≢ ErrorKind.NotFound → result ≡ Err LoadFault.Failed) }
 {
-    match fs::open(rt, name) {
+    match opened {
         Ok(mut file) => read_within(alloc, &mut file, max),
         Err(e) if e.kind() == ErrorKind::NotFound => Ok(Loaded::Missing),
         Err(_) => Err(LoadFault::Failed),
@@ -122,7 +126,7 @@ impl<R: Files> Shelf for FileShelf<'_, R> {
         ensures stops { Adds None (λ _ _. ⊤) (λ _ _. ⊤) (IsHeld None) }
         ensures only_failed { IsErrOf result LoadFault.Failed ⊎ (fault_count self.new ≡ fault_count self.old) }
     {
-        let answer = load_file(self.rt, alloc, name, max);
+        let answer = load_opened(alloc, fs::open(self.rt, name), max);
         if let Err(LoadFault::Failed) = answer {
             self.faults = next_count(self.faults);
         }

@@ -1,7 +1,7 @@
 //! Laws of every shelf, as contracts of calls that do nothing.
 ghost use Rattle.std.specs.Prelude.{◌≡◌, ◌≤◌, ◌+◌, ℕ, List, [], ◌∷◌, ◌++◌, length, Result};
 ghost use Rattle.shelf_io.specs.Shelf.{Files};
-ghost use Rattle.shelf_io.specs.Stages.{Save, files_saved, IsAtStage, IsFromStage, Stays, Writes, Saves};
+ghost use Rattle.shelf_io.specs.Stages.{Save, files_saved, IsFromStage, Stays, Writes, Saves};
 ghost use Rattle.shelf_io.specs.declared.shelf.WriteFault.{WriteFault};
 
 use crate::Shelf;
