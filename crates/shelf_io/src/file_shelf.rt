@@ -1,5 +1,5 @@
 //! The real files.
-ghost use Rattle.std.specs.Prelude.{◌≡◌, ◌≢◌, ◌<◌, ◌≤◌, ◌+◌, ◌⊎◌, ⊤, ℕ, length, Some, None, IfSome, IfOk, IfErr, OnOk, IsErrOf};
+ghost use Rattle.std.specs.Prelude.{◌≡◌, ◌≢◌, ◌<◌, ◌≤◌, ◌+◌, ◌⊎◌, ⊤, ℕ, length, Some, None, IfSome, IfOk, IfErr, OnOk, IsErr, IsErrOf};
 ghost use Rattle.std.specs.Io.KnownBytes.{Appends};
 ghost use Rattle.std.specs.IoError.{error_kind};
 ghost use Rattle.shelf_io.specs.Counts.{HasRisen};
@@ -92,17 +92,15 @@ fn load_opened<F: Read + Drop>(
     }
 }
 
-/// Writes all bytes and asks for a sync.
-fn write_whole<F: Write + OpenFile>(file: &mut F, bytes: &[u8]) -> io::Result<()>
-    ensures { OnOk result (Appends (F.contents file.old) (F.contents file.new) bytes.now) }
+/// A file, as it was opened, after all bytes were written and a sync was asked for.
+fn write_opened<F: Write + OpenFile + Drop>(opened: io::Result<F>, bytes: &[u8]) -> io::Result<F>
+    ensures bytes { IfOk opened (λ old. IfOk result (λ new. Appends (F.contents old) (F.contents new) bytes.now)) }
+    ensures failed { IsErr opened → IsErr result }
 {
+    let mut file = opened?;
     file.write_all(bytes)?;
-    file.sync_all()
-}
-
-fn write_file<R: Files>(rt: &R, name: &str, bytes: &[u8]) -> io::Result<()> {
-    let mut file = fs::create(rt, name)?;
-    write_whole(&mut file, bytes)
+    file.sync_all()?;
+    Ok(file)
 }
 
 impl<R: Files> Shelf for FileShelf<'_, R> {
@@ -142,8 +140,8 @@ impl<R: Files> Shelf for FileShelf<'_, R> {
         ensures only_failed { OnOk result (fault_count self.new ≡ fault_count self.old) }
         ensures never_memory { ¬ IsErrOf result WriteFault.Memory }
     {
-        match write_file(self.rt, name, bytes) {
-            Ok(()) => Ok(()),
+        match write_opened(fs::create(self.rt, name), bytes) {
+            Ok(_) => Ok(()),
             Err(_) => {
                 self.faults = next_count(self.faults);
                 Err(WriteFault::Failed)
