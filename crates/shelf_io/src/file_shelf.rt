@@ -1,6 +1,7 @@
 //! The real files.
-ghost use Rattle.std.specs.Prelude.{◌≡◌, ◌<◌, ◌≤◌, ◌+◌, ◌⊎◌, ⊤, ℕ, length, Some, None, IfSome, IfOk, OnOk, IsErrOf};
+ghost use Rattle.std.specs.Prelude.{◌≡◌, ◌≢◌, ◌<◌, ◌≤◌, ◌+◌, ◌⊎◌, ⊤, ℕ, length, Some, None, IfSome, IfOk, IfErr, OnOk, IsErr, IsErrOf};
 ghost use Rattle.std.specs.Io.KnownBytes.{Appends};
+ghost use Rattle.std.specs.IoError.{error_kind};
 ghost use Rattle.shelf_io.specs.Counts.{HasRisen};
 ghost use Rattle.shelf_io.specs.FileShelf.{fault_count, IsRead, ReadsNearly};
 ghost use Rattle.shelf_io.specs.Moments.{IsHeld, IsHeldElsewhere, Adds, LeavesWritten};
@@ -73,32 +74,33 @@ fn read_within<F: Read>(alloc: Global, file: &mut F, max: Option<u64>) -> Result
     }
 }
 
-fn load_file<R: Files>(
-    rt: &R,
+/// What is loaded of a file, as it was opened.
+fn load_opened<F: Read + Drop>(
     alloc: Global,
-    name: &str,
+    opened: io::Result<F>,
     max: Option<u64>,
 ) -> Result<Loaded, LoadFault>
-    ensures { IfOk result (KeepsLimit max) }
+    ensures limit { IfOk result (KeepsLimit max) }
+    ensures bytes { IfOk opened (λ file. IfSome (F.remaining file) (λ bytes. IfOk result (IsRead max bytes))) }
+    ensures missing { IfErr opened (λ e. error_kind e ≡ ErrorKind.NotFound → result ≡ Ok Loaded.Missing) }
+    ensures failed { IfErr opened (λ e. error_kind e ≢ ErrorKind.NotFound → result ≡ Err LoadFault.Failed) }
 {
-    match fs::open(rt, name) {
+    match opened {
         Ok(mut file) => read_within(alloc, &mut file, max),
         Err(e) if e.kind() == ErrorKind::NotFound => Ok(Loaded::Missing),
         Err(_) => Err(LoadFault::Failed),
     }
 }
 
-/// Writes all bytes and asks for a sync.
-fn write_whole<F: Write + OpenFile>(file: &mut F, bytes: &[u8]) -> io::Result<()>
-    ensures { OnOk result (Appends (F.contents file.old) (F.contents file.new) bytes.now) }
+/// A file, as it was opened, after all bytes were written and a sync was asked for.
+fn write_opened<F: Write + OpenFile + Drop>(opened: io::Result<F>, bytes: &[u8]) -> io::Result<F>
+    ensures bytes { IfOk opened (λ old. IfOk result (λ new. Appends (F.contents old) (F.contents new) bytes.now)) }
+    ensures failed { IsErr opened → IsErr result }
 {
+    let mut file = opened?;
     file.write_all(bytes)?;
-    file.sync_all()
-}
-
-fn write_file<R: Files>(rt: &R, name: &str, bytes: &[u8]) -> io::Result<()> {
-    let mut file = fs::create(rt, name)?;
-    write_whole(&mut file, bytes)
+    file.sync_all()?;
+    Ok(file)
 }
 
 impl<R: Files> Shelf for FileShelf<'_, R> {
@@ -122,7 +124,7 @@ impl<R: Files> Shelf for FileShelf<'_, R> {
         ensures stops { Adds None (λ _ _. ⊤) (λ _ _. ⊤) (IsHeld None) }
         ensures only_failed { IsErrOf result LoadFault.Failed ⊎ (fault_count self.new ≡ fault_count self.old) }
     {
-        let answer = load_file(self.rt, alloc, name, max);
+        let answer = load_opened(alloc, fs::open(self.rt, name), max);
         if let Err(LoadFault::Failed) = answer {
             self.faults = next_count(self.faults);
         }
@@ -138,8 +140,8 @@ impl<R: Files> Shelf for FileShelf<'_, R> {
         ensures only_failed { OnOk result (fault_count self.new ≡ fault_count self.old) }
         ensures never_memory { ¬ IsErrOf result WriteFault.Memory }
     {
-        match write_file(self.rt, name, bytes) {
-            Ok(()) => Ok(()),
+        match write_opened(fs::create(self.rt, name), bytes) {
+            Ok(_) => Ok(()),
             Err(_) => {
                 self.faults = next_count(self.faults);
                 Err(WriteFault::Failed)

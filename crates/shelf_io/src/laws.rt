@@ -1,7 +1,7 @@
 //! Laws of every shelf, as contracts of calls that do nothing.
 ghost use Rattle.std.specs.Prelude.{◌≡◌, ◌≤◌, ◌+◌, ℕ, List, [], ◌∷◌, ◌++◌, length, Result};
 ghost use Rattle.shelf_io.specs.Shelf.{Files};
-ghost use Rattle.shelf_io.specs.Stages.{Save, files_saved, IsAtStage, IsFromStage, Stays, Writes, Saves};
+ghost use Rattle.shelf_io.specs.Stages.{Save, files_saved, IsFromStage, Stays, Writes, Saves};
 ghost use Rattle.shelf_io.specs.declared.shelf.WriteFault.{WriteFault};
 
 use crate::Shelf;
@@ -45,6 +45,14 @@ pub fn stops_at_stages<H: Shelf>()
         → H.holds first ≡ Some files → H.holds last ≡ Some held
         → H.moment first ≡ Some start → H.may_be_found last start found
         → IsFromStage files (saves ++ save ∷ []) 0 found }
+
+    // the files held after it are at a stage, whether moments are known or not
+    ensures held_in_write { (saves : List Save) (save : Save) (result : Result (Unit {0}) WriteFault)
+        (first mid last : H) (files held : Files)
+        → Saves H.holds H.moment H.may_be_found saves first mid
+        → Writes H.holds H.moment H.may_be_found result save mid last
+        → H.holds first ≡ Some files → H.holds last ≡ Some held
+        → IsFromStage files (saves ++ save ∷ []) (length saves) held }
 
     // a stage of some writes is one of these and further ones
     ensures more { (files : Files) (saves more : List Save) (least : ℕ) (found : Files)

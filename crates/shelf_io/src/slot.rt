@@ -1,7 +1,5 @@
 //! Slots for files, whose room is made beforehand.
-ghost use Rattle.std.specs.Prelude.{◌≡◌, ◌≤◌, ◌<◌, ℕ, false, true, length, map, position, IfOk, IfSome, string_bytes, vec_capacity, option_copied};
-ghost use Rattle.std.specs.Bool.{OnTrue, OnFalse};
-ghost use Rattle.std.specs.FinMap as files;
+ghost use Rattle.std.specs.Prelude.{◌≡◌, ◌≤◌, ◌<◌, false, true, length, position, IfOk, IfSome, string_bytes, vec_capacity};
 ghost use Rattle.std.specs.Str.{bytes_eq};
 
 use std::alloc::{AllocError, Global};
@@ -42,10 +40,10 @@ impl Slot {
     }
 }
 
-/// Where the name is first among the slots.
-pub fn place(slots: &[Slot], name: &str) -> Option<usize>
+/// The index of the first slot with the name.
+pub fn index_of(slots: &[Slot], name: &str) -> Option<usize>
     ensures first { result ≡ position (λ slot. bytes_eq (string_bytes slot.name) name.now) slots.now }
-    ensures within { IfSome result (λ at. at < length slots.now) }
+    ensures within { IfSome result (λ index. index < length slots.now) }
 {
     slots.iter().position(|slot| slot.name.as_str() == name)
 }

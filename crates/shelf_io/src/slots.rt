@@ -6,13 +6,13 @@ ghost use Rattle.std.specs.Str.{bytes_eq};
 ghost use Rattle.shelf_io.specs.Slots.{name_of, files_in, IsReserved};
 ghost use Rattle.shelf_io.specs.SteadyShelf.{is_admitted};
 
-use crate::slot::{Slot, place};
+use crate::slot::{Slot, index_of};
 
 /// Whether a slot has the name.
 pub fn is_admitted(slots: &[Slot], name: &str) -> bool
     ensures { result ≡ is_admitted (map name_of slots.now) name.now }
 {
-    place(slots, name).is_some()
+    index_of(slots, name).is_some()
 }
 
 /// The slot of the name, if it is present.
@@ -46,9 +46,9 @@ pub fn store(slots: &mut Vec<Slot>, room: usize, name: &str, bytes: &[u8]) -> bo
         ≡ files.insert (files_in slots.old.items) name.now bytes.now) }
     ensures same { OnFalse result (files_in slots.new.items ≡ files_in slots.old.items) }
 {
-    match place(slots, name) {
-        Some(at) => {
-            slots[at].set(bytes);
+    match index_of(slots, name) {
+        Some(index) => {
+            slots[index].set(bytes);
             true
         }
         None => false,

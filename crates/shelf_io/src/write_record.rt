@@ -1,5 +1,5 @@
 //! Writes that are recorded.
-ghost use Rattle.std.specs.Prelude.{◌≡◌, take, IfOk, string_bytes};
+ghost use Rattle.std.specs.Prelude.{◌≡◌, take, IfOk};
 
 use std::alloc::{AllocError, Global};
 

@@ -38,10 +38,6 @@ not_known e = absurd cc
 pub adds_none : (moment : Option ℕ) (found : ℕ → Files → Type 0) (P : Files → Type 0) → Adds moment found found P
 adds_none moment found P = record { only = λ start m f e le h. inl h; all = λ start m f e le h. h }
 
--- where no moment is known
-pub adds_unknown : (before now : ℕ → Files → Type 0) (P : Files → Type 0) → Adds None before now P
-adds_unknown before now P = record { only = λ start m f e le h. absurd cc; all = λ start m f e le h. absurd cc }
-
 equal_of_is_eq : (o : Ordering) → is_eq o ≡ true → o ≡ Equal
 equal_of_is_eq Less e = absurd cc
 equal_of_is_eq Equal e = refl

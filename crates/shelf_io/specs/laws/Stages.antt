@@ -1,12 +1,13 @@
 -- The stages of a program that writes names one after the other.
-use Rattle.std.proofs.Common.{◌≡◌, ◌≤◌, ◌⊎◌, ◌+◌, ℕ, zero, suc, List, [], ◌∷◌, ◌++◌, length, Option, Some, Result, Ok, refl, sym, ap, subst, ◌∙◌, inl, inr, arith}
+use Rattle.std.proofs.Common.{◌≡◌, ◌≤◌, ◌⊎◌, ◌+◌, ℕ, zero, suc, List, [], ◌∷◌, ◌++◌, length, Option, Some, Result, Ok, Err, refl, sym, ap, subst, ◌∙◌, inl, inr, arith}
 use Rattle.std.proofs.lemmas.Option.{same_Some}
 use Rattle.std.specs.FinMap as map
-use Rattle.shelf_io.specs.Shelf.{Files, SameElsewhere}
+use Rattle.shelf_io.specs.Shelf.{Files, SameElsewhere, IsWritten}
 use Rattle.shelf_io.specs.Moments.{IsHeld, IsHeldElsewhere}
 use Rattle.shelf_io.specs.Stages.{Save, files_saved, IsAtStage, IsFromStage, Stays, Writes, Saves}
-use Rattle.shelf_io.specs.laws.Moments.{later_same, later_then, known_later, adds_none}
+use Rattle.shelf_io.specs.laws.Moments.{later_same, later_then, known_later, adds_none, insert_elsewhere}
 use Rattle.shelf_io.specs.declared.shelf.WriteFault.{WriteFault}
+use Rattle.shelf_io.specs.declared.shelf.WriteFault.TheVariants.{Failed, Memory}
 
 -- ---- stages
 
@@ -165,3 +166,23 @@ module _ {S : Type 0} (holds : S → Option Files) (moment : S → Option ℕ) (
               (stage.0, stage.1, stage_of_more files saves (save ∷ []) stage.0 found stage.2)
           | inr torn ↦ stage_in_write files saves save found (subst (λ f. SameElsewhere save.name f found) mid_is (subst (λ o. IsHeldElsewhere save.name o found) mid.1 torn))
         ]
+
+  -- what a write with any answer leaves of the files agrees with them elsewhere
+  same_elsewhere : (result : Result (Unit {0}) WriteFault) (name bytes : List ℕ) (old new : Files)
+      → IsWritten result name bytes old new → SameElsewhere name old new
+  same_elsewhere (Ok _) name bytes old new is = subst (SameElsewhere name old) (sym is) (insert_elsewhere old name bytes)
+  same_elsewhere (Err Failed) name bytes old new is = is
+  same_elsewhere (Err Memory) name bytes old new is = subst (SameElsewhere name old) (sym is) (λ other not. refl)
+
+  -- the files held after a write with any answer are at a stage too
+  pub held_in_write : (saves : List Save) (save : Save) (result : Result (Unit {0}) WriteFault) (a b c : S) (files held : Files)
+      → Made saves a b → Write result save b c → holds a ≡ Some files → holds c ≡ Some held
+      → IsFromStage files (saves ++ save ∷ []) (length saves) held
+  held_in_write saves save result a b c files held chain write first last =
+      let mid = write.held held last in
+      let known = held_after saves a b mid.0 chain mid.1 in
+      let mid_is : mid.0 ≡ files_saved files saves =
+      known.2 ∙ ap (λ f. files_saved f saves) (same_Some _ _ (sym known.1 ∙ first)) in
+      let same : SameElsewhere save.name (files_saved files saves) held =
+      subst (λ f. SameElsewhere save.name f held) mid_is (same_elsewhere result save.name save.bytes mid.0 held mid.2) in
+      (length saves, omega arith, stage_after files saves (save ∷ []) 0 (length saves) held (omega arith) same)

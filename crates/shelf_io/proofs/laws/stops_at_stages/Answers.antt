@@ -1,5 +1,5 @@
 use Rattle.std.proofs.Common.{length, ◌+◌, refl, arith}
-use Rattle.shelf_io.specs.laws.Stages.{held_after, stages, stages_in_write, stage_of_more, stage_after}
+use Rattle.shelf_io.specs.laws.Stages.{held_after, stages, stages_in_write, held_in_write, stage_of_more, stage_after}
 use Rattle.shelf_io.proofs.laws.stops_at_stages.Goals as goal
 
 pub returns-clause-held : goal.returns-clause-held
@@ -20,3 +20,6 @@ returns-clause-later g c = λ files saves more found stage.
 pub returns-clause-more : goal.returns-clause-more
 returns-clause-more g c = λ files saves more least found stage.
     (stage.0, stage.1, stage_of_more files saves more stage.0 found stage.2)
+
+pub returns-clause-held_in_write : goal.returns-clause-held_in_write
+returns-clause-held_in_write g c = held_in_write g.H.Shelf.holds g.H.Shelf.moment g.H.Shelf.may_be_found

@@ -7,5 +7,5 @@ use Rattle.shelf_io.proofs.slots.is_admitted.Goals as goal
 pub returns : goal.returns
 returns c =
     c.is_some.ensures
-    ∙ ap is_some (c.place.ensures.first ∙ position_from-zero (has c.args.name.now) c.args.slots.now)
+    ∙ ap is_some (c.index_of.ensures.first ∙ position_from-zero (has c.args.name.now) c.args.slots.now)
     ∙ admitted_from c.args.name.now c.args.slots.now 0

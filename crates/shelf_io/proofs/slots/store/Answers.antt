@@ -9,21 +9,21 @@ use Rattle.shelf_io.proofs.SlotLemmas.{has, admitted_from, files_in-set, positio
 use Rattle.shelf_io.proofs.slots.store.Goals as goal
 
 -- where the name is first
-first : (c : goal.After-slots-1) → position_from (has c.args.name.now) 0 c.args.slots.now.items ≡ Some c.in-Some.at
+first : (c : goal.After-slots-1) → position_from (has c.args.name.now) 0 c.args.slots.now.items ≡ Some c.in-Some.index
 first c =
     sym (position_from-zero (has c.args.name.now) c.args.slots.now.items)
     ∙ ap (position (has c.args.name.now)) (sym c.deref.ensures.value)
-    ∙ sym c.place.ensures.first ∙ c.in-Some.is
+    ∙ sym c.index_of.ensures.first ∙ c.in-Some.is
 
 named : (c : goal.After-slots-1) → name_of c.set.new.self ≡ c.args.name.now
 named c =
     ap string_bytes c.set.ensures.name
     ∙ ap name_of c.index_mut.ensures.value
-    ∙ position_named c.args.name.now c.args.slots.now.items 0 c.in-Some.at c.in-Some.at c.index_mut.result.now (first c) (omega arith)
+    ∙ position_named c.args.name.now c.args.slots.now.items 0 c.in-Some.index c.in-Some.index c.index_mut.result.now (first c) (omega arith)
 
 pub returns-in-Some-clause-names : goal.returns-in-Some-clause-names
 returns-in-Some-clause-names c =
-    map-set_same name_of c.args.slots.now.items c.in-Some.at c.set.new.self c.index_mut.result.now
+    map-set_same name_of c.args.slots.now.items c.in-Some.index c.set.new.self c.index_mut.result.now
     (ap string_bytes c.set.ensures.name ∙ ap name_of c.index_mut.ensures.value)
 
 pub returns-in-Some-clause-found : goal.returns-in-Some-clause-found
@@ -32,11 +32,11 @@ returns-in-Some-clause-found c =
 
 pub returns-in-Some-clause-stored : goal.returns-in-Some-clause-stored
 returns-in-Some-clause-stored c =
-    files_in-set c.args.name.now c.set.new.self c.set.ensures.present (named c) c.args.slots.now.items c.in-Some.at (first c)
+    files_in-set c.args.name.now c.set.new.self c.set.ensures.present (named c) c.args.slots.now.items c.in-Some.index (first c)
     ∙ ap (files.insert (files_in c.args.slots.now.items) c.args.name.now) c.set.ensures.bytes
 
 pub returns-in-None-clause-found : goal.returns-in-None-clause-found
 returns-in-None-clause-found c =
-    ap is_some (sym c.in-None.is ∙ c.place.ensures.first ∙ ap (position (has c.args.name.now)) c.deref.ensures.value
+    ap is_some (sym c.in-None.is ∙ c.index_of.ensures.first ∙ ap (position (has c.args.name.now)) c.deref.ensures.value
     ∙ position_from-zero (has c.args.name.now) c.args.slots.now.items)
     ∙ admitted_from c.args.name.now c.args.slots.now.items 0
