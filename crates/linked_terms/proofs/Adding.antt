@@ -1,5 +1,5 @@
 -- What adding a term makes of a decreasing list.
-use Rattle.std.proofs.Common.{◌≡◌, ◌≢◌, ℕ, zero, suc, ◌+◌, ◌-◌, ◌<◌, ◌≤◌, refl, sym, ap, ◌∙◌, subst, List, [], ◌∷◌, ◌++◌, length, length-append, append-nil, append_assoc, arith, Bool, true, false, cond, ◌⊎◌, inl, inr}
+use Rattle.std.proofs.Common.{◌≡◌, ◌≢◌, ◌+◌, ◌-◌, ◌<◌, ◌≤◌, refl, sym, ap, ◌∙◌, subst, [], ◌∷◌, ◌++◌, length, length-append, append-nil, append_assoc, arith, Bool, true, false, cond, inl, inr}
 use Rattle.std.proofs.lemmas.Bool.{true≢false}
 use Rattle.std.specs.declared.cmp.Ordering.TheVariants.{Less}
 use Rattle.word_field.specs.Field.{FieldOps, IsField, IsValue}
@@ -7,13 +7,13 @@ use Rattle.word_field.specs.laws.Field.{zero-plus, zero-plus-zero, zero-times}
 use Rattle.monomial_order.specs.declared.terms.Term.{Term}
 use Rattle.monomial_order.specs.Monomial.{Exponents}
 use Rattle.monomial_order.specs.MonomialOrder.{MonomialOrder, IsMonomialOrder}
-use Rattle.polynomials.specs.Polynomial.{Polynomial, same_monomial, share, coefficient, Same, term_of, term_times, scaled, AllAt, IsTerm, IsBelow, IsLeadTerm, IsDecreasing, IsSmall, IsCanonical}
+use Rattle.polynomials.specs.Polynomial.{Polynomial, same_monomial, share, coefficient, Same, term_of, term_times, scaled, AllAt, IsTerm, IsBelow, IsDecreasing, IsSmall, IsCanonical}
 use Rattle.polynomials.specs.laws.Ring.{coefficient_value}
 use Rattle.polynomials.specs.laws.Same.{append_same, append_comm}
 use Rattle.polynomials.specs.laws.Decreasing.{IsBelow_trans}
-use Rattle.polynomials.specs.laws.Terms.{AllAt-append, IsBelow-append, IsBelow-left, IsBelow-right, IsDecreasing-left, IsDecreasing-right, IsSmall-append, IsSmall-left, IsSmall-right}
+use Rattle.polynomials.specs.laws.Terms.{AllAt-append, IsBelow-append, IsBelow-right, IsDecreasing-left, IsDecreasing-right, IsSmall-append, IsSmall-left, IsSmall-right}
 use Rattle.linked_terms.specs.Cursor.{Cursor}
-use Rattle.linked_terms.specs.Merging.{IsAbove, NextIs, HasPassed, IsSought, IsCombined, IsAdded}
+use Rattle.linked_terms.specs.Merging.{IsAbove, NextIs, HasPassed, IsCombined, IsAdded}
 
 pub AllAt-map : {E : Type 0} (P Q : Exponents → Type 0) → ((k : Exponents) → P k → Q k) → (p : Polynomial E) → AllAt P p → AllAt Q p
 AllAt-map P Q h [] a = tt

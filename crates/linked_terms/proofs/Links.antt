@@ -1,5 +1,5 @@
 -- What each call does to the links.
-use Rattle.std.proofs.Common.{◌≡◌, ◌≢◌, ℕ, zero, suc, ◌+◌, ◌-◌, ◌<◌, ◌≤◌, refl, sym, ap, ◌∙◌, subst, List, [], ◌∷◌, ◌++◌, length, arith}
+use Rattle.std.proofs.Common.{◌≡◌, ◌≢◌, ℕ, zero, suc, ◌+◌, ◌-◌, ◌<◌, ◌≤◌, refl, sym, ap, ◌∙◌, subst, [], ◌∷◌, ◌++◌, arith}
 use Rattle.linked_terms.specs.Links.{times_in, walk, past, IsPartition, IsLinked}
 use Rattle.linked_terms.proofs.Walks.{times_in-here, times_in-append, times_in-more, differs, walk_more, past_more, walk_join, walk_same, walk_relinked, at_most_once, is_below, partition_advance, partition_insert, partition_remove, partition_rewind, partition_grow}
 

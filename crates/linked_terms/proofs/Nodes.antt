@@ -1,14 +1,14 @@
 -- What each call does to the nodes, and to the items of the list.
-use Rattle.std.proofs.Common.{◌≡◌, ◌≢◌, ℕ, zero, suc, ◌+◌, ◌-◌, ◌<◌, ◌≤◌, refl, sym, ap, ◌∙◌, subst, List, [], ◌∷◌, ◌++◌, length, get_or, set, length-set, length-append, arith, Option, Some, None, IsSome, ◌⊎◌, inl, inr}
+use Rattle.std.proofs.Common.{◌≡◌, ◌≢◌, ℕ, zero, suc, ◌+◌, ◌<◌, ◌≤◌, refl, sym, ap, ◌∙◌, subst, List, [], ◌∷◌, ◌++◌, length, get_or, set, arith, Option, Some, None, IsSome, ◌⊎◌, inl, inr}
 use Rattle.std.specs.Prelude.{filter_map, slice_get}
 use Rattle.std.proofs.lemmas.List.Elements.{filter_map-append}
 use Rattle.std.proofs.lemmas.Bool.{true≢false}
 use Rattle.std.proofs.lemmas.Option.{slice_get-get_or}
 use Rattle.linked_terms.specs.Cursor.{Cursor}
 use Rattle.linked_terms.specs.declared.cursor_list.Node.{Node}
-use Rattle.linked_terms.specs.Links.{times_in, walk, past, IsPartition, IsLinked, next_of, item_of, next_at, item_at, items, IsSound}
-use Rattle.linked_terms.proofs.Walks.{times_in-here, times_in-append, times_in-more, times_in-other, differs, equal_or_not, length-walk, at_most_once, is_below}
-use Rattle.linked_terms.proofs.Links.{IsInserted, IsRemoved, WalksInserted, WalksRemoved, links_advance, walk_advance, walk_rewind, links_rewind, links_insert, links_remove, links_grow}
+use Rattle.linked_terms.specs.Links.{times_in, walk, IsLinked, next_at, item_at, items, IsSound}
+use Rattle.linked_terms.proofs.Walks.{times_in-here, times_in-more, times_in-other, differs, equal_or_not, length-walk, at_most_once, is_below}
+use Rattle.linked_terms.proofs.Links.{IsInserted, IsRemoved, WalksInserted, WalksRemoved, links_advance, walk_advance, walk_rewind, links_rewind, links_insert, links_remove}
 
 module _ {A : Type 0} where
   pub slice_get-set : (xs : List A) (i : ℕ) (x : A) → i < length xs → slice_get (set xs i x) i ≡ Some x

@@ -1,9 +1,8 @@
 -- Adding the products of a term and the terms of a list, one after another.
-use Rattle.std.proofs.Common.{◌≡◌, ◌≢◌, ℕ, zero, suc, ◌+◌, ◌-◌, ◌<◌, ◌≤◌, refl, sym, ap, ◌∙◌, subst, List, [], ◌∷◌, ◌++◌, length, get_or, take, drop, append-nil, append_assoc, length-append, arith}
-use Rattle.std.specs.Prelude.{map}
+use Rattle.std.proofs.Common.{◌≡◌, ◌≢◌, ℕ, zero, suc, ◌+◌, ◌<◌, ◌≤◌, refl, sym, ap, ◌∙◌, subst, List, [], ◌∷◌, ◌++◌, length, get_or, take, drop, append-nil, append_assoc, length-append, arith}
 use Rattle.std.proofs.lemmas.List.{take-append-drop, take_more, drop_more, map-append}
 use Rattle.std.specs.declared.cmp.Ordering.TheVariants.{Less}
-use Rattle.word_field.specs.Field.{FieldOps, IsField, IsValue}
+use Rattle.word_field.specs.Field.{FieldOps, IsField}
 use Rattle.monomial_order.specs.declared.terms.Term.{Term}
 use Rattle.monomial_order.specs.Monomial.{Exponents, product}
 use Rattle.monomial_order.specs.MonomialOrder.{MonomialOrder, IsMonomialOrder}

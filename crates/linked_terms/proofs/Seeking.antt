@@ -1,5 +1,5 @@
 -- Walking to where a term belongs.
-use Rattle.std.proofs.Common.{◌≡◌, ◌≢◌, ℕ, ◌+◌, ◌≤◌, refl, sym, ap, ◌∙◌, subst, List, [], ◌∷◌, ◌++◌, length, append-nil, append_assoc, arith, Bool, true, false, inr}
+use Rattle.std.proofs.Common.{◌≡◌, ◌≢◌, ℕ, refl, sym, ap, ◌∙◌, subst, [], ◌∷◌, ◌++◌, append-nil, append_assoc, arith, true, false, inr}
 use Rattle.std.specs.Prelude.{All}
 use Rattle.std.specs.declared.cmp.Ordering.TheVariants.{Less, Equal, Greater}
 use Rattle.word_field.specs.Field.{FieldOps}
@@ -10,7 +10,7 @@ use Rattle.monomial_order.specs.laws.Comparing.{greater_less}
 use Rattle.polynomials.specs.Polynomial.{Polynomial, term_of, IsMeasured}
 use Rattle.polynomials.specs.laws.Terms.{all_back, AllAt-append}
 use Rattle.linked_terms.specs.Cursor.{Cursor}
-use Rattle.linked_terms.specs.Merging.{IsAbove, NextIs, HasPassed, IsSought, IsCombined}
+use Rattle.linked_terms.specs.Merging.{NextIs, HasPassed, IsSought, IsCombined}
 
 module _ {E : Type 0} (O : MonomialOrder) (L : IsMonomialOrder O) (m : Exponents) where
   pub passed_none : (l : Cursor (Term E)) → HasPassed O m l l

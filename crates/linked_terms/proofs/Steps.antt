@@ -1,14 +1,14 @@
 -- The same, as the calls give it.
 use Rattle.std.proofs.Common.{◌≡◌, ◌≢◌, ℕ, zero, suc, ◌+◌, ◌-◌, ◌<◌, ◌≤◌, refl, sym, ap, ◌∙◌, subst, List, [], ◌∷◌, ◌++◌, length, get_or, set, length-set, length-append, arith, Option, Some, None, IsSome, ◌⊎◌, inl, inr}
-use Rattle.std.specs.Prelude.{slice_get, filter_map, MatchOption, option_copied}
+use Rattle.std.specs.Prelude.{filter_map, MatchOption, option_copied}
 use Rattle.std.specs.Borrow.{Bor}
 use Rattle.std.proofs.lemmas.Option.{none-some, same_Some}
 use Rattle.linked_terms.specs.Cursor.{Cursor}
 use Rattle.linked_terms.specs.declared.cursor_list.Node.{Node}
 use Rattle.linked_terms.specs.Links.{times_in, walk, past, next_of, item_of, next_at, item_at, items, IsPartition, IsLinked, IsSound}
-use Rattle.linked_terms.proofs.Walks.{walk_same, times_in-here, times_in-append, times_in-more, times_in-other, differs, equal_or_not, at_most_once, is_below, walk_more}
-use Rattle.linked_terms.proofs.Links.{IsInserted, IsRemoved, left_before, links_grow}
-use Rattle.linked_terms.proofs.Nodes.{some_of, filter_map_same, slice_get-set, slice_get-set_other, slice_get-push, slice_get-pushed, slice_get_is, right_below, right_item, sound_advance, items_advance, free_below, IsFilled, ItemsInserted, sound_insert, IsEmptied, ItemsRemoved, sound_remove}
+use Rattle.linked_terms.proofs.Walks.{walk_same, times_in-here, times_in-more, times_in-other, differs, equal_or_not, at_most_once, is_below}
+use Rattle.linked_terms.proofs.Links.{left_before, links_grow}
+use Rattle.linked_terms.proofs.Nodes.{some_of, filter_map_same, slice_get-set, slice_get-set_other, slice_get-push, slice_get-pushed, slice_get_is, right_below, right_item, sound_advance, items_advance, free_below, IsFilled, sound_insert, IsEmptied, sound_remove}
 
 module _ {T : Type 0} (ns : List (Node T)) (i : ℕ) (node : Node T) (l : i < length ns) (e : node ≡ get_or ns i node) where
   pub next_is : next_at ns i ≡ node.next

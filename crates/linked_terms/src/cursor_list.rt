@@ -1,6 +1,5 @@
 //! A list with a cursor, whose nodes are linked by index.
-ghost use Rattle.std.specs.Prelude.{◌≡◌, ◌≢◌, ℕ, ◌+◌, ◌-◌, ◌<◌, ◌≤◌, ◌↔◌, List, [], ◌∷◌, ◌++◌, length, IsOk, IsNone, IfSome, MatchOption, OnOk, OnErr};
-ghost use Rattle.linked_terms.specs.Cursor.{Cursor};
+ghost use Rattle.std.specs.Prelude.{◌≡◌, ◌≢◌, ◌+◌, ◌-◌, ◌<◌, ◌≤◌, List, [], ◌∷◌, ◌++◌, length, IsOk, MatchOption, OnOk, OnErr};
 
 use monomial_order::Memory;
 use std::alloc::Global;

@@ -1,5 +1,5 @@
 //! Sums of decreasing lists of terms, made in the first of them.
-ghost use Rattle.std.specs.Prelude.{◌≡◌, ◌≢◌, ◌+◌, ◌<◌, ◌≤◌, List, [], ◌∷◌, ◌++◌, length, All};
+ghost use Rattle.std.specs.Prelude.{◌≡◌, ◌≢◌, ◌+◌, ◌<◌, ◌≤◌, [], ◌∷◌, ◌++◌, length, All};
 ghost use Rattle.monomial_order.specs.declared.terms.Term.{Term};
 ghost use Rattle.monomial_order.specs.Limits.{exponent_max};
 ghost use Rattle.word_field.specs.Field.{IsValue};
@@ -91,7 +91,8 @@ pub(crate) fn merge_scaled<F: Field, O: Order>(
     requires spare { length terms.now ≤ list.old.spare }
     ensures start { list.new.before ≡ [] }
     ensures canonical { IsCanonical (F.ops f.now) (O.order o.now) list.new.after }
-    ensures sum { Same (F.ops f.now) list.new.after (list.old.after ++ scaled (F.ops f.now) (term_of m.now c) terms.now) }
+    ensures sum { Same (F.ops f.now) list.new.after
+        (list.old.after ++ scaled (F.ops f.now) (term_of m.now c) terms.now) }
     ensures count { length list.new.after + list.new.spare ≡ length list.old.after + list.old.spare }
 {
     for t in terms {

@@ -1,8 +1,8 @@
-use Rattle.std.proofs.Common.{◌≡◌, ◌<◌, length, arith, ap, sym, subst, ◌∙◌}
+use Rattle.std.proofs.Common.{arith, sym}
 use Rattle.std.proofs.lemmas.Bool.{true≢false}
 use Rattle.monomial_order.specs.laws.Monomial.{product_fits}
 use Rattle.word_field.specs.Field.{IsValue}
-use Rattle.polynomials.specs.Polynomial.{term_of, term_times, AllAt, IsMeasured}
+use Rattle.polynomials.specs.Polynomial.{term_of, IsMeasured}
 use Rattle.polynomials.specs.laws.Terms.{all_at, canonical_measured, decreasing_values, small_scaled_at}
 use Rattle.linked_terms.proofs.Scaling.{merging_start, next_term, next_nonzero, next_small, merging_more, at_most, product_is}
 use Rattle.linked_terms.proofs.merging.merge_scaled.Goals as goal

@@ -1,5 +1,4 @@
 use Rattle.std.proofs.Common.{arith, refl}
-use Rattle.linked_terms.specs.Links.{items}
 use Rattle.linked_terms.proofs.Nodes.{cursor_is}
 use Rattle.linked_terms.proofs.Steps.{some_after, right_in, advance_sound, advance_items}
 use Rattle.linked_terms.proofs.cursor_list.CursorList.advance.Goals as goal

@@ -1,4 +1,4 @@
-use Rattle.std.proofs.Common.{arith, ap, sym, ◌∙◌, ◌<◌}
+use Rattle.std.proofs.Common.{arith, sym, ◌∙◌, ◌<◌}
 use Rattle.linked_terms.proofs.Steps.{right_in, item_right, item_is, first_is}
 use Rattle.linked_terms.proofs.cursor_list.CursorList.peek.Goals as goal
 

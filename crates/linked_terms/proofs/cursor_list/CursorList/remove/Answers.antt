@@ -1,5 +1,5 @@
-use Rattle.std.proofs.Common.{◌≡◌, ◌<◌, ◌+◌, ◌-◌, arith, refl, sym, ap, subst, ◌∙◌}
-use Rattle.linked_terms.specs.Links.{IsSound, next_at, items}
+use Rattle.std.proofs.Common.{◌≡◌, ◌<◌, arith, refl, sym, ap, ◌∙◌}
+use Rattle.linked_terms.specs.Links.{next_at}
 use Rattle.linked_terms.proofs.Nodes.{cursor_is}
 use Rattle.linked_terms.proofs.Steps.{next_is, item_is, item_right, left_in, right_in, emptied_first, emptied_next, remove_step, taken_is}
 use Rattle.linked_terms.proofs.cursor_list.CursorList.remove.Goals as goal

@@ -1,5 +1,4 @@
-use Rattle.std.proofs.Common.{◌-◌, arith, refl, ◌∙◌, ap, sym}
-use Rattle.linked_terms.proofs.Nodes.{cursor_is}
+use Rattle.std.proofs.Common.{◌-◌, arith, refl, ◌∙◌}
 use Rattle.linked_terms.proofs.Steps.{grow_step}
 use Rattle.linked_terms.proofs.cursor_list.CursorList.reserve.Goals as goal
 
