@@ -2,10 +2,10 @@
 use Rattle.std.specs.Prelude.{◌≡◌, ◌≢◌, ◌⊎◌, ◌↔◌, ℕ, ◌+◌, ◌≤◌, ◌<◌, List, [], ◌∷◌, ◌++◌, length, get_or, Contains, AllPairs, Some, None}
 use Rattle.monomial_order.specs.Monomial.{Exponents, IsMonomial, IsMultiple, Divides, AreCoprime, least_common_multiple, weighted_degree}
 use Rattle.word_laws.specs.Words.{Letters, AreLetters, word_order_of, image_of, IsWord, IsSWord, IsSmaller, IsReducible, IsMinimalReducible, IsLeast}
-use Rattle.word_rewriting.specs.Rewriting.{WordOrZero, RewriteRule, Rewrites, AreJoinable, HasLeftDivisor, IsNormalForm, IsCriticalPair, HasJoinablePair, JoinsPair, JoinsPairs}
+use Rattle.word_rewriting.specs.Rewriting.{WordOrZero, RewriteRule, Rewrites, AreJoinable, HasLeftDivisor, IsInNormalForm, IsNormalForm, IsCriticalPair, HasJoinablePair, JoinsPair, JoinsPairs}
 use Rattle.word_rewriting.specs.Renumbering.{AreRenumbered, AreRenumberedRules, IsRenumbered}
 use Rattle.word_rewriting.specs.Completion.{RulePair, HasConnectedPair, AreAbove, IsCompletion, HasPairsWith, first_rules, Orients, lead_rule_of, zero_rule_of}
-use Rattle.word_rewriting.specs.Completeness.{lead_letter, with_leads, AreInX, AreRewriteRules, HasImage, IsLeastOrZero, IsRightSide, GeneratesReducible, IsMissedWord, AreComplete, HaveDegreesTo, IsMinimalLeftSide}
+use Rattle.word_rewriting.specs.Completeness.{lead_letter, with_leads, AreInX, AreRewriteRules, HasImage, IsLeastOrZero, IsRightSide, GeneratesReducible, IsMissedWord, AreComplete, HaveDegreesTo, IsMinimalLeftSide, AreReducedRules}
 
 -- What a law holds of: rules R over letters L, with the multiples of Z as zero.
 abbrev pub ForRules : (List Exponents → Letters → List RewriteRule → Type 0) → Type 0
@@ -95,6 +95,11 @@ module _ (Z : List Exponents) (L : Letters) (R : List RewriteRule) where
   abbrev pub MinimalLeftSidesAreExact : ℕ → Type 0
   MinimalLeftSidesAreExact c = (u : Exponents) → IsWord L u → (word_order_of L).degree u ≤ c →
       IsMinimalReducible (IsMultiple Z) L u ↔ IsMinimalLeftSide R u
+
+  -- to the degree c the left sides of reduced rules are the minimal reducible words, each with the least word of its image
+  abbrev pub ReducedRulesAreExact : ℕ → Type 0
+  ReducedRulesAreExact c = AreReducedRules R → (r : RewriteRule) → Contains R r → (word_order_of L).degree r.left ≤ c →
+      IsMinimalReducible (IsMultiple Z) L r.left × IsLeastOrZero (IsMultiple Z) L (image_of L r.left) r.right
 
   -- rules whose left sides divide those of R generate the reducible words to the degree c, as R does
   abbrev pub DivisorsGenerate : ℕ → Type 0
@@ -217,6 +222,12 @@ module _ (Z : List Exponents) (L : Letters) (R : List RewriteRule) (listed : Lis
   ZeroRulesAreAdded = (new : List RulePair) (z u : Exponents) →
       IsMonomial (length L.degrees) z → Rewrites R (Some z) (Some u) → HasPairsWith R (zero_rule_of u) listed new →
       IsCompletion (IsMultiple (Z ++ z ∷ [])) (Z ++ z ∷ []) L (R ++ zero_rule_of u ∷ []) new
+
+-- the pairs of a rule whose left side is in normal form have a greater degree than that side
+abbrev pub NewPairsAreAbove : Letters → List RewriteRule → Type 0
+NewPairsAreAbove L R = (t : RewriteRule) → IsWord L t.left → IsInNormalForm R (Some t.left) →
+    (r : RewriteRule) → Contains R r →
+    (word_order_of L).degree t.left < (word_order_of L).degree (least_common_multiple r.left t.left)
 
 -- what rewrites to u and what rewrites to v is joined by a rule of u and v
 abbrev pub OrientedRulesJoin : List RewriteRule → Type 0

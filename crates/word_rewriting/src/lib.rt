@@ -10,7 +10,7 @@ ghost use Rattle.word_laws.specs.Words.{AreLetters, Letters};
 ghost use Rattle.word_rewriting.specs.Rewriting.{RewriteRule};
 ghost use Rattle.word_rewriting.specs.Completeness.{AreRewriteRules};
 ghost use Rattle.word_rewriting.specs.Completion.{RulePair};
-ghost use Rattle.word_rewriting.specs.Statements.{ChainsConnect, CompleteIfClosed, CompletenessIsExact, CompletionsBegin, CompletionsEnd, CompletionsGoOn, ConnectedPairsAreEnough, ConnectedPairsAreLeftOut, CoprimePairsAreJoinable, DifferencesMakeRules, DifferencesShowMissedWords, DivisorsGenerate, ForCompletions, ForGeneratingRules, ForRenumberedLeads, ForRules, JoinableStays, LaterPairsAreEnough, LeadsAreAdded, LeastWordsAreRenumbered, MinimalLeftSidesAreExact, NewLettersAreSmaller, NormalFormsAreFactors, NormalFormsAreLeast, NormalFormsExist, OrientedRulesJoin, PairsHaveOneImage, PairsShowMissedWords, ReducibleWordsAreRenumbered, RulesAreAdded, RulesAreRenumbered, RulesExist, RulesStay, TwiceTheDegreeIsEnough, WordsAreRenumbered, ZeroRulesAreAdded, ZerosAreAdded};
+ghost use Rattle.word_rewriting.specs.Statements.{ChainsConnect, CompleteIfClosed, CompletenessIsExact, CompletionsBegin, CompletionsEnd, CompletionsGoOn, ConnectedPairsAreEnough, ConnectedPairsAreLeftOut, CoprimePairsAreJoinable, DifferencesMakeRules, DifferencesShowMissedWords, DivisorsGenerate, ForCompletions, ForGeneratingRules, ForRenumberedLeads, ForRules, JoinableStays, LaterPairsAreEnough, LeadsAreAdded, LeastWordsAreRenumbered, MinimalLeftSidesAreExact, NewLettersAreSmaller, NewPairsAreAbove, NormalFormsAreFactors, NormalFormsAreLeast, NormalFormsExist, OrientedRulesJoin, PairsHaveOneImage, PairsShowMissedWords, ReducedRulesAreExact, ReducibleWordsAreRenumbered, RulesAreAdded, RulesAreRenumbered, RulesExist, RulesStay, TwiceTheDegreeIsEnough, WordsAreRenumbered, ZeroRulesAreAdded, ZerosAreAdded};
 
 /// Rules are complete exactly if their left sides generate the reducible words. There are such rules to each degree.
 pub fn criterion()
@@ -19,6 +19,7 @@ pub fn criterion()
     ensures closed { ForRules CompleteIfClosed }
     ensures exist { (Z : List Exponents) (L : Letters) → AreLetters L → RulesExist Z L }
     ensures minimal { ForGeneratingRules MinimalLeftSidesAreExact }
+    ensures reduced { ForGeneratingRules ReducedRulesAreExact }
     ensures divisors { ForGeneratingRules DivisorsGenerate }
 {}
 
@@ -66,6 +67,7 @@ pub fn completion()
     ensures begin { (Z : List Exponents) (L : Letters) → AreLetters L → CompletionsBegin Z L }
     ensures orient { (Z : List Exponents) (L : Letters) → AreLetters L → DifferencesMakeRules Z L }
     ensures join { (R : List RewriteRule) → OrientedRulesJoin R }
+    ensures above { ForRules (λ Z L R. NewPairsAreAbove L R) }
     ensures add { ForCompletions RulesAreAdded }
     ensures leave_out { ForCompletions ConnectedPairsAreLeftOut }
     ensures end { ForCompletions CompletionsEnd }

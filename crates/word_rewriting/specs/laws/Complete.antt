@@ -9,8 +9,8 @@ use Rattle.word_laws.specs.Words.{Letters, AreLetters, word_order_of, image_of, 
 use Rattle.word_laws.specs.laws.Words.{word_laws, x_word, image_same, degree_image, degree_x}
 use Rattle.word_laws.specs.laws.Reducible.{least_s_word}
 use Rattle.word_rewriting.specs.Rewriting.{WordOrZero, RewriteRule, Rewrites, HasLeftDivisor, IsNormalForm}
-use Rattle.word_rewriting.specs.Completeness.{AreInX, AreRewriteRules, AreComplete, GeneratesReducible, HaveDegreesTo, IsLeastOrZero, IsMinimalLeftSide, lead_letter}
-use Rattle.word_rewriting.specs.laws.Rewriting.{none_stays, Divides-product_right}
+use Rattle.word_rewriting.specs.Completeness.{AreInX, AreRewriteRules, AreComplete, GeneratesReducible, HaveDegreesTo, IsLeastOrZero, IsMinimalLeftSide, AreReducedRules, lead_letter}
+use Rattle.word_rewriting.specs.laws.Rewriting.{rule_rewrites, none_stays, Divides-product_right}
 use Rattle.word_rewriting.specs.laws.Criterion.{reducible_divided}
 use Rattle.word_rewriting.specs.laws.Letters.{letter_image, letter_word}
 use Rattle.word_rewriting.specs.laws.NormalForms.{pair_images, generated_joinable, divided_reducible, left_reducible, form_least, minimal_left, left_minimal}
@@ -122,4 +122,12 @@ module _ (IsZero : Exponents → Type 0) (L : Letters) (H : AreLetters L) (R : L
     minimal_exactly c generates u hu hd = (
       λ m. minimal_left IsZero L H R rules closed c generates u hu hd m,
       λ m. left_minimal IsZero L H R rules closed c generates u hu hd m,
+    )
+
+    -- the left sides of reduced rules are the minimal reducible words, each with the least word of its image
+    pub reduced_exactly : (c : ℕ) → GeneratesReducible IsZero L R c → AreReducedRules R → (r : RewriteRule) → Contains R r → (word_order_of L).degree r.left ≤ c →
+        IsMinimalReducible IsZero L r.left × IsLeastOrZero IsZero L (image_of L r.left) r.right
+    reduced_exactly c generates reduced r hr hd = (
+      (minimal_exactly c generates r.left (rules r hr).0 hd).1 (record { rule = r; listed = hr; left = refl; minimal = λ s hs k. reduced.left r s hr hs k }),
+      form_least IsZero L H R rules closed c generates r.left (rules r hr).0 hd r.right (record { rewrites = rule_rewrites R r hr; normal = reduced.right r hr }),
     )
