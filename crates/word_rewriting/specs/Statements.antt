@@ -53,6 +53,11 @@ module _ (Z : List Exponents) (L : Letters) (R : List RewriteRule) where
   ConnectedPairsAreEnough = (c : ℕ) (listed : List RulePair) → AreAbove (word_order_of L) c listed →
       AllPairs (HasConnectedPair R listed) R → JoinsPairs (word_order_of L) R c
 
+  -- each two rules have a critical pair
+  abbrev pub CriticalPairsExist : Type 0
+  CriticalPairsExist = (r s : RewriteRule) → Contains R r → Contains R s →
+      (a : WordOrZero) × (b : WordOrZero) × IsCriticalPair r s a b
+
   -- both members of a critical pair have the image of the least common multiple
   abbrev pub PairsHaveOneImage : Type 0
   PairsHaveOneImage = (r s : RewriteRule) → Contains R r → Contains R s → (a b : WordOrZero) → IsCriticalPair r s a b →
@@ -106,6 +111,11 @@ module _ (Z : List Exponents) (L : Letters) (R : List RewriteRule) where
   DivisorsGenerate c = (S : List RewriteRule) →
       ((r : RewriteRule) → Contains R r → (word_order_of L).degree r.left ≤ c → HasLeftDivisor S r.left) →
       GeneratesReducible (IsMultiple Z) L S c
+
+-- two rules have one critical pair
+abbrev pub CriticalPairsAreUnique : Type 0
+CriticalPairsAreUnique = (r s : RewriteRule) (a b x y : WordOrZero) →
+    IsCriticalPair r s a b → IsCriticalPair r s x y → (a ≡ x) × (b ≡ y)
 
 -- the chain criterion: a rule whose left side divides the least common multiple connects two others
 abbrev pub ChainsConnect : List RewriteRule → List RulePair → Type 0

@@ -10,7 +10,7 @@ ghost use Rattle.word_laws.specs.Words.{AreLetters, Letters};
 ghost use Rattle.word_rewriting.specs.Rewriting.{RewriteRule};
 ghost use Rattle.word_rewriting.specs.Completeness.{AreRewriteRules};
 ghost use Rattle.word_rewriting.specs.Completion.{RulePair};
-ghost use Rattle.word_rewriting.specs.Statements.{ChainsConnect, CompleteIfClosed, CompletenessIsExact, CompletionsBegin, CompletionsEnd, CompletionsGoOn, ConnectedPairsAreEnough, ConnectedPairsAreLeftOut, CoprimePairsAreJoinable, DifferencesMakeRules, DifferencesShowMissedWords, DivisorsGenerate, ForCompletions, ForGeneratingRules, ForRenumberedLeads, ForRules, JoinableStays, LaterPairsAreEnough, LeadsAreAdded, LeastWordsAreRenumbered, MinimalLeftSidesAreExact, NewLettersAreSmaller, NewPairsAreAbove, NormalFormsAreFactors, NormalFormsAreLeast, NormalFormsExist, OrientedRulesJoin, PairsHaveOneImage, PairsShowMissedWords, ReducedRulesAreExact, ReducibleWordsAreRenumbered, RulesAreAdded, RulesAreRenumbered, RulesExist, RulesStay, TwiceTheDegreeIsEnough, WordsAreRenumbered, ZeroRulesAreAdded, ZerosAreAdded};
+ghost use Rattle.word_rewriting.specs.Statements.{ChainsConnect, CompleteIfClosed, CompletenessIsExact, CompletionsBegin, CompletionsEnd, CompletionsGoOn, ConnectedPairsAreEnough, ConnectedPairsAreLeftOut, CoprimePairsAreJoinable, CriticalPairsAreUnique, CriticalPairsExist, DifferencesMakeRules, DifferencesShowMissedWords, DivisorsGenerate, ForCompletions, ForGeneratingRules, ForRenumberedLeads, ForRules, JoinableStays, LaterPairsAreEnough, LeadsAreAdded, LeastWordsAreRenumbered, MinimalLeftSidesAreExact, NewLettersAreSmaller, NewPairsAreAbove, NormalFormsAreFactors, NormalFormsAreLeast, NormalFormsExist, OrientedRulesJoin, PairsHaveOneImage, PairsShowMissedWords, ReducedRulesAreExact, ReducibleWordsAreRenumbered, RulesAreAdded, RulesAreRenumbered, RulesExist, RulesStay, TwiceTheDegreeIsEnough, WordsAreRenumbered, ZeroRulesAreAdded, ZerosAreAdded};
 
 /// Rules are complete exactly if their left sides generate the reducible words. There are such rules to each degree.
 pub fn criterion()
@@ -25,6 +25,8 @@ pub fn criterion()
 
 /// Which critical pairs are enough, what members of a pair have in common, and what a pair shows that is not joinable.
 pub fn critical_pairs()
+    ensures exist { ForRules CriticalPairsExist }
+    ensures unique { CriticalPairsAreUnique }
     ensures coprime { (Z : List Exponents) (L : Letters) (R : List RewriteRule) →
         AreRewriteRules (IsMultiple Z) L R → CoprimePairsAreJoinable Z L R }
     ensures later { (Z : List Exponents) (L : Letters) (R : List RewriteRule) →
