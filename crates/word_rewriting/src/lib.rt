@@ -4,11 +4,12 @@
 //! list Z count as zero.
 #![tactic(auto)]
 
-ghost use Rattle.std.specs.Prelude.{List, Contains, ◌≢◌, [], length};
+ghost use Rattle.std.specs.Prelude.{List, ℕ, Contains, ◌≢◌, [], length};
 ghost use Rattle.monomial_order.specs.Monomial.{Exponents, IsMonomial, IsMultiple};
 ghost use Rattle.word_laws.specs.Words.{AreLetters, Letters};
 ghost use Rattle.word_rewriting.specs.Rewriting.{RewriteRule};
-ghost use Rattle.word_rewriting.specs.Completeness.{AreRewriteRules};
+ghost use Rattle.word_rewriting.specs.Completeness.{AreComplete, AreReducedRules, AreRewriteRules, GeneratesReducible};
+ghost use Rattle.word_rewriting.specs.Samples.{sample_rules, square_and_cube};
 ghost use Rattle.word_rewriting.specs.Completion.{RulePair};
 ghost use Rattle.word_rewriting.specs.Statements.{ChainsConnect, CompleteIfClosed, CompletenessIsExact, CompletionsBegin, CompletionsEnd, CompletionsGoOn, ConnectedPairsAreEnough, ConnectedPairsAreLeftOut, CoprimePairsAreJoinable, CriticalPairsAreUnique, CriticalPairsExist, DifferencesMakeRules, DifferencesShowMissedWords, DivisorsGenerate, ForCompletions, ForGeneratingRules, ForRenumberedLeads, ForRules, JoinableStays, LaterPairsAreEnough, LeadsAreAdded, LeastWordsAreRenumbered, MinimalLeftSidesAreExact, NewLettersAreSmaller, NewPairsAreAbove, NormalFormsAreFactors, NormalFormsAreLeast, NormalFormsExist, OrientedRulesJoin, PairsHaveOneImage, PairsShowMissedWords, ReducedRulesAreExact, ReducibleWordsAreRenumbered, RulesAreAdded, RulesAreRenumbered, RulesExist, RulesStay, TwiceTheDegreeIsEnough, WordsAreRenumbered, ZeroRulesAreAdded, ZerosAreAdded};
 
@@ -81,4 +82,12 @@ pub fn resuming()
     ensures zeros { ForCompletions ZerosAreAdded }
     ensures zero_rules { ForCompletions ZeroRulesAreAdded }
     ensures rules { ForGeneratingRules CompletionsGoOn }
+{}
+
+/// Words over x of degree 1 with letters for x^2 and x^3: the rules that were found by hand are complete to every degree.
+pub fn sample()
+    ensures rules { AreRewriteRules (IsMultiple []) square_and_cube sample_rules }
+    ensures reduced { AreReducedRules sample_rules }
+    ensures complete { (c : ℕ) → AreComplete [] square_and_cube sample_rules c }
+    ensures generates { (c : ℕ) → GeneratesReducible (IsMultiple []) square_and_cube sample_rules c }
 {}

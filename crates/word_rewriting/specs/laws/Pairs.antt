@@ -46,7 +46,7 @@ pair_exists r s hr hs =
     )
 
 -- a rule rewrites a multiple of its left side
-rewrites_multiple : (R : List RewriteRule) (r : RewriteRule) (k : Exponents) → Contains R r → IsTrimmed k → Rewrites R (Some (product k r.left)) (multiple k r.right)
+pub rewrites_multiple : (R : List RewriteRule) (r : RewriteRule) (k : Exponents) → Contains R r → IsTrimmed k → Rewrites R (Some (product k r.left)) (multiple k r.right)
 rewrites_multiple R r k h hk = steps (record { rule = r; listed = h; by = record { cofactor = k; trimmed = hk; word = refl; result = refl } }) stays
 
 module _ (R : List RewriteRule) (r s : RewriteRule) (hr : Contains R r) (hs : Contains R s) where
