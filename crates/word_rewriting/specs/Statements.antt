@@ -239,7 +239,7 @@ NewPairsAreAbove L R = (t : RewriteRule) → IsWord L t.left → IsInNormalForm 
     (r : RewriteRule) → Contains R r →
     (word_order_of L).degree t.left < (word_order_of L).degree (least_common_multiple r.left t.left)
 
--- what rewrites to u and what rewrites to v is joined by a rule of u and v
+-- what rewrites to u is joinable with what rewrites to v once there is a rule of u and v
 abbrev pub OrientedRulesJoin : List RewriteRule → Type 0
 OrientedRulesJoin R = (t : RewriteRule) (a b u v : WordOrZero) →
     Orients t u v → Rewrites R a u → Rewrites R b v → AreJoinable (R ++ t ∷ []) a b

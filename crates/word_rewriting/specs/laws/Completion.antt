@@ -18,7 +18,7 @@ use Rattle.word_rewriting.specs.laws.Rewriting.{rule_rewrites, rewrites_trans, m
 use Rattle.word_rewriting.specs.laws.Criterion.{decreasing_rules}
 use Rattle.word_rewriting.specs.laws.NormalForms.{rewrites_image}
 use Rattle.word_rewriting.specs.laws.Connected.{later_connected, lift}
-use Rattle.word_rewriting.specs.laws.Complete.{AreZeros, generates_complete}
+use Rattle.word_rewriting.specs.laws.Complete.{GenerateZeros, generates_complete}
 use Rattle.word_rewriting.specs.laws.MoreLeads.{word_stays, rules_stay, new_letter_smaller}
 
 abbrev Grows : List RewriteRule → List RewriteRule → Type 0
@@ -86,7 +86,7 @@ module _ (IsZero : Exponents → Type 0) (Z : List Exponents) (L : Letters) wher
   }
 
   -- rules whose left sides generate the reducible words to c go on with the pairs above c
-  pub restarts : AreLetters L → IsZeroClosed (length L.degrees) IsZero → (R : List RewriteRule) (listed : List RulePair) (c : ℕ) → AreRewriteRules IsZero L R → AreZeros IsZero L Z c → GeneratesReducible IsZero L R c →
+  pub restarts : AreLetters L → IsZeroClosed (length L.degrees) IsZero → (R : List RewriteRule) (listed : List RulePair) (c : ℕ) → AreRewriteRules IsZero L R → GenerateZeros IsZero L Z c → GeneratesReducible IsZero L R c →
       ((m : Exponents) → Contains L.leads m → weighted_degree L.degrees m ≤ c) → ((z : Exponents) → Contains Z z → weighted_degree L.degrees z ≤ c) →
       AllPairs (λ r s. c < (word_order_of L).degree (lcm r.left s.left) → AreCoprime r.left s.left ⊎ Contains listed (r, s)) R →
       IsCompletion IsZero Z L R listed
