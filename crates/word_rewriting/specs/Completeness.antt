@@ -2,7 +2,7 @@
 use Rattle.std.specs.Prelude.{◌≡◌, ℕ, ◌+◌, ◌≤◌, ◌<◌, List, [], ◌++◌, length, get_or, Contains, Some, None}
 use Rattle.monomial_order.specs.Monomial.{Exponents, IsMonomial, Divides, variable, weighted_degree}
 use Rattle.word_laws.specs.Words.{Letters, word_order_of, image_of, IsWord, IsSmaller, IsReducible, IsLeast}
-use Rattle.word_rewriting.specs.Rewriting.{WordOrZero, RewriteRule, Rewrites, AreJoinable, HasLeftDivisor, JoinsPairs}
+use Rattle.word_rewriting.specs.Rewriting.{WordOrZero, RewriteRule, Rewrites, AreJoinable, HasLeftDivisor, IsInNormalForm, JoinsPairs}
 
 -- the letter of the lead at an index
 abbrev pub lead_letter : Letters → ℕ → Exponents
@@ -69,3 +69,8 @@ pub record IsMinimalLeftSide (R : List RewriteRule) (u : Exponents) : Type 0 whe
   pub listed : Contains R rule
   pub left : rule.left ≡ u
   pub minimal : (s : RewriteRule) → Contains R s → Divides s.left u → s.left ≡ u
+
+-- right sides are in normal form, and no left side divides another one
+pub record AreReducedRules (R : List RewriteRule) : Type 0 where
+  pub right : (r : RewriteRule) → Contains R r → IsInNormalForm R r.right
+  pub left : (r s : RewriteRule) → Contains R r → Contains R s → Divides s.left r.left → s.left ≡ r.left

@@ -2,10 +2,10 @@
 use Rattle.std.specs.Prelude.{◌≡◌, ◌≢◌, ◌⊎◌, ◌↔◌, ℕ, ◌+◌, ◌≤◌, ◌<◌, List, [], ◌∷◌, ◌++◌, length, get_or, Contains, AllPairs, Some, None}
 use Rattle.monomial_order.specs.Monomial.{Exponents, IsMonomial, IsMultiple, Divides, AreCoprime, least_common_multiple, weighted_degree}
 use Rattle.word_laws.specs.Words.{Letters, AreLetters, word_order_of, image_of, IsWord, IsSWord, IsSmaller, IsReducible, IsMinimalReducible, IsLeast}
-use Rattle.word_rewriting.specs.Rewriting.{WordOrZero, RewriteRule, Rewrites, AreJoinable, HasLeftDivisor, IsNormalForm, IsCriticalPair, HasJoinablePair, JoinsPair, JoinsPairs}
+use Rattle.word_rewriting.specs.Rewriting.{WordOrZero, RewriteRule, Rewrites, AreJoinable, HasLeftDivisor, IsInNormalForm, IsNormalForm, IsCriticalPair, HasJoinablePair, JoinsPair, JoinsPairs}
 use Rattle.word_rewriting.specs.Renumbering.{AreRenumbered, AreRenumberedRules, IsRenumbered}
 use Rattle.word_rewriting.specs.Completion.{RulePair, HasConnectedPair, AreAbove, IsCompletion, HasPairsWith, first_rules, Orients, lead_rule_of, zero_rule_of}
-use Rattle.word_rewriting.specs.Completeness.{lead_letter, with_leads, AreInX, AreRewriteRules, HasImage, IsLeastOrZero, IsRightSide, GeneratesReducible, IsMissedWord, AreComplete, HaveDegreesTo, IsMinimalLeftSide}
+use Rattle.word_rewriting.specs.Completeness.{lead_letter, with_leads, AreInX, AreRewriteRules, HasImage, IsLeastOrZero, IsRightSide, GeneratesReducible, IsMissedWord, AreComplete, HaveDegreesTo, IsMinimalLeftSide, AreReducedRules}
 
 -- What a law holds of: rules R over letters L, with the multiples of Z as zero.
 abbrev pub ForRules : (List Exponents → Letters → List RewriteRule → Type 0) → Type 0
@@ -53,6 +53,11 @@ module _ (Z : List Exponents) (L : Letters) (R : List RewriteRule) where
   ConnectedPairsAreEnough = (c : ℕ) (listed : List RulePair) → AreAbove (word_order_of L) c listed →
       AllPairs (HasConnectedPair R listed) R → JoinsPairs (word_order_of L) R c
 
+  -- each two rules have a critical pair
+  abbrev pub CriticalPairsExist : Type 0
+  CriticalPairsExist = (r s : RewriteRule) → Contains R r → Contains R s →
+      (a : WordOrZero) × (b : WordOrZero) × IsCriticalPair r s a b
+
   -- both members of a critical pair have the image of the least common multiple
   abbrev pub PairsHaveOneImage : Type 0
   PairsHaveOneImage = (r s : RewriteRule) → Contains R r → Contains R s → (a b : WordOrZero) → IsCriticalPair r s a b →
@@ -96,11 +101,21 @@ module _ (Z : List Exponents) (L : Letters) (R : List RewriteRule) where
   MinimalLeftSidesAreExact c = (u : Exponents) → IsWord L u → (word_order_of L).degree u ≤ c →
       IsMinimalReducible (IsMultiple Z) L u ↔ IsMinimalLeftSide R u
 
+  -- to the degree c the left sides of reduced rules are the minimal reducible words, each with the least word of its image
+  abbrev pub ReducedRulesAreExact : ℕ → Type 0
+  ReducedRulesAreExact c = AreReducedRules R → (r : RewriteRule) → Contains R r → (word_order_of L).degree r.left ≤ c →
+      IsMinimalReducible (IsMultiple Z) L r.left × IsLeastOrZero (IsMultiple Z) L (image_of L r.left) r.right
+
   -- rules whose left sides divide those of R generate the reducible words to the degree c, as R does
   abbrev pub DivisorsGenerate : ℕ → Type 0
   DivisorsGenerate c = (S : List RewriteRule) →
       ((r : RewriteRule) → Contains R r → (word_order_of L).degree r.left ≤ c → HasLeftDivisor S r.left) →
       GeneratesReducible (IsMultiple Z) L S c
+
+-- two rules have one critical pair
+abbrev pub CriticalPairsAreUnique : Type 0
+CriticalPairsAreUnique = (r s : RewriteRule) (a b x y : WordOrZero) →
+    IsCriticalPair r s a b → IsCriticalPair r s x y → (a ≡ x) × (b ≡ y)
 
 -- the chain criterion: a rule whose left side divides the least common multiple connects two others
 abbrev pub ChainsConnect : List RewriteRule → List RulePair → Type 0
@@ -218,7 +233,13 @@ module _ (Z : List Exponents) (L : Letters) (R : List RewriteRule) (listed : Lis
       IsMonomial (length L.degrees) z → Rewrites R (Some z) (Some u) → HasPairsWith R (zero_rule_of u) listed new →
       IsCompletion (IsMultiple (Z ++ z ∷ [])) (Z ++ z ∷ []) L (R ++ zero_rule_of u ∷ []) new
 
--- what rewrites to u and what rewrites to v is joined by a rule of u and v
+-- the pairs of a rule whose left side is in normal form have a greater degree than that side
+abbrev pub NewPairsAreAbove : Letters → List RewriteRule → Type 0
+NewPairsAreAbove L R = (t : RewriteRule) → IsWord L t.left → IsInNormalForm R (Some t.left) →
+    (r : RewriteRule) → Contains R r →
+    (word_order_of L).degree t.left < (word_order_of L).degree (least_common_multiple r.left t.left)
+
+-- what rewrites to u is joinable with what rewrites to v once there is a rule of u and v
 abbrev pub OrientedRulesJoin : List RewriteRule → Type 0
 OrientedRulesJoin R = (t : RewriteRule) (a b u v : WordOrZero) →
     Orients t u v → Rewrites R a u → Rewrites R b v → AreJoinable (R ++ t ∷ []) a b

@@ -4,13 +4,14 @@
 //! list Z count as zero.
 #![tactic(auto)]
 
-ghost use Rattle.std.specs.Prelude.{List, Contains, ◌≢◌, [], length};
+ghost use Rattle.std.specs.Prelude.{List, ℕ, Contains, ◌≢◌, [], length};
 ghost use Rattle.monomial_order.specs.Monomial.{Exponents, IsMonomial, IsMultiple};
 ghost use Rattle.word_laws.specs.Words.{AreLetters, Letters};
 ghost use Rattle.word_rewriting.specs.Rewriting.{RewriteRule};
-ghost use Rattle.word_rewriting.specs.Completeness.{AreRewriteRules};
+ghost use Rattle.word_rewriting.specs.Completeness.{AreComplete, AreReducedRules, AreRewriteRules, GeneratesReducible};
+ghost use Rattle.word_rewriting.specs.Samples.{sample_rules, square_and_cube};
 ghost use Rattle.word_rewriting.specs.Completion.{RulePair};
-ghost use Rattle.word_rewriting.specs.Statements.{ChainsConnect, CompleteIfClosed, CompletenessIsExact, CompletionsBegin, CompletionsEnd, CompletionsGoOn, ConnectedPairsAreEnough, ConnectedPairsAreLeftOut, CoprimePairsAreJoinable, DifferencesMakeRules, DifferencesShowMissedWords, DivisorsGenerate, ForCompletions, ForGeneratingRules, ForRenumberedLeads, ForRules, JoinableStays, LaterPairsAreEnough, LeadsAreAdded, LeastWordsAreRenumbered, MinimalLeftSidesAreExact, NewLettersAreSmaller, NormalFormsAreFactors, NormalFormsAreLeast, NormalFormsExist, OrientedRulesJoin, PairsHaveOneImage, PairsShowMissedWords, ReducibleWordsAreRenumbered, RulesAreAdded, RulesAreRenumbered, RulesExist, RulesStay, TwiceTheDegreeIsEnough, WordsAreRenumbered, ZeroRulesAreAdded, ZerosAreAdded};
+ghost use Rattle.word_rewriting.specs.Statements.{ChainsConnect, CompleteIfClosed, CompletenessIsExact, CompletionsBegin, CompletionsEnd, CompletionsGoOn, ConnectedPairsAreEnough, ConnectedPairsAreLeftOut, CoprimePairsAreJoinable, CriticalPairsAreUnique, CriticalPairsExist, DifferencesMakeRules, DifferencesShowMissedWords, DivisorsGenerate, ForCompletions, ForGeneratingRules, ForRenumberedLeads, ForRules, JoinableStays, LaterPairsAreEnough, LeadsAreAdded, LeastWordsAreRenumbered, MinimalLeftSidesAreExact, NewLettersAreSmaller, NewPairsAreAbove, NormalFormsAreFactors, NormalFormsAreLeast, NormalFormsExist, OrientedRulesJoin, PairsHaveOneImage, PairsShowMissedWords, ReducedRulesAreExact, ReducibleWordsAreRenumbered, RulesAreAdded, RulesAreRenumbered, RulesExist, RulesStay, TwiceTheDegreeIsEnough, WordsAreRenumbered, ZeroRulesAreAdded, ZerosAreAdded};
 
 /// Rules are complete exactly if their left sides generate the reducible words. There are such rules to each degree.
 pub fn criterion()
@@ -19,11 +20,14 @@ pub fn criterion()
     ensures closed { ForRules CompleteIfClosed }
     ensures exist { (Z : List Exponents) (L : Letters) → AreLetters L → RulesExist Z L }
     ensures minimal { ForGeneratingRules MinimalLeftSidesAreExact }
+    ensures reduced { ForGeneratingRules ReducedRulesAreExact }
     ensures divisors { ForGeneratingRules DivisorsGenerate }
 {}
 
 /// Which critical pairs are enough, what members of a pair have in common, and what a pair shows that is not joinable.
 pub fn critical_pairs()
+    ensures exist { ForRules CriticalPairsExist }
+    ensures unique { CriticalPairsAreUnique }
     ensures coprime { (Z : List Exponents) (L : Letters) (R : List RewriteRule) →
         AreRewriteRules (IsMultiple Z) L R → CoprimePairsAreJoinable Z L R }
     ensures later { (Z : List Exponents) (L : Letters) (R : List RewriteRule) →
@@ -66,6 +70,7 @@ pub fn completion()
     ensures begin { (Z : List Exponents) (L : Letters) → AreLetters L → CompletionsBegin Z L }
     ensures orient { (Z : List Exponents) (L : Letters) → AreLetters L → DifferencesMakeRules Z L }
     ensures join { (R : List RewriteRule) → OrientedRulesJoin R }
+    ensures above { ForRules (λ Z L R. NewPairsAreAbove L R) }
     ensures add { ForCompletions RulesAreAdded }
     ensures leave_out { ForCompletions ConnectedPairsAreLeftOut }
     ensures end { ForCompletions CompletionsEnd }
@@ -77,4 +82,12 @@ pub fn resuming()
     ensures zeros { ForCompletions ZerosAreAdded }
     ensures zero_rules { ForCompletions ZeroRulesAreAdded }
     ensures rules { ForGeneratingRules CompletionsGoOn }
+{}
+
+/// Words over x of degree 1 with letters for x^2 and x^3: the rules that were found by hand are complete to every degree.
+pub fn sample()
+    ensures rules { AreRewriteRules (IsMultiple []) square_and_cube sample_rules }
+    ensures reduced { AreReducedRules sample_rules }
+    ensures complete { (c : ℕ) → AreComplete [] square_and_cube sample_rules c }
+    ensures generates { (c : ℕ) → GeneratesReducible (IsMultiple []) square_and_cube sample_rules c }
 {}

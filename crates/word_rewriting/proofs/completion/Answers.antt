@@ -1,6 +1,6 @@
 use Rattle.std.proofs.Common.{arith}
 use Rattle.monomial_order.specs.Monomial.{IsMultiple}
-use Rattle.word_rewriting.specs.laws.Completion.{begins, orients, oriented_joins, adds, joins, ends}
+use Rattle.word_rewriting.specs.laws.Completion.{begins, orients, oriented_joins, pairs_above, adds, joins, ends}
 use Rattle.word_rewriting.proofs.completion.Goals as goal
 
 pub returns-clause-begin : goal.returns-clause-begin
@@ -20,3 +20,6 @@ returns-clause-orient g Z L H = orients (IsMultiple Z) Z L H
 
 pub returns-clause-join : goal.returns-clause-join
 returns-clause-join g = oriented_joins
+
+pub returns-clause-above : goal.returns-clause-above
+returns-clause-above g Z L R H rules = pairs_above L H R (λ r k. (rules r k).0)

@@ -1,7 +1,7 @@
 use Rattle.std.specs.Prelude.{length}
 use Rattle.monomial_order.specs.Monomial.{IsMultiple}
 use Rattle.word_laws.specs.laws.Reducible.{multiple_closed, multiple_decided}
-use Rattle.word_rewriting.specs.laws.Complete.{zero_multiples, complete_generates, generates_complete, complete_exactly, closed_exactly, minimal_exactly, divisors_generate}
+use Rattle.word_rewriting.specs.laws.Complete.{zero_multiples, complete_generates, generates_complete, complete_exactly, closed_exactly, minimal_exactly, reduced_exactly, divisors_generate}
 use Rattle.word_rewriting.specs.laws.Existence.{rules_exist}
 use Rattle.word_rewriting.proofs.criterion.Goals as goal
 
@@ -27,3 +27,6 @@ returns-clause-minimal g Z L R c H rules generates = minimal_exactly (IsMultiple
 
 pub returns-clause-divisors : goal.returns-clause-divisors
 returns-clause-divisors g Z L R c H rules generates = divisors_generate (IsMultiple Z) L H R rules Z c generates
+
+pub returns-clause-reduced : goal.returns-clause-reduced
+returns-clause-reduced g Z L R c H rules generates = reduced_exactly (IsMultiple Z) L H R rules Z (multiple_closed (length L.degrees) Z) c generates

@@ -5,7 +5,7 @@ use Rattle.word_laws.specs.laws.Reducible.{multiple_closed}
 use Rattle.word_rewriting.specs.laws.Criterion.{decreasing_rules}
 use Rattle.word_laws.specs.laws.Words.{word_laws}
 use Rattle.word_rewriting.specs.laws.Connected.{chain, later_connected}
-use Rattle.word_rewriting.specs.laws.Pairs.{coprime_joinable, pairs_enough}
+use Rattle.word_rewriting.specs.laws.Pairs.{one_pair, pair_exists, coprime_joinable, pairs_enough}
 use Rattle.word_rewriting.specs.laws.NormalForms.{pair_images, pair_shows}
 use Rattle.word_rewriting.proofs.critical_pairs.Goals as goal
 
@@ -27,3 +27,9 @@ returns-clause-connected g Z L R H rules c listed =
 
 pub returns-clause-chain : goal.returns-clause-chain
 returns-clause-chain g R listed = chain R listed
+
+pub returns-clause-exist : goal.returns-clause-exist
+returns-clause-exist g Z L R H rules r s hr hs = pair_exists r s (rules r hr).0.trimmed (rules s hs).0.trimmed
+
+pub returns-clause-unique : goal.returns-clause-unique
+returns-clause-unique g = one_pair

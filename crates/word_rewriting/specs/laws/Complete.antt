@@ -9,25 +9,25 @@ use Rattle.word_laws.specs.Words.{Letters, AreLetters, word_order_of, image_of, 
 use Rattle.word_laws.specs.laws.Words.{word_laws, x_word, image_same, degree_image, degree_x}
 use Rattle.word_laws.specs.laws.Reducible.{least_s_word}
 use Rattle.word_rewriting.specs.Rewriting.{WordOrZero, RewriteRule, Rewrites, HasLeftDivisor, IsNormalForm}
-use Rattle.word_rewriting.specs.Completeness.{AreInX, AreRewriteRules, AreComplete, GeneratesReducible, HaveDegreesTo, IsLeastOrZero, IsMinimalLeftSide, lead_letter}
-use Rattle.word_rewriting.specs.laws.Rewriting.{none_stays, Divides-product_right}
+use Rattle.word_rewriting.specs.Completeness.{AreInX, AreRewriteRules, AreComplete, GeneratesReducible, HaveDegreesTo, IsLeastOrZero, IsMinimalLeftSide, AreReducedRules, lead_letter}
+use Rattle.word_rewriting.specs.laws.Rewriting.{rule_rewrites, none_stays, Divides-product_right}
 use Rattle.word_rewriting.specs.laws.Criterion.{reducible_divided}
 use Rattle.word_rewriting.specs.laws.Letters.{letter_image, letter_word}
 use Rattle.word_rewriting.specs.laws.NormalForms.{pair_images, generated_joinable, divided_reducible, left_reducible, form_least, minimal_left, left_minimal}
 
--- To the degree c the monomials that count as zero are the multiples of the members of Z, which are monomials in the x.
-pub record AreZeros (IsZero : Exponents → Type 0) (L : Letters) (Z : List Exponents) (c : ℕ) : Type 0 where
+-- Members of Z are monomials in the x that count as zero, and to the degree c each such monomial is a multiple of one.
+pub record GenerateZeros (IsZero : Exponents → Type 0) (L : Letters) (Z : List Exponents) (c : ℕ) : Type 0 where
   pub in_x : AreInX L Z
   pub zero : (z : Exponents) → Contains Z z → IsZero z
   pub generate : (m : Exponents) → IsMonomial (length L.degrees) m → weighted_degree L.degrees m ≤ c → IsZero m → IsMultiple Z m
 
 -- the multiples of Z are these
-pub zero_multiples : (L : Letters) (Z : List Exponents) → AreInX L Z → (c : ℕ) → AreZeros (IsMultiple Z) L Z c
+pub zero_multiples : (L : Letters) (Z : List Exponents) → AreInX L Z → (c : ℕ) → GenerateZeros (IsMultiple Z) L Z c
 zero_multiples L Z h c = record { in_x = h; zero = λ z k. (z, k, λ i. omega arith); generate = λ m hm d k. k }
 
 module _ (IsZero : Exponents → Type 0) (L : Letters) (H : AreLetters L) (R : List RewriteRule) (rules : AreRewriteRules IsZero L R) (Z : List Exponents) where
   -- the left sides of complete rules generate the reducible words
-  pub complete_generates : (c : ℕ) → AreZeros IsZero L Z c → AreComplete Z L R c → GeneratesReducible IsZero L R c
+  pub complete_generates : (c : ℕ) → GenerateZeros IsZero L Z c → AreComplete Z L R c → GeneratesReducible IsZero L R c
   complete_generates c zs k w hw d red =
       reducible_divided IsZero L H R rules c k.pairs k.leads Z zs.in_x zs.generate k.zeros w (record { monomial = hw; degree = d }) red
 
@@ -42,7 +42,7 @@ module _ (IsZero : Exponents → Type 0) (L : Letters) (H : AreLetters L) (R : L
 
   module _ (closed : IsZeroClosed (length L.degrees) IsZero) where
     -- rules whose left sides generate the reducible words are complete
-    pub generates_complete : (c : ℕ) → AreZeros IsZero L Z c → GeneratesReducible IsZero L R c → AreComplete Z L R c
+    pub generates_complete : (c : ℕ) → GenerateZeros IsZero L Z c → GeneratesReducible IsZero L R c → AreComplete Z L R c
     generates_complete c zs generates = record {
       leads = λ i l e.
           let lead = H.leads (get_or L.leads i []) (contains_at L.leads i [] l) in
@@ -76,7 +76,7 @@ module _ (IsZero : Exponents → Type 0) (L : Letters) (H : AreLetters L) (R : L
           omega arith);
     }
 
-    module _ (d : ℕ) (zs : (c : ℕ) → AreZeros IsZero L Z c) (bound : HaveDegreesTo Z L R d) where
+    module _ (d : ℕ) (zs : (c : ℕ) → GenerateZeros IsZero L Z c) (bound : HaveDegreesTo Z L R d) where
       pub complete_exactly : AreComplete Z L R (d + d) ↔ ((w : Exponents) → IsWord L w → IsReducible IsZero L w ↔ HasLeftDivisor R w)
       complete_exactly = (
         λ k w hw. (
@@ -122,4 +122,12 @@ module _ (IsZero : Exponents → Type 0) (L : Letters) (H : AreLetters L) (R : L
     minimal_exactly c generates u hu hd = (
       λ m. minimal_left IsZero L H R rules closed c generates u hu hd m,
       λ m. left_minimal IsZero L H R rules closed c generates u hu hd m,
+    )
+
+    -- the left sides of reduced rules are the minimal reducible words, each with the least word of its image
+    pub reduced_exactly : (c : ℕ) → GeneratesReducible IsZero L R c → AreReducedRules R → (r : RewriteRule) → Contains R r → (word_order_of L).degree r.left ≤ c →
+        IsMinimalReducible IsZero L r.left × IsLeastOrZero IsZero L (image_of L r.left) r.right
+    reduced_exactly c generates reduced r hr hd = (
+      (minimal_exactly c generates r.left (rules r hr).0 hd).1 (record { rule = r; listed = hr; left = refl; minimal = λ s hs k. reduced.left r s hr hs k }),
+      form_least IsZero L H R rules closed c generates r.left (rules r hr).0 hd r.right (record { rewrites = rule_rewrites R r hr; normal = reduced.right r hr }),
     )

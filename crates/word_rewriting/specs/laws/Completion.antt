@@ -6,27 +6,20 @@ use Rattle.std.proofs.lemmas.List.Elements.{Contains-append_cases}
 use Rattle.std.proofs.lemmas.List.Quantifiers.{all_pairs_push}
 use Rattle.monomial_order.specs.Monomial.{Exponents, IsMonomial, Divides, AreCoprime, variable, weighted_degree, least_common_multiple as lcm}
 use Rattle.monomial_order.specs.laws.Cofactors.{least_common_multiple_least, Divides-least_common_multiple, Divides-least_common_multiple_right}
-use Rattle.monomial_order.specs.laws.Comparing.{le_or_not, three_ways}
+use Rattle.monomial_order.specs.laws.Monomial.{IsMonomial-least_common_multiple}
+use Rattle.monomial_order.specs.laws.Comparing.{equal_or_not, le_or_not, proper_divisor, three_ways}
 use Rattle.monomial_order.specs.laws.Lists.{contains_at, contains_cases, contains_here, contains_there, contains_none, contains_left, contains_right, contains_map}
 use Rattle.word_laws.specs.Words.{Letters, AreLetters, word_order_of, image_of, IsWord, IsSmaller, IsZeroClosed}
 use Rattle.word_laws.specs.laws.Words.{word_laws, x_word, image_same}
-use Rattle.word_rewriting.specs.Rewriting.{WordOrZero, RewriteRule, Rewrites, stays, steps, AreJoinable, multiple}
+use Rattle.word_rewriting.specs.Rewriting.{WordOrZero, RewriteRule, Rewrites, stays, AreJoinable, IsInNormalForm}
 use Rattle.word_rewriting.specs.Completeness.{lead_letter, with_leads, AreInX, IsRightSide, AreRewriteRules, HasImage, GeneratesReducible, AreComplete}
 use Rattle.word_rewriting.specs.Completion.{RulePair, AreConnected, directly, turned, through, HasConnectedPair, AreAbove, IsCompletion, HasPairsWith, lead_rules, zero_rules, first_rules, Orients, lead_rule_of, zero_rule_of}
-use Rattle.word_rewriting.specs.laws.Rewriting.{rewrites_trans, more_rewrites, more_joinable}
+use Rattle.word_rewriting.specs.laws.Rewriting.{rule_rewrites, rewrites_trans, more_rewrites, more_joinable}
 use Rattle.word_rewriting.specs.laws.Criterion.{decreasing_rules}
 use Rattle.word_rewriting.specs.laws.NormalForms.{rewrites_image}
 use Rattle.word_rewriting.specs.laws.Connected.{later_connected, lift}
-use Rattle.word_rewriting.specs.laws.Complete.{AreZeros, generates_complete}
+use Rattle.word_rewriting.specs.laws.Complete.{GenerateZeros, generates_complete}
 use Rattle.word_rewriting.specs.laws.MoreLeads.{word_stays, rules_stay, new_letter_smaller}
-
--- a rule rewrites its left side
-pub rule_rewrites : (R : List RewriteRule) (t : RewriteRule) → Contains R t → Rewrites R (Some t.left) t.right
-rule_rewrites R t h = steps (record { rule = t; listed = h; by = record { cofactor = []; trimmed = tt; word = refl; result = once t.right } }) stays
-  where
-    once : (a : WordOrZero) → multiple [] a ≡ a
-    once None = refl
-    once (Some v) = refl
 
 abbrev Grows : List RewriteRule → List RewriteRule → Type 0
 Grows R S = (r : RewriteRule) → Contains R r → Contains S r
@@ -93,7 +86,7 @@ module _ (IsZero : Exponents → Type 0) (Z : List Exponents) (L : Letters) wher
   }
 
   -- rules whose left sides generate the reducible words to c go on with the pairs above c
-  pub restarts : AreLetters L → IsZeroClosed (length L.degrees) IsZero → (R : List RewriteRule) (listed : List RulePair) (c : ℕ) → AreRewriteRules IsZero L R → AreZeros IsZero L Z c → GeneratesReducible IsZero L R c →
+  pub restarts : AreLetters L → IsZeroClosed (length L.degrees) IsZero → (R : List RewriteRule) (listed : List RulePair) (c : ℕ) → AreRewriteRules IsZero L R → GenerateZeros IsZero L Z c → GeneratesReducible IsZero L R c →
       ((m : Exponents) → Contains L.leads m → weighted_degree L.degrees m ≤ c) → ((z : Exponents) → Contains Z z → weighted_degree L.degrees z ≤ c) →
       AllPairs (λ r s. c < (word_order_of L).degree (lcm r.left s.left) → AreCoprime r.left s.left ⊎ Contains listed (r, s)) R →
       IsCompletion IsZero Z L R listed
@@ -122,7 +115,7 @@ module _ (IsZero : Exponents → Type 0) (Z : List Exponents) (L : Letters) wher
       (λ l. (record { left = u; right = Some v }, inl (refl, refl), (hu.0, record { word = hv.0; image = hv.1 ∙ sym hu.1; less = l }))) b)
       (three_ways (word_order_of L) (word_laws L H) u v)
 
--- and this rule joins what rewrites to them
+-- such a rule joins what rewrites to them
 pub oriented_joins : (R : List RewriteRule) (t : RewriteRule) (a b u v : WordOrZero) → Orients t u v → Rewrites R a u → Rewrites R b v → AreJoinable (R ++ t ∷ []) a b
 oriented_joins R t a b u v o ha hb =
     ⊎_elim
@@ -278,3 +271,12 @@ module _ (IsZero : Exponents → Type 0) (L : Letters) (H : AreLetters L) (close
 
       last : Rewrites (R ++ t ∷ []) (Some z) None
       last = rewrites_trans (R ++ t ∷ []) (more_rewrites R (R ++ t ∷ []) (contains_left R (t ∷ [])) to) (rule_rewrites (R ++ t ∷ []) t (contains_right R (t ∷ []) t (contains_here t [])))
+
+-- the pairs of a rule whose left side is in normal form are above its degree
+pub pairs_above : (L : Letters) → AreLetters L → (R : List RewriteRule) → ((r : RewriteRule) → Contains R r → IsWord L r.left) → (t : RewriteRule) → IsWord L t.left → IsInNormalForm R (Some t.left) →
+    (r : RewriteRule) → Contains R r → (word_order_of L).degree t.left < (word_order_of L).degree (lcm r.left t.left)
+pairs_above L H R words t ht none r hr =
+    ⊎_elim (λ e. absurd (none (r, hr, subst (Divides r.left) (sym e) (Divides-least_common_multiple r.left t.left))))
+    (λ ne. (proper_divisor (word_order_of L) (word_laws L H) t.left (lcm r.left t.left)
+    (IsMonomial-least_common_multiple (word_order_of L).places r.left t.left (words r hr) ht) ht.trimmed (Divides-least_common_multiple_right r.left t.left) ne).1)
+    (equal_or_not t.left (lcm r.left t.left))

@@ -5,9 +5,9 @@ use Rattle.std.proofs.lemmas.List.{get_or_default}
 use Rattle.monomial_order.specs.Monomial.{Exponents, product, least_common_multiple as lcm, IsTrimmed, AreCoprime}
 use Rattle.monomial_order.specs.MonomialOrder.{MonomialOrder}
 use Rattle.monomial_order.specs.laws.Monomial.{product_comm, IsTrimmed-product, exponent-product, IsTrimmed-least_common_multiple as IsTrimmed-lcm, exponent-least_common_multiple as exponent-lcm, least_common_multiple_comm as lcm_comm}
-use Rattle.monomial_order.specs.laws.Cofactors.{same_exponents}
+use Rattle.monomial_order.specs.laws.Cofactors.{same_exponents, cofactor, Divides-least_common_multiple, Divides-least_common_multiple_right}
 use Rattle.monomial_order.specs.laws.Comparing.{le_or_not}
-use Rattle.word_rewriting.specs.Rewriting.{WordOrZero, RewriteRule, RewritesBy, Rewrites, stays, steps, AreJoinable, IsCriticalPair, JoinsPair, JoinsPairs, multiple}
+use Rattle.word_rewriting.specs.Rewriting.{WordOrZero, RewriteRule, RewritesBy, Rewrites, stays, steps, AreJoinable, IsCriticalPair, HasJoinablePair, JoinsPair, JoinsPairs, multiple}
 use Rattle.word_rewriting.specs.laws.Rewriting.{joinable_itself, joinable_sym, product_cancel_right}
 use Rattle.word_rewriting.specs.laws.Confluence.{IsBelow, IsDecreasingRule}
 
@@ -16,8 +16,37 @@ lcm_coprime m n hm hn h =
     same_exponents (lcm m n) (product m n) (IsTrimmed-lcm m n hm hn) (IsTrimmed-product m n hm hn)
     (λ i. let a = exponent-lcm m n i in let b = exponent-product m n i in let c = h i in omega arith)
 
+-- a rule has one result for a word
+pub one_result : (r : RewriteRule) (w : Exponents) (a b : WordOrZero) → RewritesBy r w a → RewritesBy r w b → a ≡ b
+one_result r w a b h k =
+    let e = product_cancel_right h.cofactor k.cofactor r.left h.trimmed k.trimmed (h.word ∙ sym k.word) in
+    sym h.result ∙ (ap (λ x. multiple x r.right) e ∙ k.result)
+
+-- so two rules have one critical pair
+pub one_pair : (r s : RewriteRule) (a b x y : WordOrZero) → IsCriticalPair r s a b → IsCriticalPair r s x y → (a ≡ x) × (b ≡ y)
+one_pair r s a b x y h k = (one_result r (lcm r.left s.left) a x h.0 k.0, one_result s (lcm r.left s.left) b y h.1 k.1)
+
+pub joinable_pair : (R : List RewriteRule) (r s : RewriteRule) (a b : WordOrZero) → IsCriticalPair r s a b → AreJoinable R a b → HasJoinablePair R r s
+joinable_pair R r s a b h j x y k =
+    let e = one_pair r s a b x y h k in
+    subst (λ z. AreJoinable R z y) e.0 (subst (AreJoinable R a) e.1 j)
+
+pub pair_exists : (r s : RewriteRule) → IsTrimmed r.left → IsTrimmed s.left → (a : WordOrZero) × (b : WordOrZero) × IsCriticalPair r s a b
+pair_exists r s hr hs =
+    let l = lcm r.left s.left in
+    let t = IsTrimmed-lcm r.left s.left hr hs in
+    let u = cofactor r.left l hr t (Divides-least_common_multiple r.left s.left) in
+    let v = cofactor s.left l hs t (Divides-least_common_multiple_right r.left s.left) in (
+      multiple u.0 r.right,
+      multiple v.0 s.right,
+      (
+        record { cofactor = u.0; trimmed = u.1; word = product_comm u.0 r.left ∙ u.2; result = refl },
+        record { cofactor = v.0; trimmed = v.1; word = product_comm v.0 s.left ∙ v.2; result = refl },
+      ),
+    )
+
 -- a rule rewrites a multiple of its left side
-rewrites_multiple : (R : List RewriteRule) (r : RewriteRule) (k : Exponents) → Contains R r → IsTrimmed k → Rewrites R (Some (product k r.left)) (multiple k r.right)
+pub rewrites_multiple : (R : List RewriteRule) (r : RewriteRule) (k : Exponents) → Contains R r → IsTrimmed k → Rewrites R (Some (product k r.left)) (multiple k r.right)
 rewrites_multiple R r k h hk = steps (record { rule = r; listed = h; by = record { cofactor = k; trimmed = hk; word = refl; result = refl } }) stays
 
 module _ (R : List RewriteRule) (r s : RewriteRule) (hr : Contains R r) (hs : Contains R s) where

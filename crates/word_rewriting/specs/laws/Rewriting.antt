@@ -1,5 +1,5 @@
 -- Rewriting by any rules.
-use Rattle.std.proofs.Common.{◌≡◌, refl, sym, ◌∙◌, ap, subst, List, ◌⊎◌, inl, inr, ⊎_elim, Some, None, Contains}
+use Rattle.std.proofs.Common.{◌≡◌, refl, sym, ◌∙◌, ap, subst, List, [], ◌⊎◌, inl, inr, ⊎_elim, Some, None, Contains}
 use Rattle.monomial_order.specs.Monomial.{Exponents, product, IsTrimmed, Divides}
 use Rattle.monomial_order.specs.laws.Monomial.{product_assoc, product_comm, IsTrimmed-product}
 use Rattle.monomial_order.specs.laws.Cofactors.{divides_or_not, Divides-product, product_cancel}
@@ -75,6 +75,14 @@ module _ (R : List RewriteRule) where
   pub normal_stays : {x a : WordOrZero} → Rewrites R x a → IsInNormalForm R x → a ≡ x
   normal_stays stays d = refl
   normal_stays (steps {w = w} {a = a} s r) d = absurd (d (step_divides w a s))
+
+-- a rule rewrites its left side
+pub rule_rewrites : (R : List RewriteRule) (t : RewriteRule) → Contains R t → Rewrites R (Some t.left) t.right
+rule_rewrites R t h = steps (record { rule = t; listed = h; by = record { cofactor = []; trimmed = tt; word = refl; result = once t.right } }) stays
+  where
+    once : (a : WordOrZero) → multiple [] a ≡ a
+    once None = refl
+    once (Some v) = refl
 
 -- more rules rewrite more
 more_once : (R S : List RewriteRule) → ((r : RewriteRule) → Contains R r → Contains S r) → (w : Exponents) (a : WordOrZero) → RewritesOnce R w a → RewritesOnce S w a
