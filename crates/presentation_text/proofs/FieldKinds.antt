@@ -43,7 +43,7 @@ one_word_field f g e = field_same f.modulus g.modulus e f.listed g.listed
 listed_size : (q : ℕ) → is_listed q ≡ true → is_size q ≡ true
 listed_size q e = rw e refl
 
-no_pair_size : (q : ℕ) → is_listed q ≡ true → is_pair_size q ≡ false
+pub no_pair_size : (q : ℕ) → is_listed q ≡ true → is_pair_size q ≡ false
 no_pair_size q e = grind arith
 
 words_behind : (q last : ℕ) (h : Head) (ls : List Line) → is_listed q ≡ true → h.size ≡ q → reading_behind last h ls ≡ (reading_over (residues q) last h ls >>= λ r. Ok (word r))

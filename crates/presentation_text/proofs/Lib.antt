@@ -10,6 +10,7 @@ pub mod NextLines
 pub mod NextPolys
 pub mod PolyLines
 pub mod QueryTexts
+pub mod ReadDiffers
 pub mod ReadHeads
 pub mod ReadLists
 pub mod ReadWhole

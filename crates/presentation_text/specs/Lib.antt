@@ -1,3 +1,4 @@
+pub mod FieldLines
 pub mod Giving
 pub mod Heading
 pub mod Judging

@@ -1,17 +1,19 @@
 //! Laws of texts and of what they present: contracts of calls that do nothing, and of one that reads what it writes.
-ghost use Rattle.std.specs.Prelude.{◌≡◌, ◌<◌, ℕ, List, length, None, Ok, Err, IfSome, IfOk};
-ghost use Rattle.word_field.specs.Residues.{residues};
-ghost use Rattle.ext_field.specs.PairField.{pairs_of};
+ghost use Rattle.std.specs.Prelude.{◌≡◌, ◌<◌, ◌⊎◌, ℕ, List, length, None, Ok, Err, IfSome, IfOk};
+ghost use Rattle.word_field.specs.Residues.{residues, is_listed};
+ghost use Rattle.ext_field.specs.PairField.{pairs_of, is_pair_size};
 ghost use Rattle.poly_core.specs.Presentation.{IsValid, IsSame, weight_order_of};
+ghost use Rattle.presentation_text.specs.FieldLines.{HasFieldLine};
 ghost use Rattle.presentation_text.specs.Kinds.{Fault};
 ghost use Rattle.presentation_text.specs.Presenting.{IsPresented, IsFromReading};
-ghost use Rattle.presentation_text.specs.Reading.{Reading, reading};
+ghost use Rattle.presentation_text.specs.Reading.{Reading, reading, reading_with};
 ghost use Rattle.presentation_text.specs.Reading.AnyReading.{word, pair};
 ghost use Rattle.presentation_text.specs.Meaning.{text_max, word_ops, pair_ops, IsRead, IsPairRead, IsTextOf};
 
 use crate::TEXT_MAX;
 use crate::reading::read;
 use crate::text_fault::TextFault;
+use crate::text_kind::TextKind;
 use crate::writing::write;
 use ext_field::{Pair, PairField};
 use monomial_order::{Memory, WeightOrder};
@@ -83,6 +85,13 @@ pub fn one_text()
     ensures pairs { (p q : Presentation PairField WeightOrder Pair) (text : List ℕ) →
         IsValid pair_ops weight_order_of p → IsValid pair_ops weight_order_of q →
         IsTextOf pair_ops p text → IsTextOf pair_ops q text → IsSame p q }
+{}
+
+/// A text has one reading whether all sizes of fields are known or the primes alone, unless its field has pairs.
+pub fn prime_readings()
+    ensures { (text : List ℕ) → (reading_with is_listed text ≡ reading text)
+        ⊎ ((line : ℕ) × HasFieldLine is_pair_size text line
+        × (reading_with is_listed text ≡ Err (TextKind.FieldUnknown, line))) }
 {}
 
 /// What is read of what is written: the presentation itself, or None if its text is too long to be read.
