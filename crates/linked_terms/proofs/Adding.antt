@@ -3,13 +3,12 @@ use Rattle.std.proofs.Common.{◌≡◌, ◌≢◌, ◌+◌, ◌-◌, ◌<◌, �
 use Rattle.std.proofs.lemmas.Bool.{true≢false}
 use Rattle.std.specs.declared.cmp.Ordering.TheVariants.{Less}
 use Rattle.word_field.specs.Field.{FieldOps, IsField, IsValue}
-use Rattle.word_field.specs.laws.Field.{zero-plus, zero-plus-zero, zero-times}
+use Rattle.word_field.specs.laws.Field.{zero-plus-zero, zero-times}
 use Rattle.monomial_order.specs.declared.terms.Term.{Term}
 use Rattle.monomial_order.specs.Monomial.{Exponents}
 use Rattle.monomial_order.specs.MonomialOrder.{MonomialOrder, IsMonomialOrder}
 use Rattle.polynomials.specs.Polynomial.{Polynomial, same_monomial, share, coefficient, Same, term_of, term_times, scaled, AllAt, IsTerm, IsBelow, IsDecreasing, IsSmall, IsCanonical}
-use Rattle.polynomials.specs.laws.Ring.{coefficient_value}
-use Rattle.polynomials.specs.laws.Same.{append_same, append_comm}
+use Rattle.polynomials.specs.laws.Same.{append_same, append_comm, cons_zero}
 use Rattle.polynomials.specs.laws.Decreasing.{IsBelow_trans}
 use Rattle.polynomials.specs.laws.Terms.{AllAt-append, IsBelow-append, IsBelow-right, IsDecreasing-left, IsDecreasing-right, IsSmall-append, IsSmall-left, IsSmall-right}
 use Rattle.linked_terms.specs.Cursor.{Cursor}
@@ -61,22 +60,13 @@ module _ {E : Type 0} (K : FieldOps E) (F : IsField K) (O : MonomialOrder) (L : 
       share_both (same_monomial t.at m) u.by t.by (coefficient K r m) ∙
       ap (λ k. K.plus (share K m t) (K.plus (cond (same_monomial k m) u.by K.zero) (coefficient K r m))) (sym e)
 
-  share_zero : (b : Bool) (c : E) → c ≡ K.zero → cond b c K.zero ≡ K.zero
-  share_zero true c h = h
-  share_zero false c h = refl
-
-  sum_zero : (t : Term E) (r : Polynomial E) → t.by ≡ K.zero → Same K r (t ∷ r)
-  unfolding coefficient
-  sum_zero t r h m =
-      sym (ap (λ x. K.plus x (coefficient K r m)) (share_zero (same_monomial t.at m) t.by h) ∙ (zero-plus K F (coefficient K r m) ∙ coefficient_value K F r m))
-
   -- products with zero add nothing
   pub sum_nothing : (s : Term E) → s.by ≡ K.zero → (p q : Polynomial E) → Same K p (p ++ scaled K s q)
   sum_nothing s z p q m = ap (λ r. coefficient K r m) (sym (append-nil p)) ∙ append_same K F p p [] (scaled K s q) (λ n. refl) (nothing q) m
     where
       nothing : (q : Polynomial E) → Same K [] (scaled K s q)
       nothing [] m = refl
-      nothing (t ∷ q) m = nothing q m ∙ sum_zero (term_times K s t) (scaled K s q) (ap (λ x. K.times x t.by) z ∙ zero-times K F t.by) m
+      nothing (t ∷ q) m = nothing q m ∙ cons_zero K F (term_times K s t) (scaled K s q) (ap (λ x. K.times x t.by) z ∙ zero-times K F t.by) m
 
   sum_combined : (p : Polynomial E) (u t : Term E) (r : Polynomial E) → u.at ≡ t.at →
       Same K (p ++ term_of t.at (K.plus u.by t.by) ∷ r) ((p ++ u ∷ r) ++ t ∷ [])
@@ -85,7 +75,7 @@ module _ {E : Type 0} (K : FieldOps E) (F : IsField K) (O : MonomialOrder) (L : 
 
   sum_cancelled : (p : Polynomial E) (u t : Term E) (r : Polynomial E) → u.at ≡ t.at → K.plus u.by t.by ≡ K.zero → Same K (p ++ r) ((p ++ u ∷ r) ++ t ∷ [])
   sum_cancelled p u t r e z m =
-      append_same K F p p r (term_of t.at (K.plus u.by t.by) ∷ r) (λ n. refl) (sum_zero (term_of t.at (K.plus u.by t.by)) r z) m ∙ sum_combined p u t r e m
+      append_same K F p p r (term_of t.at (K.plus u.by t.by) ∷ r) (λ n. refl) (cons_zero K F (term_of t.at (K.plus u.by t.by)) r z) m ∙ sum_combined p u t r e m
 
   module _ (t : Term E) (term : IsTerm K O.places t) (small : O.degree t.at ≤ 65535) where
     inserted : (p q : Polynomial E) → IsCanonical K O (p ++ q) → t.by ≢ K.zero → IsAbove O t.at p → NextIs O t.at false q → IsCanonical K O (p ++ t ∷ q)

@@ -7,7 +7,8 @@ use Rattle.std.proofs.lemmas.Option.{slice_get-get_or}
 use Rattle.linked_terms.specs.Cursor.{Cursor}
 use Rattle.linked_terms.specs.declared.cursor_list.Node.{Node}
 use Rattle.linked_terms.specs.Links.{times_in, walk, IsLinked, next_at, item_at, items, IsSound}
-use Rattle.linked_terms.proofs.Walks.{times_in-here, times_in-more, times_in-other, differs, equal_or_not, length-walk, at_most_once, is_below}
+use Rattle.linked_terms.proofs.Walks.{times_in-here, times_in-more, times_in-other, differs, length-walk, at_most_once, is_below}
+use Rattle.monomial_order.specs.laws.Comparing.{numbers_or_not}
 use Rattle.linked_terms.proofs.Links.{IsInserted, IsRemoved, WalksInserted, WalksRemoved, links_advance, walk_advance, walk_rewind, links_rewind, links_insert, links_remove}
 
 module _ {A : Type 0} where
@@ -157,7 +158,7 @@ module _ {T : Type 0} (ns : List (Node T)) (head left right free before after sp
       record {
         sound = record {
           links = subst (λ n. IsLinked h n head' free right (f free) (suc before) after spare) (sym e.length_same) w.links;
-          full = λ i l z. cases i (equal_or_not i free) (omega (arith, e.length_same)) (ap (times_in i) (sym w.walk_spare) ∙ z);
+          full = λ i l z. cases i (numbers_or_not i free) (omega (arith, e.length_same)) (ap (times_in i) (sym w.walk_spare) ∙ z);
           vacant = λ i l.
               let m : 1 ≤ times_in i R = omega (arith, ap (times_in i) w.walk_spare) in
               let ne : i ≢ free = differs free i R fr m in
@@ -210,7 +211,7 @@ module _ {T : Type 0} (ns : List (Node T)) (head left right free before after sp
               let z' : times_in i (right ∷ walk f spare free) ≡ 0 = ap (times_in i) (sym w.walk_spare) ∙ z in
               let ne : i ≢ right = λ q. let m : times_in i (right ∷ walk f spare free) ≡ 1 + times_in i (walk f spare free) = subst (λ v. times_in i (v ∷ walk f spare free) ≡ 1 + times_in i (walk f spare free)) q (times_in-here i (walk f spare free)) in absurd (omega arith) in
               subst IsSome (sym (e.items_same i ne)) (s.full i (omega (arith, e.length_same)) (sym (times_in-other i right (walk f spare free) (λ q. ne (sym q))) ∙ z'));
-          vacant = λ i l. cases i (equal_or_not i right) (subst (λ p. 1 ≤ times_in i p) w.walk_spare l);
+          vacant = λ i l. cases i (numbers_or_not i right) (subst (λ p. 1 ≤ times_in i p) w.walk_spare l);
         };
         left_of =
             ap (filter_map (item_at ns')) w.walk_before ∙

@@ -6,8 +6,9 @@ use Rattle.std.proofs.lemmas.Option.{none-some, same_Some}
 use Rattle.linked_terms.specs.Cursor.{Cursor}
 use Rattle.linked_terms.specs.declared.cursor_list.Node.{Node}
 use Rattle.linked_terms.specs.Links.{times_in, walk, past, next_of, item_of, next_at, item_at, items, IsPartition, IsLinked, IsSound}
-use Rattle.linked_terms.proofs.Walks.{walk_same, times_in-here, times_in-more, times_in-other, differs, equal_or_not, at_most_once, is_below}
+use Rattle.linked_terms.proofs.Walks.{walk_same, times_in-here, times_in-more, times_in-other, differs, at_most_once, is_below}
 use Rattle.linked_terms.proofs.Links.{left_before, links_grow}
+use Rattle.monomial_order.specs.laws.Comparing.{numbers_or_not}
 use Rattle.linked_terms.proofs.Nodes.{some_of, filter_map_same, slice_get-set, slice_get-set_other, slice_get-push, slice_get-pushed, slice_get_is, right_below, right_item, sound_advance, items_advance, free_below, IsFilled, sound_insert, IsEmptied, sound_remove}
 
 module _ {T : Type 0} (ns : List (Node T)) (i : ℕ) (node : Node T) (l : i < length ns) (e : node ≡ get_or ns i node) where
@@ -98,7 +99,7 @@ module _ {T : Type 0} (ns : List (Node T)) (i left to : ℕ) (x z : Node T) (ne 
   both_others j a b = next_elsewhere (set ns i x) left (record { item = z.item; next = to }) j b ∙ next_elsewhere ns i x j a
 
   pub both_items : (j : ℕ) → j ≢ i → item_at both j ≡ item_at ns j
-  both_items j a = cases (equal_or_not j left)
+  both_items j a = cases (numbers_or_not j left)
     where
       cases : (j ≡ left) ⊎ (j ≢ left) → item_at both j ≡ item_at ns j
       cases (inl q) =
@@ -248,7 +249,7 @@ module _ {T : Type 0} (ns : List (Node T)) (head left right free before after sp
   seen = right_in ns head left right free before after spare s l
 
   same_next : (i : ℕ) → next_at swapped i ≡ next_at ns i
-  same_next i = cases (equal_or_not i right)
+  same_next i = cases (numbers_or_not i right)
     where
       cases : (i ≡ right) ⊎ (i ≢ right) → next_at swapped i ≡ next_at ns i
       cases (inl q) =
@@ -284,7 +285,7 @@ module _ {T : Type 0} (ns : List (Node T)) (head left right free before after sp
       meets = same_past before head ∙ s.links.meets;
       last = λ p. same_past (before - 1) head ∙ s.links.last p;
     };
-    full = λ i m k. cases i (equal_or_not i right) (omega (arith, same_length)) (ap (times_in i) (sym (same_walk spare free)) ∙ k);
+    full = λ i m k. cases i (numbers_or_not i right) (omega (arith, same_length)) (ap (times_in i) (sym (same_walk spare free)) ∙ k);
     vacant = λ i m.
         let m' : 1 ≤ times_in i (walk (next_at ns) spare free) = subst (λ p. 1 ≤ times_in i p) (same_walk spare free) m in
         let ne : i ≢ right = differs right i (walk (next_at ns) spare free) (let u = right_used in omega arith) m' in
@@ -351,8 +352,8 @@ module _ {T : Type 0} (ns : List (Node T)) (head left right free before after sp
         links = subst (λ n. IsLinked h n head left right (length ns) before after (suc spare)) (sym grown_length) g.0;
         full = λ i l z.
             let z' : times_in i (length ns ∷ R) ≡ 0 = ap (times_in i) (sym g.3) ∙ z in
-            full_at i (equal_or_not i (length ns)) l z';
-        vacant = λ i l. vacant_at i (equal_or_not i (length ns)) (subst (λ p. 1 ≤ times_in i p) g.3 l);
+            full_at i (numbers_or_not i (length ns)) l z';
+        vacant = λ i l. vacant_at i (numbers_or_not i (length ns)) (subst (λ p. 1 ≤ times_in i p) g.3 l);
       } in (
         subst (λ b. IsSound grown head left right free' before after b) one (subst (λ i. IsSound grown head left right i before after (suc spare)) (sym e) sound),
         ap (filter_map (item_at grown)) g.1 ∙ filter_map_same (item_at ns) (item_at grown) P (λ i l. old_item i (is_below (length ns) P Q R part i (omega arith))),

@@ -2,6 +2,7 @@
 use Rattle.std.proofs.Common.{◌≡◌, ◌≢◌, ℕ, zero, suc, ◌+◌, ◌<◌, ◌≤◌, refl, sym, ap, ◌∙◌, subst, List, [], ◌∷◌, ◌++◌, length, arith, true, false, cond, nat_eq, add-zero, ◌⊎◌, inl, inr}
 use Rattle.std.proofs.lemmas.Bool.{cases_lt}
 use Rattle.std.proofs.lemmas.Bool.Decides.{nat_tests}
+use Rattle.monomial_order.specs.laws.Comparing.{numbers_or_not}
 use Rattle.linked_terms.specs.Links.{times_in, walk, past, IsPartition}
 
 nat_eq_self : (i : ℕ) → nat_eq i i ≡ true
@@ -29,15 +30,6 @@ times_in-append i (j ∷ p) q = omega (arith, times_in-append i p q)
 -- what is in a list differs from what is not
 pub differs : (i j : ℕ) (p : List ℕ) → times_in i p ≡ 0 → 1 ≤ times_in j p → j ≢ i
 differs i j p h k e = let z : times_in j p ≡ 0 = subst (λ x. times_in x p ≡ 0) (sym e) h in absurd (omega arith)
-
-pub equal_or_not : (i j : ℕ) → (i ≡ j) ⊎ (i ≢ j)
-equal_or_not i j = elim (nat_eq i j) as (λ v. nat_eq i j ≡ v → (i ≡ j) ⊎ (i ≢ j)) [ true ↦ λ e. inl (yes i j e) | false ↦ λ e. inr (λ h. no i j e h) ] refl
-  where
-    yes : (a b : ℕ) → nat_eq a b ≡ true → a ≡ b
-    yes a b h = grind (arith, nat_tests)
-
-    no : (a b : ℕ) → nat_eq a b ≡ false → a ≡ b → ⊥
-    no a b h e = grind (arith, nat_tests)
 
 pub length-walk : (f : ℕ → ℕ) (n s : ℕ) → length (walk f n s) ≡ n
 length-walk f zero s = refl
@@ -120,7 +112,7 @@ module _ (n : ℕ) where
 
   pub partition_grow : (p q r : List ℕ) → IsPartition n p q r → IsPartition (n + 1) p q (n ∷ r)
   partition_grow p q r h = record {
-    once = λ i l. cases i (equal_or_not n i) l;
+    once = λ i l. cases i (numbers_or_not n i) l;
     outside = λ i l. omega (arith, h.outside i (omega arith), times_in-other i n r (λ e. omega arith));
   }
     where

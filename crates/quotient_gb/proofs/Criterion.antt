@@ -27,8 +27,9 @@ use Rattle.polynomials.specs.laws.Degrees.{component-append, component_same, IsG
 use Rattle.quotient_gb.specs.Combinations.{AtMost, Under, HasLeadDivisor, Step, sum_of_steps, AreSteps, Combines, HasStandardRepresentation}
 use Rattle.quotient_gb.specs.IdealBasis.{AreMonicMembers}
 use Rattle.quotient_gb.specs.Criterion.{s_polynomial, HasRepresentationBelow, ReducesGenerators, RepresentsPairs}
-use Rattle.quotient_gb.proofs.Multiples.{common, product_divides}
+use Rattle.quotient_gb.proofs.Multiples.{common}
 use Rattle.quotient_gb.proofs.Combinations.{scaled-append, scaled_scaled, scaled_is, scaled_same, combines_same, combines_zero, combines_plus, combines_one, combines_scaled, combines_constant, top}
+use Rattle.monomial_order.specs.laws.Cofactors.{Divides-product_right}
 use Rattle.polynomials.specs.laws.Same.{coefficient-negated}
 
 module _ {E : Type 0} (K : FieldOps E) (F : IsField K) where
@@ -245,7 +246,7 @@ module _ {E : Type 0} (K : FieldOps E) (F : IsField K) (O : MonomialOrder) (L : 
                 let is : M ≡ m = IsLead_unique K F O L a M m whole lead_m in
                 record {
                   combines = subst (λ x. Combines K O G (AtMost O x) a) is h;
-                  divisor = (r.member, r.contains, subst (Divides (lead_monomial r.member)) (r.is ∙ is) (product_divides r.by (lead_monomial r.member)));
+                  divisor = (r.member, r.contains, subst (Divides (lead_monomial r.member)) (r.is ∙ is) (Divides-product_right r.by (lead_monomial r.member)));
                 }
 
     module _ (rs : List (Polynomial E)) (HR : AreGenerators K O rs)

@@ -3,15 +3,7 @@ use Rattle.std.proofs.Common.{◌≡◌, ℕ, ◌+◌, ◌≤◌, sym, ◌∙◌
 use Rattle.monomial_order.specs.Monomial.{exponent, product, least_common_multiple as lcm, IsTrimmed, IsMonomial, Divides, AreCoprime, Exponents}
 use Rattle.monomial_order.specs.MonomialOrder.{MonomialOrder, IsMonomialOrder}
 use Rattle.monomial_order.specs.laws.Monomial.{exponent-product, IsTrimmed-product, IsMonomial-product, product_assoc, product_comm, length-product, exponent-least_common_multiple as exponent-lcm, IsTrimmed-least_common_multiple as IsTrimmed-lcm, IsMonomial-least_common_multiple as IsMonomial-lcm}
-use Rattle.monomial_order.specs.laws.Cofactors.{cofactor, same_exponents}
-
-pub product_divides : (k m : Exponents) → Divides m (product k m)
-product_divides k m i = let e = exponent-product k m i in omega arith
-
--- a product may be cancelled
-pub product_cancel : (a b m : Exponents) → IsTrimmed a → IsTrimmed b → product a m ≡ product b m → a ≡ b
-product_cancel a b m ha hb e = same_exponents a b ha hb
-    (λ i. let p = exponent-product a m i in let q = exponent-product b m i in let r : exponent (product a m) i ≡ exponent (product b m) i = ap (λ x. exponent x i) e in omega arith)
+use Rattle.monomial_order.specs.laws.Cofactors.{cofactor, same_exponents, product_cancel_right}
 
 pub divides_left : (k m : Exponents) (N : ℕ) → IsMonomial N (product k m) → IsTrimmed k → IsMonomial N k
 divides_left k m N h t = record { trimmed = t; within = let w = h.within in let l = length-product k m in omega arith }
@@ -53,8 +45,8 @@ common N a m b n ha hm hb hn e =
       right_monomial = divides_left v.0 n N (subst (IsMonomial N) (sym vl) wl) v.1;
       left_is = ul;
       right_is = vl;
-      left_by = product_cancel (product k.0 u.0) a m (IsTrimmed-product k.0 u.0 k.1 u.1) ha.trimmed (product_assoc k.0 u.0 m ∙ (ap (product k.0) ul ∙ kl));
-      right_by = product_cancel (product k.0 v.0) b n (IsTrimmed-product k.0 v.0 k.1 v.1) hb.trimmed (product_assoc k.0 v.0 n ∙ (ap (product k.0) vl ∙ (kl ∙ e)));
+      left_by = product_cancel_right (product k.0 u.0) a m (IsTrimmed-product k.0 u.0 k.1 u.1) ha.trimmed (product_assoc k.0 u.0 m ∙ (ap (product k.0) ul ∙ kl));
+      right_by = product_cancel_right (product k.0 v.0) b n (IsTrimmed-product k.0 v.0 k.1 v.1) hb.trimmed (product_assoc k.0 v.0 n ∙ (ap (product k.0) vl ∙ (kl ∙ e)));
       common = kl;
     }
 
@@ -66,8 +58,3 @@ degree-lcm O L N m n hm hn =
     let q : O.degree (product c.by (lcm m n)) ≡ O.degree (product n m) = ap O.degree c.common in
     let r = L.degree_product n m in
     omega arith
-
--- coprime monomials have their product as least common multiple
-pub lcm_coprime : (m n : Exponents) → IsTrimmed m → IsTrimmed n → AreCoprime m n → lcm m n ≡ product m n
-lcm_coprime m n hm hn h = same_exponents (lcm m n) (product m n) (IsTrimmed-lcm m n hm hn) (IsTrimmed-product m n hm hn)
-    (λ i. let l = exponent-lcm m n i in let p = exponent-product m n i in ⊎_elim (λ z. omega arith) (λ z. omega arith) (h i))

@@ -19,8 +19,9 @@ use Rattle.polynomials.specs.laws.Ideal.{IsPoly-scaled}
 use Rattle.polynomials.specs.laws.Terms.{IsDecreasing-scaled}
 use Rattle.quotient_gb.specs.Combinations.{AtMost, Under, Combines}
 use Rattle.quotient_gb.specs.Criterion.{AreCofactors, s_polynomial, HasStandardSPolynomial, HasRepresentationBelow}
-use Rattle.quotient_gb.proofs.Multiples.{product_cancel, divides_left, lcm_coprime}
+use Rattle.quotient_gb.proofs.Multiples.{divides_left}
 use Rattle.quotient_gb.proofs.Combinations.{combines_same, combines_zero, combines_plus, combines_one, combines_weaken, combines_negated, combines_minus}
+use Rattle.monomial_order.specs.laws.Cofactors.{product_cancel_right, least_common_multiple_coprime as lcm_coprime}
 use Rattle.quotient_gb.proofs.Criterion.{IsReducer, monomials, scaled_leads, AreReducers}
 
 module _ {E : Type 0} (K : FieldOps E) (F : IsField K) where
@@ -80,7 +81,7 @@ module _ {E : Type 0} (K : FieldOps E) (F : IsField K) (O : MonomialOrder) (L : 
 
   pub below_self : (g : Polynomial E) → HasRepresentationBelow K O G g g
   below_self g u v k =
-      let same : u ≡ v = product_cancel u v (lead_monomial g) k.left_trimmed k.right_trimmed (k.left ∙ sym k.right) in
+      let same : u ≡ v = product_cancel_right u v (lead_monomial g) k.left_trimmed k.right_trimmed (k.left ∙ sym k.right) in
       combines_same K F O L G (Under O (lcm (lead_monomial g) (lead_monomial g))) [] (s_polynomial K u g v g)
       (λ m. sym (ap (λ x. coefficient K (s_polynomial K x g v g) m) same ∙ minus_self K F (scaled K (term_of v K.one) g) m))
       (combines_zero K F O L G (Under O (lcm (lead_monomial g) (lead_monomial g))))
@@ -129,8 +130,8 @@ module _ {E : Type 0} (K : FieldOps E) (F : IsField K) (O : MonomialOrder) (L : 
     pub same_cofactors : (Q : Polynomial E → Type 0) (u v : Exponents) → AreCofactors u (lead_monomial g) v (lead_monomial h) → Q (s_polynomial K u g v h) →
         (x y : Exponents) → AreCofactors x (lead_monomial g) y (lead_monomial h) → Q (s_polynomial K x g y h)
     same_cofactors Q u v w q x y k =
-        subst (λ z. Q (s_polynomial K z g y h)) (product_cancel u x (lead_monomial g) w.left_trimmed k.left_trimmed (w.left ∙ sym k.left))
-        (subst (λ z. Q (s_polynomial K u g z h)) (product_cancel v y (lead_monomial h) w.right_trimmed k.right_trimmed (w.right ∙ sym k.right)) q)
+        subst (λ z. Q (s_polynomial K z g y h)) (product_cancel_right u x (lead_monomial g) w.left_trimmed k.left_trimmed (w.left ∙ sym k.left))
+        (subst (λ z. Q (s_polynomial K u g z h)) (product_cancel_right v y (lead_monomial h) w.right_trimmed k.right_trimmed (w.right ∙ sym k.right)) q)
 
   -- terms below m times a member
   tail_combines : (M m : Exponents) (p h : Polynomial E) → Contains G h → IsMonomial O.places m → product m (lead_monomial h) ≡ M → IsPoly K O.places p → IsBelow K O m p → Combines K O G (Under O M) (times K p h)
@@ -156,10 +157,10 @@ module _ {E : Type 0} (K : FieldOps E) (F : IsField K) (O : MonomialOrder) (L : 
       whole = lcm_coprime (lead_monomial g) (lead_monomial h) (monomials K F O L G HG g hg).trimmed (monomials K F O L G HG h hh).trimmed co
 
       is_u : u ≡ lead_monomial h
-      is_u = product_cancel u (lead_monomial h) (lead_monomial g) w.left_trimmed (monomials K F O L G HG h hh).trimmed (w.left ∙ (whole ∙ product_comm (lead_monomial g) (lead_monomial h)))
+      is_u = product_cancel_right u (lead_monomial h) (lead_monomial g) w.left_trimmed (monomials K F O L G HG h hh).trimmed (w.left ∙ (whole ∙ product_comm (lead_monomial g) (lead_monomial h)))
 
       is_v : v ≡ lead_monomial g
-      is_v = product_cancel v (lead_monomial g) (lead_monomial h) w.right_trimmed (monomials K F O L G HG g hg).trimmed (w.right ∙ whole)
+      is_v = product_cancel_right v (lead_monomial g) (lead_monomial h) w.right_trimmed (monomials K F O L G HG g hg).trimmed (w.right ∙ whole)
 
       pg : IsParted K F O g
       pg = parted K F O L g (HG g hg)

@@ -1,12 +1,13 @@
 -- The three primes with their t and u: x * x is never t + u * x, and the fifth power of a number inverts it. These
 -- are proofs: they stand here, and not in proofs/, since the laws that `PairField` gives as a `Field` cite them.
 use Rattle.std.proofs.Common.{◌≡◌, ◌≢◌, ℕ, zero, suc, ◌+◌, ◌*◌, ◌%◌, ◌<◌, ◌≤◌, refl, sym, ◌∙◌, ap, subst, Bool, true, false, arith, ⊎_elim}
-use Rattle.std.specs.Prelude.{◌||◌, ◌&&◌, not, nat_le, nat_eq}
-use Rattle.std.proofs.lemmas.Bool.{or_cases, and_parts, eqb-true, eq-eqb, true≢false}
+use Rattle.std.specs.Prelude.{◌||◌, ◌&&◌, not, nat_eq}
+use Rattle.std.proofs.lemmas.Bool.{or_cases, and_parts, eqb-true, eq-eqb}
 use Rattle.std.proofs.lemmas.Bool.Decides.{nat_tests}
 use Rattle.std.proofs.Math.Nat.{mod-lt, add-mod-mod}
 use Rattle.std.proofs.lemmas.Nat.{mul-mod, mul-mod_second}
 use Rattle.word_field.specs.Residues.{is_listed}
+use Rattle.word_field.specs.laws.Primes.{not_both}
 use Rattle.ext_field.specs.PairField.{is_square}
 
 -- what holds at the three primes
@@ -32,9 +33,6 @@ abbrev is_rootless : ℕ → ℕ → ℕ → ℕ → Bool
 is_rootless p t u zero = true
 is_rootless p t u (suc k) = not (nat_eq (k * k % p) ((t + u * k) % p)) && is_rootless p t u k
 
-not_both : (b : Bool) → not b ≡ true → b ≡ true → ⊥
-not_both true h k = true≢false (sym h)
-not_both false h k = true≢false (sym k)
 
 rootless_at : (p t u k x : ℕ) → is_rootless p t u k ≡ true → x < k → x * x % p ≢ (t + u * x) % p
 rootless_at p t u zero x h l e = omega arith

@@ -1,11 +1,9 @@
 -- A field of pairs is known by its size.
-use Rattle.std.proofs.Common.{◌≡◌, ℕ, ◌+◌, ◌*◌, ◌<◌, ◌≤◌, Bool, true, refl, sym, ◌∙◌, ap, subst, arith}
+use Rattle.std.proofs.Common.{◌≡◌, ℕ, ◌+◌, ◌*◌, ◌<◌, ◌≤◌, true, refl, sym, ◌∙◌, ap, subst, arith}
 use Rattle.std.proofs.Math.Bool.{Bool-set}
 use Rattle.std.proofs.Math.Bridge.{le_prop}
-use Rattle.ext_field.specs.declared.pair.Pair.{Pair}
 use Rattle.ext_field.specs.declared.pair_field.PairField.{PairField}
 use Rattle.ext_field.specs.PairField.{pair, pairs, pairs_of, is_square, is_pair_size}
-use Rattle.ext_field.specs.laws.Pairs.{pair_eq}
 use Rattle.ext_field.specs.laws.Primes.{square_cases}
 
 pub square_size : (p t u : ℕ) → is_square p t u ≡ true → is_pair_size (p * p) ≡ true

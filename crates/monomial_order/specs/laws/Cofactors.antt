@@ -3,8 +3,8 @@ use Rattle.std.proofs.Common.{◌≡◌, ℕ, zero, suc, ◌-◌, ◌≤◌, ref
 use Rattle.std.specs.Prelude.{nat_eq, nat_le}
 use Rattle.std.proofs.lemmas.Bool.{eqb-true, eq-eqb, true≢false}
 use Rattle.std.proofs.lemmas.Bool.Decides.{nat_tests}
-use Rattle.monomial_order.specs.Monomial.{exponent, product, least_common_multiple, IsTrimmed, Divides}
-use Rattle.monomial_order.specs.laws.Monomial.{exponent-product, IsTrimmed-product, exponent-least_common_multiple, trimmed_tail}
+use Rattle.monomial_order.specs.Monomial.{exponent, product, least_common_multiple, IsTrimmed, Divides, Exponents, AreCoprime}
+use Rattle.monomial_order.specs.laws.Monomial.{exponent-product, IsTrimmed-product, exponent-least_common_multiple, trimmed_tail, product_comm, IsTrimmed-least_common_multiple}
 
 -- a trimmed list with exponents 0 alone is empty
 zero_exponents : (m : List ℕ) → IsTrimmed m → ((i : ℕ) → exponent m i ≡ 0) → m ≡ []
@@ -159,3 +159,15 @@ Divides-least_common_multiple_right m n i = let e = exponent-least_common_multip
 -- each common multiple is a multiple of the least one
 pub least_common_multiple_least : (m n k : List ℕ) → Divides m k → Divides n k → Divides (least_common_multiple m n) k
 least_common_multiple_least m n k h d i = let e = exponent-least_common_multiple m n i in let a = h i in let b = d i in omega arith
+
+pub Divides-product_right : (k m : Exponents) → Divides m (product k m)
+Divides-product_right k m i = let e = exponent-product k m i in omega arith
+
+pub product_cancel_right : (k l m : Exponents) → IsTrimmed k → IsTrimmed l → product k m ≡ product l m → k ≡ l
+product_cancel_right k l m hk hl h = product_cancel m k l hk hl (product_comm m k ∙ (h ∙ product_comm l m))
+
+-- coprime monomials have their product as least common multiple
+pub least_common_multiple_coprime : (m n : Exponents) → IsTrimmed m → IsTrimmed n → AreCoprime m n → least_common_multiple m n ≡ product m n
+least_common_multiple_coprime m n hm hn h =
+    same_exponents (least_common_multiple m n) (product m n) (IsTrimmed-least_common_multiple m n hm hn) (IsTrimmed-product m n hm hn)
+    (λ i. let a = exponent-least_common_multiple m n i in let b = exponent-product m n i in let c = h i in omega arith)

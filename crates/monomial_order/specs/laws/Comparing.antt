@@ -1,7 +1,7 @@
 -- Laws of the comparison.
 use Rattle.std.proofs.Common.{◌≡◌, ◌≢◌, ℕ, suc, ◌<◌, ◌≤◌, refl, sym, ◌∙◌, ap, subst, List, [], ◌∷◌, length, true, false, arith, ◌⊎◌, inl, inr, ⊎_elim}
-use Rattle.std.specs.Prelude.{nat_le, nat_eq, Contains}
-use Rattle.std.proofs.lemmas.Bool.Decides.{nat_tests}
+use Rattle.std.specs.Prelude.{nat_le, Contains}
+use Rattle.std.proofs.lemmas.Bool.Decides.{nat_tests, eqb_tells}
 use Rattle.std.specs.Cmp.{tied_itself}
 use Rattle.std.specs.Ordering.{nat_cmp, ordering_reverse}
 use Rattle.std.specs.declared.cmp.Ordering.{Ordering}
@@ -32,17 +32,8 @@ less_or_not Less = inl refl
 less_or_not Equal = inr (λ e. cc)
 less_or_not Greater = inr (λ e. cc)
 
-numbers_or_not : (a b : ℕ) → (a ≡ b) ⊎ (a ≢ b)
-numbers_or_not a b = elim (nat_eq a b) as (λ v. nat_eq a b ≡ v → (a ≡ b) ⊎ (a ≢ b)) [ true ↦ λ e. inl (yes_eq a b e) | false ↦ λ e. inr (no_eq a b e) ] refl
-  where
-    yes_eq : (a b : ℕ) → nat_eq a b ≡ true → a ≡ b
-    yes_eq a b h = grind (arith, nat_tests)
-
-    no_eq : (a b : ℕ) → nat_eq a b ≡ false → a ≢ b
-    no_eq a b h = λ e. no a b h e
-      where
-        no : (a b : ℕ) → nat_eq a b ≡ false → a ≡ b → ⊥
-        no a b h e = grind (arith, nat_tests)
+pub numbers_or_not : (a b : ℕ) → (a ≡ b) ⊎ (a ≢ b)
+numbers_or_not a b = ⊎_elim (λ h. inl h.1) (λ h. inr h.1) (eqb_tells a b)
 
 pub equal_or_not : (m n : List ℕ) → (m ≡ n) ⊎ (m ≢ n)
 equal_or_not [] [] = inl refl

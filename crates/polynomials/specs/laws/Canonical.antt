@@ -2,12 +2,11 @@
 use Rattle.std.proofs.Common.{◌≡◌, ◌≢◌, refl, sym, ◌∙◌, ap, [], ◌∷◌, cond, Bool, true, false, ◌⊎◌, inl, inr, ⊎_elim}
 use Rattle.std.specs.declared.cmp.Ordering.TheVariants.{Less, Equal, Greater}
 use Rattle.word_field.specs.Field.{FieldOps, IsField}
-use Rattle.word_field.specs.laws.Field.{zero-plus, plus_swap, zero-plus-zero}
+use Rattle.word_field.specs.laws.Field.{plus_swap, zero-plus-zero}
 use Rattle.monomial_order.specs.declared.terms.Term.{Term}
 use Rattle.monomial_order.specs.MonomialOrder.{MonomialOrder, IsMonomialOrder}
 use Rattle.polynomials.specs.Polynomial.{Polynomial, same_monomial, share, coefficient, Same, term_of, IsTerm, IsPoly, IsBelow, IsDecreasing, IsLead}
-use Rattle.polynomials.specs.laws.Ring.{coefficient_value}
-use Rattle.polynomials.specs.laws.Same.{append_same}
+use Rattle.polynomials.specs.laws.Same.{append_same, cons_zero}
 use Rattle.polynomials.specs.laws.Decreasing.{IsBelow_trans, IsLead_first}
 use Rattle.monomial_order.specs.laws.Comparing.{greater_less}
 use Rattle.monomial_order.specs.Monomial.{Exponents}
@@ -30,15 +29,6 @@ module _ {E : Type 0} (K : FieldOps E) (F : IsField K) (O : MonomialOrder) (L : 
   cons_swap : (t u : Term E) (p : Polynomial E) → Same K (t ∷ (u ∷ p)) (u ∷ (t ∷ p))
   unfolding coefficient
   cons_swap t u p m = plus_swap K F (share K m t) (share K m u) (coefficient K p m)
-
-  zero_share : (b : Bool) (c : E) → c ≡ K.zero → cond b c K.zero ≡ K.zero
-  zero_share true c h = h
-  zero_share false c h = refl
-
-  cons_zero : (t : Term E) (p : Polynomial E) → t.by ≡ K.zero → Same K p (t ∷ p)
-  unfolding coefficient
-  cons_zero t p h m =
-      sym (ap (λ x. K.plus x (coefficient K p m)) (zero_share (same_monomial t.at m) t.by h) ∙ (zero-plus K F (coefficient K p m) ∙ coefficient_value K F p m))
 
   share_plus : (b : Bool) (c d : E) → cond b (K.plus c d) K.zero ≡ K.plus (cond b c K.zero) (cond b d K.zero)
   share_plus true c d = refl
@@ -90,7 +80,7 @@ module _ {E : Type 0} (K : FieldOps E) (F : IsField K) (O : MonomialOrder) (L : 
         p,
         record {
           decreasing = f.1;
-          same = λ m. cons_zero (term_of u.at (K.plus t.by u.by)) p z m ∙ merged_same at m;
+          same = λ m. cons_zero K F (term_of u.at (K.plus t.by u.by)) p z m ∙ merged_same at m;
           below = λ m l b. b.1;
         },
       )
@@ -108,7 +98,7 @@ module _ {E : Type 0} (K : FieldOps E) (F : IsField K) (O : MonomialOrder) (L : 
   canonical (t ∷ p) h =
       let rest : (q : Polynomial E) × IsCanonicalForm p q = canonical p h.1 in
       ⊎_elim
-      (λ z. (rest.0, record { decreasing = rest.1.decreasing; same = λ m. rest.1.same m ∙ cons_zero t p z m }))
+      (λ z. (rest.0, record { decreasing = rest.1.decreasing; same = λ m. rest.1.same m ∙ cons_zero K F t p z m }))
       (λ n.
       let r : (q : Polynomial E) × IsInserted t rest.0 q = insert t h.0 n rest.0 rest.1.decreasing in
       (r.0, record { decreasing = r.1.decreasing; same = λ m. r.1.same m ∙ cons_same t rest.0 p rest.1.same m }))

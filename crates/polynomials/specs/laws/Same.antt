@@ -151,3 +151,13 @@ module _ {E : Type 0} (K : FieldOps E) (F : IsField K) where
 
   pub same_sym : (p q : Polynomial E) → Same K p q → Same K q p
   same_sym p q h m = sym (h m)
+
+  -- a term with the coefficient zero adds nothing
+  zero_share : (b : Bool) (c : E) → c ≡ K.zero → cond b c K.zero ≡ K.zero
+  zero_share true c h = h
+  zero_share false c h = refl
+
+  pub cons_zero : (t : Term E) (p : Polynomial E) → t.by ≡ K.zero → Same K p (t ∷ p)
+  unfolding coefficient
+  cons_zero t p h m =
+      sym (ap (λ x. K.plus x (coefficient K p m)) (zero_share (same_monomial t.at m) t.by h) ∙ (zero-plus K F (coefficient K p m) ∙ coefficient_value K F p m))

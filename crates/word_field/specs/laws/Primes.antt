@@ -36,7 +36,7 @@ listed_below p h = ltb-true p 65536 (and_parts _ _ (and_parts (nat_lt 1 p) _ (li
 listed_undivided : (p : ℕ) → is_listed p ≡ true → undivided p 254 ≡ true
 listed_undivided p h = (and_parts (nat_lt p 65536) _ (and_parts (nat_lt 1 p) _ (listed_good p h)).1).1
 
-not_both : (b : Bool) → not b ≡ true → b ≡ true → ⊥
+pub not_both : (b : Bool) → not b ≡ true → b ≡ true → ⊥
 not_both true h k = true≢false (sym h)
 not_both false h k = true≢false (sym k)
 

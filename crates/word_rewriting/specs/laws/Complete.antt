@@ -2,7 +2,7 @@
 use Rattle.std.proofs.Common.{◌≡◌, ℕ, ◌+◌, ◌≤◌, ◌↔◌, refl, subst, List, [], length, get_or, arith, Some, None, Contains}
 use Rattle.monomial_order.specs.Monomial.{Exponents, product, Divides, IsMonomial, IsMultiple, least_common_multiple as lcm, weighted_degree}
 use Rattle.monomial_order.specs.laws.Monomial.{IsTrimmed-product, IsTrimmed-least_common_multiple as IsTrimmed-lcm}
-use Rattle.monomial_order.specs.laws.Cofactors.{Divides-product, Divides-trans, least_common_multiple_least}
+use Rattle.monomial_order.specs.laws.Cofactors.{Divides-product, Divides-trans, least_common_multiple_least, Divides-product_right}
 use Rattle.monomial_order.specs.laws.Comparing.{divisor_degree}
 use Rattle.monomial_order.specs.laws.Lists.{contains_at}
 use Rattle.word_laws.specs.Words.{Letters, AreLetters, word_order_of, image_of, IsWord, IsSWord, IsReducible, IsMinimalReducible, IsLeast, IsZeroClosed}
@@ -10,7 +10,7 @@ use Rattle.word_laws.specs.laws.Words.{word_laws, x_word, image_same, degree_ima
 use Rattle.word_laws.specs.laws.Reducible.{least_s_word}
 use Rattle.word_rewriting.specs.Rewriting.{WordOrZero, RewriteRule, Rewrites, HasLeftDivisor, IsNormalForm}
 use Rattle.word_rewriting.specs.Completeness.{AreInX, AreRewriteRules, AreComplete, GeneratesReducible, HaveDegreesTo, IsLeastOrZero, IsMinimalLeftSide, AreReducedRules, lead_letter}
-use Rattle.word_rewriting.specs.laws.Rewriting.{rule_rewrites, none_stays, Divides-product_right}
+use Rattle.word_rewriting.specs.laws.Rewriting.{rule_rewrites, none_stays}
 use Rattle.word_rewriting.specs.laws.Criterion.{reducible_divided}
 use Rattle.word_rewriting.specs.laws.Letters.{letter_image, letter_word}
 use Rattle.word_rewriting.specs.laws.NormalForms.{pair_images, generated_joinable, divided_reducible, left_reducible, form_least, minimal_left, left_minimal}

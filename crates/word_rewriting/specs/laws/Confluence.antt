@@ -4,11 +4,11 @@ use Rattle.std.specs.declared.cmp.Ordering.TheVariants.{Less}
 use Rattle.monomial_order.specs.Monomial.{Exponents, product, least_common_multiple as lcm, IsTrimmed, IsMonomial, Divides}
 use Rattle.monomial_order.specs.MonomialOrder.{MonomialOrder, IsMonomialOrder}
 use Rattle.monomial_order.specs.laws.Monomial.{product_comm, length-product, product_assoc, IsMonomial-product, IsTrimmed-product, IsTrimmed-least_common_multiple}
-use Rattle.monomial_order.specs.laws.Cofactors.{cofactor, least_common_multiple_least, Divides-least_common_multiple, Divides-least_common_multiple_right}
+use Rattle.monomial_order.specs.laws.Cofactors.{cofactor, least_common_multiple_least, Divides-least_common_multiple, Divides-least_common_multiple_right, product_cancel_right}
 use Rattle.monomial_order.specs.laws.Comparing.{degree_falls, divisor_degree}
 use Rattle.monomial_order.specs.laws.Rank.{IsWithin, below_induction}
 use Rattle.word_rewriting.specs.Rewriting.{WordOrZero, RewriteRule, RewritesOnce, Rewrites, stays, steps, AreJoinable, HasLeftDivisor, IsInNormalForm, IsNormalForm, multiple, JoinsPair, JoinsPairs}
-use Rattle.word_rewriting.specs.laws.Rewriting.{rewrites_trans, joinable_sym, first_step, none_stays, multiple_joinable, divided_or_not, left_divides, normal_stays, multiple_multiple, product_cancel_right}
+use Rattle.word_rewriting.specs.laws.Rewriting.{rewrites_trans, joinable_sym, first_step, none_stays, multiple_joinable, divided_or_not, left_divides, normal_stays, multiple_multiple}
 
 -- a smaller word, or zero
 abbrev pub IsBelow : MonomialOrder → Exponents → WordOrZero → Type 0

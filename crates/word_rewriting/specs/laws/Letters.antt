@@ -2,9 +2,9 @@
 use Rattle.std.proofs.Common.{◌≡◌, ℕ, zero, suc, ◌+◌, ◌<◌, sym, ◌∙◌, ap, refl, List, [], ◌∷◌, ◌++◌, length, get_or, length-append, arith}
 use Rattle.std.proofs.lemmas.List.{length-map, get_or-append-add}
 use Rattle.monomial_order.specs.Monomial.{Exponents, product, variable, weighted_degree}
-use Rattle.monomial_order.specs.laws.Monomial.{product-one}
+use Rattle.monomial_order.specs.laws.Monomial.{product-one, variable_monomial}
 use Rattle.word_laws.specs.Words.{Letters, lead_degrees, word_order_of, image_of, IsWord, image, variables}
-use Rattle.word_laws.specs.laws.Images.{variable_monomial, length-variables}
+use Rattle.word_laws.specs.laws.Images.{length-variables}
 use Rattle.word_rewriting.specs.Completeness.{lead_letter}
 
 image_variable : (i : ℕ) (ms : List Exponents) → image (variable i) ms ≡ get_or ms i []

@@ -4,17 +4,12 @@ use Rattle.std.specs.Prelude.{AllPairs}
 use Rattle.std.proofs.lemmas.List.{get_or_default}
 use Rattle.monomial_order.specs.Monomial.{Exponents, product, least_common_multiple as lcm, IsTrimmed, AreCoprime}
 use Rattle.monomial_order.specs.MonomialOrder.{MonomialOrder}
-use Rattle.monomial_order.specs.laws.Monomial.{product_comm, IsTrimmed-product, exponent-product, IsTrimmed-least_common_multiple as IsTrimmed-lcm, exponent-least_common_multiple as exponent-lcm, least_common_multiple_comm as lcm_comm}
-use Rattle.monomial_order.specs.laws.Cofactors.{same_exponents, cofactor, Divides-least_common_multiple, Divides-least_common_multiple_right}
+use Rattle.monomial_order.specs.laws.Monomial.{product_comm, IsTrimmed-least_common_multiple as IsTrimmed-lcm, least_common_multiple_comm as lcm_comm}
+use Rattle.monomial_order.specs.laws.Cofactors.{cofactor, Divides-least_common_multiple, Divides-least_common_multiple_right, product_cancel_right, least_common_multiple_coprime as lcm_coprime}
 use Rattle.monomial_order.specs.laws.Comparing.{le_or_not}
 use Rattle.word_rewriting.specs.Rewriting.{WordOrZero, RewriteRule, RewritesBy, Rewrites, stays, steps, AreJoinable, IsCriticalPair, HasJoinablePair, JoinsPair, JoinsPairs, multiple}
-use Rattle.word_rewriting.specs.laws.Rewriting.{joinable_itself, joinable_sym, product_cancel_right}
+use Rattle.word_rewriting.specs.laws.Rewriting.{joinable_itself, joinable_sym}
 use Rattle.word_rewriting.specs.laws.Confluence.{IsBelow, IsDecreasingRule}
-
-lcm_coprime : (m n : Exponents) → IsTrimmed m → IsTrimmed n → AreCoprime m n → lcm m n ≡ product m n
-lcm_coprime m n hm hn h =
-    same_exponents (lcm m n) (product m n) (IsTrimmed-lcm m n hm hn) (IsTrimmed-product m n hm hn)
-    (λ i. let a = exponent-lcm m n i in let b = exponent-product m n i in let c = h i in omega arith)
 
 -- a rule has one result for a word
 pub one_result : (r : RewriteRule) (w : Exponents) (a b : WordOrZero) → RewritesBy r w a → RewritesBy r w b → a ≡ b

@@ -4,11 +4,10 @@ use Rattle.std.specs.Prelude.{AllPairs}
 use Rattle.std.proofs.lemmas.List.{get_or_default}
 use Rattle.std.specs.declared.cmp.Ordering.TheVariants.{Less}
 use Rattle.monomial_order.specs.Monomial.{Exponents, exponent, IsTrimmed, IsMonomial, Divides, variable, weighted_degree}
-use Rattle.monomial_order.specs.laws.Monomial.{variable_divides, trimmed_tail}
+use Rattle.monomial_order.specs.laws.Monomial.{variable_divides, trimmed_tail, variable_trimmed, variable_length}
 use Rattle.monomial_order.specs.laws.Comparing.{le_or_not, equal_or_not, proper_divisor, not_below_self}
 use Rattle.monomial_order.specs.laws.Lists.{contains_at}
 use Rattle.word_laws.specs.Words.{Letters, AreLetters, word_order_of, image_of, IsWord, IsSmaller, IsReducible, IsLeast}
-use Rattle.word_laws.specs.laws.Images.{variable_trimmed, variable_length}
 use Rattle.word_laws.specs.laws.Words.{word_laws, image_x, degree_image, degree_same, degree_x}
 use Rattle.word_rewriting.specs.Rewriting.{WordOrZero, RewriteRule}
 use Rattle.word_rewriting.specs.Completeness.{lead_letter, with_leads, IsRightSide, AreRewriteRules, GeneratesReducible}

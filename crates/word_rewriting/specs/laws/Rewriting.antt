@@ -1,17 +1,11 @@
 -- Rewriting by any rules.
 use Rattle.std.proofs.Common.{◌≡◌, refl, sym, ◌∙◌, ap, subst, List, [], ◌⊎◌, inl, inr, ⊎_elim, Some, None, Contains}
 use Rattle.monomial_order.specs.Monomial.{Exponents, product, IsTrimmed, Divides}
-use Rattle.monomial_order.specs.laws.Monomial.{product_assoc, product_comm, IsTrimmed-product}
-use Rattle.monomial_order.specs.laws.Cofactors.{divides_or_not, Divides-product, product_cancel}
+use Rattle.monomial_order.specs.laws.Monomial.{product_assoc, IsTrimmed-product}
+use Rattle.monomial_order.specs.laws.Cofactors.{divides_or_not, Divides-product_right}
 use Rattle.monomial_order.specs.laws.Lists.{find_member}
 use Rattle.monomial_order.specs.laws.Comparing.{equal_or_not}
 use Rattle.word_rewriting.specs.Rewriting.{WordOrZero, RewriteRule, RewritesOnce, Rewrites, stays, steps, AreJoinable, HasLeftDivisor, IsInNormalForm, multiple}
-
-pub Divides-product_right : (k m : Exponents) → Divides m (product k m)
-Divides-product_right k m = subst (Divides m) (product_comm m k) (Divides-product m k)
-
-pub product_cancel_right : (k l m : Exponents) → IsTrimmed k → IsTrimmed l → product k m ≡ product l m → k ≡ l
-product_cancel_right k l m hk hl h = product_cancel m k l hk hl (product_comm m k ∙ (h ∙ product_comm l m))
 
 pub same_or_not : (a b : WordOrZero) → (a ≡ b) ⊎ (a ≡ b → ⊥)
 same_or_not None None = inl refl
