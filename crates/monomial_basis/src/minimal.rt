@@ -73,7 +73,7 @@ fn is_below<O: Order>(o: &O, k: &Monomial, other: Option<&Monomial>) -> bool
     }
 }
 
-/// Puts a monomial at the end of a list that does not generate it.
+/// Puts a monomial at the end of a list, unless the list generates it.
 fn add_unless_generated<O: Order>(
     alloc: Global,
     o: &O,

@@ -77,7 +77,7 @@ take_trimmed (suc n) m l ne =
     index : (k : ℕ) → length (take (suc n) m) ≡ suc k → suc n - 1 ≡ k
     index k e = let t = Rattle.std.proofs.Math.ListN.length-take (suc n) m in omega arith
 
--- what is taken has the same exponents where only zeros are left out
+-- the front of a list has the same exponents if only zeros are left out
 pub exponent-take_used : (n : ℕ) (m : List ℕ) → ((i : ℕ) → n ≤ i → exponent m i ≡ 0) → (i : ℕ) → exponent (take n m) i ≡ exponent m i
 exponent-take_used n m zeros i = ⊎_elim (λ b. exponent-take n m i b) (λ p. past i p) (below_or_not i n)
   where

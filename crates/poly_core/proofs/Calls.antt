@@ -126,6 +126,6 @@ zero_constant K F c z m = sym (ap (λ x. K.plus x K.zero) (share (same_monomial 
     share true = z
     share false = refl
 
--- what a test by `==` tells
+-- what follows from a test by `==`
 pub told_unequal : (b e : Bool) → b ≡ false → b ≡ e → e ≡ true → ⊥
 told_unequal b e h k r = true≢false (sym r ∙ (sym k ∙ h))

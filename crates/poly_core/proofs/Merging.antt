@@ -213,7 +213,7 @@ module _ {E : Type 0} (K : FieldOps E) (F : IsField K) (O : MonomialOrder) (L : 
 pub reverse_last : {A : Type 0} (xs : List A) (x : A) → reverse (xs ++ (x ∷ [])) ≡ x ∷ reverse xs
 reverse_last xs x = reverse-append xs (x ∷ [])
 
--- what a test by `!=` tells
+-- what follows from a test by `!=`
 pub told_differ : (n e : Bool) → n ≡ true → n ≡ not e → e ≡ true → ⊥
 told_differ n true h k r = absurd (true≢false (sym h ∙ k))
 told_differ n false h k r = absurd (true≢false (sym r))
@@ -265,7 +265,7 @@ module _ {E : Type 0} (K : FieldOps E) (F : IsField K) (O : MonomialOrder) (L : 
         (λ z. put_last r' (term_of m.left.at (K.plus m.left.by m.right.by)) p' q' z.1 (take_both K F O L a b p' q' (reverse r) m.left m.right same z.0 last))
         m.put
 
--- what a test of emptiness tells
+-- what follows from a test of emptiness
 pub told_positive : (n : ℕ) (b : Bool) → b ≡ false → b ≡ nat_eq n 0 → 1 ≤ n
 told_positive zero b h k = absurd (true≢false (sym k ∙ h))
 told_positive (suc n) b h k = omega arith

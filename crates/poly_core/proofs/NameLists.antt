@@ -27,7 +27,7 @@ module _ {A : Type 0} (f : A → List ℕ) where
       or_true true b h = refl
       or_true false b h = h
 
-  -- what is found from the index s on stands there
+  -- what is found from the index s on is the member at the index found
   found_from : (q : List ℕ) (ks : List A) (s i : ℕ) → position_from (λ k. bytes_eq q (f k)) s ks ≡ Some i → (k : ℕ) × (i ≡ s + k) × (slice_get (map f ks) k ≡ Some q)
   found_from q [] s i h = let e : None ≡ Some i = h in cc
   found_from q (k ∷ ks) s i h =

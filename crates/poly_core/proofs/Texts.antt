@@ -45,7 +45,7 @@ pub on_ok : {X E P Q : Type 0} (r : Result X E) → (P → Q) → OnOk r P → O
 on_ok (Ok x) f h = f h
 on_ok (Err e) f h = tt
 
--- what stands before a factor
+-- what is written before a factor
 abbrev pub star : Bool → List ℕ
 star true = []
 star false = 42 ∷ []
@@ -77,7 +77,7 @@ abbrev pub terms_left : ℕ → List (List ℕ) → List ℕ
 terms_left zero xs = join (codes " + ") xs
 terms_left (suc i) xs = pieces_left (codes " + ") xs
 
--- what stands before a term
+-- what is written before a term
 abbrev pub plus : ℕ → List ℕ
 plus zero = []
 plus (suc i) = codes " + "

@@ -43,7 +43,7 @@ module _ {E : Type 0} (K : FieldOps E) (names : Names) where
       coefficient_and c [] = decimal c
       coefficient_and c (e ∷ m) = if nat_eq c 1 then factors_text names (e ∷ m) else decimal c ++ (42 ∷ factors_text names (e ∷ m))
 
-  -- the terms as they stand, joined by ` + `; zero is `0`
+  -- the terms in their order, joined by ` + `; zero is `0`
   abbrev pub poly_text : Polynomial E → List ℕ
   poly_text [] = codes "0"
   poly_text (t ∷ p) = join (codes " + ") (map term_text (t ∷ p))

@@ -52,7 +52,7 @@ impl<F: Field> Poly<F> {
         Ok(Poly { terms })
     }
 
-    /// The polynomial of terms that have no coefficient zero and fall in the order at hand.
+    /// The polynomial of terms that have no coefficient zero and are decreasing in the order at hand.
     pub fn from_falling(terms: Vec<Term<F::Elem>>) -> Poly<F>
         ensures { result ≡ terms.items }
     {

@@ -48,27 +48,3 @@ pub record IsField {E : Type 0} (K : FieldOps E) : Type 0 where
   pub word_of_word : (w : ℕ) → w < K.size → K.word (K.of_word w) ≡ w
   pub word_zero : K.word K.zero ≡ 0
   pub word_one : K.word K.one ≡ 1
-
--- What each field has beside its defining laws. On elements `reduce` changes nothing.
-pub record DerivedLaws {E : Type 0} (K : FieldOps E) : Type 0 where
-  -- all operations see the elements alone
-  pub reduce_plus : (a b : E) → K.plus (K.reduce a) b ≡ K.plus a b
-  pub reduce_times : (a b : E) → K.times (K.reduce a) b ≡ K.times a b
-  pub reduce_negate : (a : E) → K.negate (K.reduce a) ≡ K.negate a
-  -- (a + b) * c = a * c + b * c
-  pub plus_times : (a b c : E) → K.times (K.plus a b) c ≡ K.plus (K.times a c) (K.times b c)
-  -- zero and negatives
-  pub times_zero : (a : E) → K.times a K.zero ≡ K.zero
-  pub times_negate : (a b : E) → K.times a (K.negate b) ≡ K.negate (K.times a b)
-  pub negate_zero : K.negate K.zero ≡ K.zero
-  pub negate_negate : (a : E) → K.negate (K.negate a) ≡ K.reduce a
-  pub negate_plus : (a b : E) → K.negate (K.plus a b) ≡ K.plus (K.negate a) (K.negate b)
-  -- what cancels
-  pub plus_cancels : (a b c : E) → K.plus a b ≡ K.plus a c → K.reduce b ≡ K.reduce c
-  pub times_cancels : (a b c : E) → K.reduce a ≢ K.zero → K.times a b ≡ K.times a c → K.reduce b ≡ K.reduce c
-  -- a product is zero only if a factor is
-  pub zero_product : (a b : E) → K.times a b ≡ K.zero → (K.reduce a ≡ K.zero) ⊎ (K.reduce b ≡ K.zero)
-  -- an element has one negative, one inverse and a number of its own
-  pub one_negative : (a b : E) → K.plus a b ≡ K.zero → K.reduce b ≡ K.negate a
-  pub one_inverse : (a b c : E) → K.times a b ≡ K.one → K.times a c ≡ K.one → K.reduce b ≡ K.reduce c
-  pub one_word : (a b : E) → IsValue K a → IsValue K b → K.word a ≡ K.word b → a ≡ b

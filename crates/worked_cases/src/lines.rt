@@ -3,11 +3,10 @@ ghost use Rattle.std.specs.Prelude.{IfOk, IfSome};
 ghost use Rattle.worked_cases.specs.Rings.{IsIn, IsRing};
 
 use crate::rings::{Ring, X_AND_Y, polynomial, ring, text_of};
-use crate::rows::part;
+use crate::rows::{judge, part};
 use poly_core::{Poly, write_monomial};
 use polynomial_text::{LineFault, read_canonical, read_poly};
 use std::alloc::Global;
-use std::process::Abort;
 use std::test::Fail;
 use word_field::WordField;
 
@@ -16,22 +15,16 @@ fn outcome(alloc: Global, p: &Ring, line: &str) -> Result<String, Fail>
     requires { IsRing p.now }
 {
     match read_poly(alloc, &p.field, &p.order, &p.names, line.as_bytes()) {
-        Ok(a) => Ok(String::from_utf8(text_of(alloc, p, &a)?)?),
+        Ok(a) => text_of(alloc, p, &a),
         Err(LineFault::Kind(kind)) => Ok(format!(in alloc; "{kind:?}")?),
         Err(LineFault::Memory) => Err(Fail::new("out of memory")),
     }
 }
 
-/// Compares what is read of the line of a row.
-fn judge_line(rt: &impl Abort, alloc: Global, row: &str) -> Result<(), Fail> {
-    let p = ring(alloc, X_AND_Y)?;
-    let found = outcome(alloc, &p, part(row, 0))?;
-    assert_eq!(rt; found.as_str(), part(row, 1), "{row}");
-    Ok(())
-}
-
 #[test]
-fn reads_lines(rt: HostRuntime) -> Result<(), Fail> {
+fn lines_and_their_faults(rt: HostRuntime) -> Result<(), Fail> {
+    let alloc = rt.alloc();
+    let p = ring(alloc, X_AND_Y)?;
     for row in [
         "x*y | x*y",
         " + x^2*y - 0  | x^2*y",
@@ -46,43 +39,6 @@ fn reads_lines(rt: HostRuntime) -> Result<(), Fail> {
         "3 * x ^ 2 * 2 | 6*x^2",
         "000000000000000102 | 1",
         "x^29999*y | x^29999*y",
-    ] {
-        judge_line(&rt, rt.alloc(), row)?;
-    }
-    Ok(())
-}
-
-/// The canonical text of the first monomial of a polynomial.
-fn lead_text(alloc: Global, p: &Ring, a: &Poly<WordField>) -> Result<Vec<u8>, Fail>
-    requires valid { IsRing p.now }
-    requires canonical { IsIn p.now a.now }
-{
-    let Some(t) = a.lead() else {
-        return Err(Fail::new("no monomial"));
-    };
-    Ok(write_monomial(alloc, &t.at, &p.names)?)
-}
-
-/// Compares the text of the first monomial of the polynomial of a row.
-fn judge_lead_text(rt: &impl Abort, alloc: Global, row: &str) -> Result<(), Fail> {
-    let p = ring(alloc, X_AND_Y)?;
-    let a = polynomial(alloc, &p, part(row, 0))?;
-    let text = lead_text(alloc, &p, &a)?;
-    assert_eq!(rt; text.as_slice(), part(row, 1).as_bytes(), "{row}");
-    Ok(())
-}
-
-#[test]
-fn writes_monomials(rt: HostRuntime) -> Result<(), Fail> {
-    for row in ["5 | 1", "3*x^2*y + y | x^2*y"] {
-        judge_lead_text(&rt, rt.alloc(), row)?;
-    }
-    Ok(())
-}
-
-#[test]
-fn refuses_lines(rt: HostRuntime) -> Result<(), Fail> {
-    for row in [
         "x y | PolySyntax",
         "x + | PolySyntax",
         "x * | PolySyntax",
@@ -102,7 +58,29 @@ fn refuses_lines(rt: HostRuntime) -> Result<(), Fail> {
         "x^30001*w | DegreeTooLarge",
         "x^20000*x^20000 x | DegreeTooLarge",
     ] {
-        judge_line(&rt, rt.alloc(), row)?;
+        judge(row, outcome(alloc, &p, part(row, 0))?.as_str())?;
+    }
+    Ok(())
+}
+
+/// The canonical text of the first monomial of a polynomial.
+fn lead_text(alloc: Global, p: &Ring, a: &Poly<WordField>) -> Result<Vec<u8>, Fail>
+    requires valid { IsRing p.now }
+    requires canonical { IsIn p.now a.now }
+{
+    let Some(t) = a.lead() else {
+        return Err(Fail::new("no monomial"));
+    };
+    Ok(write_monomial(alloc, &t.at, &p.names)?)
+}
+
+#[test]
+fn texts_of_monomials(rt: HostRuntime) -> Result<(), Fail> {
+    let alloc = rt.alloc();
+    let p = ring(alloc, X_AND_Y)?;
+    for row in ["5 | 1", "3*x^2*y + y | x^2*y"] {
+        let a = polynomial(alloc, &p, part(row, 0))?;
+        judge(row, String::from_utf8(lead_text(alloc, &p, &a)?)?.as_str())?;
     }
     Ok(())
 }
@@ -115,41 +93,27 @@ fn canonical(alloc: Global, p: &Ring, line: &str) -> Result<Option<Poly<WordFiel
     Ok(read_canonical(alloc, &p.field, &p.order, &p.names, line.as_bytes())?)
 }
 
-/// Sees that the line is read as canonical text, with so many terms, or is not if the row has `-`.
-fn judge_canonical(rt: &impl Abort, alloc: Global, row: &str) -> Result<(), Fail> {
-    let p = ring(alloc, X_AND_Y)?;
-    let line = part(row, 0);
-    match canonical(alloc, &p, line)? {
-        Some(a) => {
-            let count = a.terms().len();
-            assert_eq!(rt;
-                format!(in alloc; "{count}")?.as_str(),
-                part(row, 1),
-                "{row}"
-            );
-            assert_eq!(rt;
-                text_of(alloc, &p, &a)?.as_slice(),
-                line.as_bytes(),
-                "{row}"
-            );
-            Ok(())
-        }
-        None => {
-            assert_eq!(rt; part(row, 1), "-", "{row}");
-            Ok(())
-        }
+/// The canonical text of what is read of a line as canonical text, and `-` if nothing is.
+fn again(alloc: Global, p: &Ring, line: &str) -> Result<String, Fail>
+    requires { IsRing p.now }
+{
+    match canonical(alloc, p, line)? {
+        Some(a) => text_of(alloc, p, &a),
+        None => Ok(format!(in alloc; "-")?),
     }
 }
 
 #[test]
-fn reads_canonical_lines_alone(rt: HostRuntime) -> Result<(), Fail> {
+fn canonical_lines_alone(rt: HostRuntime) -> Result<(), Fail> {
+    let alloc = rt.alloc();
+    let p = ring(alloc, X_AND_Y)?;
     for row in [
-        "x*y + 100 | 2",
+        "x*y + 100 | x*y + 100",
         "100 + x*y | -",
         "0 | 0",
         "1 | 1",
-        "2*x^2*y + y^3 + 3 | 3",
-        "x^30000 | 1",
+        "2*x^2*y + y^3 + 3 | 2*x^2*y + y^3 + 3",
+        "x^30000 | x^30000",
         "x^30001 | -",
         " | -",
         " x | -",
@@ -171,7 +135,7 @@ fn reads_canonical_lines_alone(rt: HostRuntime) -> Result<(), Fail> {
         "x + w | -",
         "x + | -",
     ] {
-        judge_canonical(&rt, rt.alloc(), row)?;
+        judge(row, again(alloc, &p, part(row, 0))?.as_str())?;
     }
     Ok(())
 }

@@ -3,8 +3,8 @@ use monomial_order::{Memory, Monomial};
 use std::alloc::Global;
 use std::test::Fail;
 
-/// The place of a letter: x, y, z, w are the first four.
-fn place(n: usize, letter: &str) -> Result<usize, Fail> {
+/// The index of a letter: x, y, z, w are the first four.
+fn index(n: usize, letter: &str) -> Result<usize, Fail> {
     match letter {
         "x" => Ok(0),
         "y" => Ok(1),
@@ -14,7 +14,7 @@ fn place(n: usize, letter: &str) -> Result<usize, Fail> {
     }
 }
 
-/// The place of x1, x2, .. and, behind n places, of s1, s2, ..
+/// The index of x1, x2, .. and, after n of them, of s1, s2, ..
 fn numbered(n: usize, letter: &str) -> Result<usize, Fail> {
     match letter.strip_prefix("s") {
         Some(number) => Ok(number.parse::<usize>()?.saturating_add(n).saturating_sub(1)),
@@ -25,24 +25,24 @@ fn numbered(n: usize, letter: &str) -> Result<usize, Fail> {
     }
 }
 
-/// Sets the exponent at a place below 100.
-fn set(exponents: &mut Vec<u16>, place: usize, exponent: u16) -> Result<(), Memory> {
-    if exponents.len() <= place && place < 100 {
-        exponents.resize(place + 1, 0)?;
+/// Sets the exponent at an index below 100.
+fn set(exponents: &mut Vec<u16>, index: usize, exponent: u16) -> Result<(), Memory> {
+    if exponents.len() <= index && index < 100 {
+        exponents.resize(index + 1, 0)?;
     }
-    if place < exponents.len() {
-        exponents[place] = exponent;
+    if index < exponents.len() {
+        exponents[index] = exponent;
     }
     Ok(())
 }
 
-/// The word of a text, as `x^2*s1`, where x, y, z, w or x1, x2, .. are the first n letters and s1, s2, .. the others.
+/// The word of a text, as `x^2*s1`: x, y, z, w or x1, x2, .. are the first n letters, and s1, s2, .. the others.
 pub fn word(alloc: Global, n: usize, text: &str) -> Result<Monomial, Fail> {
     let mut exponents = Vec::new(alloc);
     if text != "1" {
         for factor in text.split('*') {
             let (letter, exponent) = factor.split_once('^').unwrap_or((factor, "1"));
-            set(&mut exponents, place(n, letter)?, exponent.parse::<u16>()?)?;
+            set(&mut exponents, index(n, letter)?, exponent.parse::<u16>()?)?;
         }
     }
     Ok(Monomial::from_places(alloc, exponents.as_slice())?)

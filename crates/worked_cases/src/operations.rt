@@ -8,33 +8,15 @@ ghost use Rattle.worked_cases.specs.Rings.{IsIn, IsLowIn, IsRing};
 
 use crate::monomials::monomial;
 use crate::rings::{Ring, X_AND_Y, polynomial, polynomials, ring, text_of};
-use crate::rows::{number, part};
+use crate::rows::{ensure, judge, number, part};
 use monomial_order::{Order, Term};
 use poly_core::{NameTable, Poly};
 use std::alloc::Global;
-use std::process::Abort;
 use std::test::Fail;
 use word_field::{Field, WordField};
 
 /// The greatest degree that is computed with.
 const EXPONENT_MAX: u32 = 65_535;
-
-/// Compares the canonical text of a polynomial with the part of the row at an index.
-fn compare(
-    rt: &impl Abort,
-    alloc: Global,
-    p: &Ring,
-    found: &Poly<WordField>,
-    row: &str,
-    index: usize,
-) -> Result<(), Fail>
-    requires ring { IsRing p.now }
-    requires found { IsIn p.now found.now }
-{
-    let text = text_of(alloc, p, found)?;
-    assert_eq!(rt; text.as_slice(), part(row, index).as_bytes(), "{row}");
-    Ok(())
-}
 
 /// The product of two polynomials.
 fn product(
@@ -95,31 +77,6 @@ fn of_two(
     }
 }
 
-#[test]
-fn sums_and_products(rt: HostRuntime) -> Result<(), Fail> {
-    for row in [
-        "y | plus | x | x + y",
-        "x + y | plus | 100*x | y",
-        "x + y | plus, taking | 100*x | y",
-        "x + y | minus | x + y | 0",
-        "x + y | times the term | 3*x | 3*x^2 + 3*x*y",
-        "x + y | times | x + y | x^2 + 2*x*y + y^2",
-        "x + y | times | 0 | 0",
-    ] {
-        judge_two(&rt, rt.alloc(), row)?;
-    }
-    Ok(())
-}
-
-/// Compares the answer of the operation that the row names between two polynomials.
-fn judge_two(rt: &impl Abort, alloc: Global, row: &str) -> Result<(), Fail> {
-    let p = ring(alloc, X_AND_Y)?;
-    let a = polynomial(alloc, &p, part(row, 0))?;
-    let b = polynomial(alloc, &p, part(row, 2))?;
-    let found = of_two(alloc, &p, a, part(row, 1), b)?;
-    compare(rt, alloc, &p, &found, row, 3)
-}
-
 /// What the operation makes of a polynomial and a number.
 fn of_one(
     alloc: Global,
@@ -138,30 +95,6 @@ fn of_one(
         "copied" => Ok(a.copy(alloc)?),
         _ => Err(Fail::new("no operation")),
     }
-}
-
-/// Compares the answer of the operation that the row names at a polynomial.
-fn judge_one(rt: &impl Abort, alloc: Global, row: &str) -> Result<(), Fail> {
-    let p = ring(alloc, X_AND_Y)?;
-    let a = polynomial(alloc, &p, part(row, 0))?;
-    let found = of_one(alloc, &p, &a, part(row, 1), number(part(row, 2))?)?;
-    compare(rt, alloc, &p, &found, row, 3)
-}
-
-#[test]
-fn multiples_and_parts(rt: HostRuntime) -> Result<(), Fail> {
-    for row in [
-        "x + y | scaled by | 2 | 2*x + 2*y",
-        "x + y | scaled by | 101 | 0",
-        "2*x + 4*y | monic | 1 | x + 2*y",
-        "0 | monic | 1 | 0",
-        "2*x*y + 1 | copied | 1 | 2*x*y + 1",
-        "2*x*y + 1 | component | 1 | 0",
-        "x^2 + y | component | 1 | y",
-    ] {
-        judge_one(&rt, rt.alloc(), row)?;
-    }
-    Ok(())
 }
 
 /// The degree of a polynomial, and 0 for zero.
@@ -218,7 +151,6 @@ fn has_small_value(p: &Ring, t: &Term<u32>, at: &[Poly<WordField>]) -> bool
 
 /// The value of a polynomial at a list with a polynomial for each place.
 fn value(
-    rt: &impl Abort,
     alloc: Global,
     p: &Ring,
     h: &Poly<WordField>,
@@ -228,90 +160,129 @@ fn value(
     requires at { All (IsIn p.now) at.now }
     ensures { IfOk result (IsIn p.now) }
 {
-    assert!(rt; at.len() == p.order.places());
-    assert!(rt; have_small_values(p, h.terms(), at));
+    ensure(at.len() == p.order.places(), "another number of lines")?;
+    ensure(have_small_values(p, h.terms(), at), "a great degree")?;
     Ok(Poly::evaluate(alloc, &p.field, &p.order, h, at)?)
 }
 
-/// Compares the value of a polynomial at the lines of the second part.
-fn judge_value(rt: &impl Abort, alloc: Global, row: &str) -> Result<(), Fail> {
-    let p = ring(alloc, X_AND_Y)?;
-    let h = polynomial(alloc, &p, part(row, 0))?;
-    let at = polynomials(alloc, &p, part(row, 1))?;
-    let found = value(rt, alloc, &p, &h, at.as_slice())?;
-    compare(rt, alloc, &p, &found, row, 2)
+/// The first coefficient of a polynomial, its degree, and whether it is homogeneous.
+fn lead_and_degree(alloc: Global, p: &Ring, a: &Poly<WordField>) -> Result<String, Fail>
+    requires { IsIn p.now a.now }
+{
+    let by = a.lead().map_or(0, |t| t.by);
+    let degree = Poly::degree(&p.order, a);
+    let is_homogeneous = Poly::is_homogeneous(&p.order, a);
+    Ok(format!(in alloc; "{by}, {degree:?}, {is_homogeneous}")?)
+}
+
+/// What the operation of a row makes of its polynomial and of what the third part has.
+fn made_of(
+    alloc: Global,
+    p: &Ring,
+    a: Poly<WordField>,
+    operation: &str,
+    other: &str,
+) -> Result<Poly<WordField>, Fail>
+    requires valid { IsRing p.now }
+    requires a { IsIn p.now a }
+    requires low { IsLowIn p.now a }
+    ensures { IfOk result (IsIn p.now) }
+{
+    match operation {
+        "scaled by" | "component" | "monic" | "copied" => of_one(
+            alloc,
+            p,
+            &a,
+            operation,
+            number(other)?,
+        ),
+        "at" => value(alloc, p, &a, polynomials(alloc, p, other)?.as_slice()),
+        _ => of_two(alloc, p, a, operation, polynomial(alloc, p, other)?),
+    }
+}
+
+/// The canonical text of what a row asks for, or what it asks of the polynomial.
+fn answer(alloc: Global, p: &Ring, row: &str) -> Result<String, Fail>
+    requires { IsRing p.now }
+{
+    let a = polynomial(alloc, p, part(row, 0))?;
+    if part(row, 1) == "has" {
+        return lead_and_degree(alloc, p, &a);
+    }
+    let found = made_of(alloc, p, a, part(row, 1), part(row, 2))?;
+    text_of(alloc, p, &found)
 }
 
 #[test]
-fn values(rt: HostRuntime) -> Result<(), Fail> {
+fn operations_of_polynomials(rt: HostRuntime) -> Result<(), Fail> {
+    let alloc = rt.alloc();
+    let p = ring(alloc, X_AND_Y)?;
     for row in [
-        "x^2 - 2*y | x + y\nx*y | x^2 + y^2",
-        "3 | x\ny | 3",
-        "0 | x\ny | 0",
+        "y | plus | x | x + y",
+        "x + y | plus | 100*x | y",
+        "x + y | plus, taking | 100*x | y",
+        "x + y | minus | x + y | 0",
+        "x + y | times the term | 3*x | 3*x^2 + 3*x*y",
+        "x + y | times | x + y | x^2 + 2*x*y + y^2",
+        "x + y | times | 0 | 0",
+        "x + y | scaled by | 2 | 2*x + 2*y",
+        "x + y | scaled by | 101 | 0",
+        "2*x + 4*y | monic | 1 | x + 2*y",
+        "0 | monic | 1 | 0",
+        "2*x*y + 1 | copied | 1 | 2*x*y + 1",
+        "2*x*y + 1 | component | 1 | 0",
+        "x^2 + y | component | 1 | y",
+        "x^2 - 2*y | at | x + y\nx*y | x^2 + y^2",
+        "3 | at | x\ny | 3",
+        "0 | at | x\ny | 0",
+        // the first coefficient, the degree, and whether it is homogeneous
+        "2*x*y + 1 | has | 2, Some(2), false",
+        "x^2 + y | has | 1, Some(2), false",
+        "y | has | 1, Some(1), true",
+        "0 | has | 0, None, true",
     ] {
-        judge_value(&rt, rt.alloc(), row)?;
+        judge(row, answer(alloc, &p, row)?.as_str())?;
     }
     Ok(())
 }
 
-/// Compares the first term of a polynomial, its degree, and whether it is homogeneous.
-fn judge_lead(rt: &impl Abort, alloc: Global, row: &str) -> Result<(), Fail> {
-    let p = ring(alloc, X_AND_Y)?;
-    let a = polynomial(alloc, &p, part(row, 0))?;
-    let by = match a.lead() {
-        Some(t) => t.by,
-        None => 0,
+/// How many terms there are, and the coefficient of the first, of polynomials that are made without a reader.
+fn made(alloc: Global, row: &str) -> Result<String, Fail> {
+    let f = WordField::new(101).ok_or("a listed size")?;
+    let at = monomial(alloc, part(row, 1))?;
+    let by = f.from_word(part(row, 2).parse::<u64>()?);
+    let a: Poly<WordField> = match part(row, 0) {
+        "zero" => Poly::zero(alloc),
+        "term" => Poly::term(alloc, &f, at, by)?,
+        _ => Poly::from_falling(vec![in alloc; Term { at, by }]?),
     };
-    let degree = Poly::degree(&p.order, &a);
-    let is_homogeneous = Poly::is_homogeneous(&p.order, &a);
-    let found = format!(in alloc; "{by}, {degree:?}, {is_homogeneous}")?;
-    assert_eq!(rt; found.as_str(), part(row, 1), "{row}");
-    Ok(())
-}
-
-#[test]
-fn leads_and_degrees(rt: HostRuntime) -> Result<(), Fail> {
-    for row in [
-        "2*x*y + 1 | 2, Some(2), false",
-        "x^2 + y | 1, Some(2), false",
-        "y | 1, Some(1), true",
-        "0 | 0, None, true",
-    ] {
-        judge_lead(&rt, rt.alloc(), row)?;
-    }
-    Ok(())
+    let count = a.terms().len();
+    let first = a.lead().map_or(0, |t| t.by);
+    Ok(format!(in alloc; "{count} {first}")?)
 }
 
 #[test]
 fn terms_of_no_reader(rt: HostRuntime) -> Result<(), Fail> {
-    let alloc = rt.alloc();
-    let f = WordField::new(101).ok_or("a listed size")?;
-    let zero = Poly::term(alloc, &f, monomial(alloc, "x")?, f.from_word(0))?;
-    assert_eq!(rt; zero.terms().len(), 0);
-    let one = Poly::term(alloc, &f, monomial(alloc, "y")?, f.from_word(103))?;
-    assert_eq!(rt; one.terms().len(), 1);
-    assert_eq!(rt; one.terms()[0].by, 2);
-    let none: Poly<WordField> = Poly::zero(alloc);
-    assert!(rt; none.lead().is_none());
-    let y = Term {
-        at: monomial(alloc, "y")?,
-        by: 1,
-    };
-    let falling: Poly<WordField> = Poly::from_falling(vec![in alloc; y]?);
-    assert_eq!(rt; falling.terms().len(), 1);
-    assert!(rt; falling.terms()[0].at == monomial(alloc, "y")?);
+    for row in [
+        "term | x | 0 | 0 0",
+        "term | y | 103 | 1 2",
+        "zero | y | 1 | 0 0",
+        "list of a term | y | 1 | 1 1",
+    ] {
+        judge(row, made(rt.alloc(), row)?.as_str())?;
+    }
     Ok(())
 }
 
 #[test]
-fn each_name_has_one_place(rt: HostRuntime) -> Result<(), Fail> {
-    let mut table = NameTable::new(rt.alloc());
-    assert!(rt; table.is_empty());
-    assert!(rt; table.push("x")?);
-    assert!(rt; !table.push("x")?);
-    assert_eq!(rt; table.place("x"), Some(0));
-    assert_eq!(rt; table.place("w"), None);
-    assert_eq!(rt; table.len(), 1);
-    assert_eq!(rt; table.name(0), "x");
-    Ok(())
+fn each_name_has_one_index(rt: HostRuntime) -> Result<(), Fail> {
+    let alloc = rt.alloc();
+    let mut table = NameTable::new(alloc);
+    let is_empty = table.is_empty();
+    let first = table.push("x")?;
+    let again = table.push("x")?;
+    let (x, w, count) = (table.place("x"), table.place("w"), table.len());
+    let found = format!(in alloc; "{is_empty} {first} {again} {x:?} {w:?} {count}")?;
+    judge("x, x | true true false Some(0) None 1", found.as_str())?;
+    ensure(table.name(0) == "x", "the name of index 0")
 }

@@ -5,12 +5,11 @@ ghost use Rattle.worked_cases.specs.Rings.{IsIn, IsRing};
 
 use crate::products::small;
 use crate::rings::{Ring, polynomial, ring};
-use crate::rows::{number, numbers, part};
+use crate::rows::{ensure, judge, number, numbers, part};
 use monomial_order::{Memory, Monomial, Order, OrderFault, Row, Tie, WeightOrder, WordOrder};
 use poly_core::Poly;
 use std::alloc::Global;
 use std::cmp::Ordering;
-use std::process::Abort;
 use std::test::Fail;
 use word_field::WordField;
 
@@ -63,7 +62,7 @@ fn weights_and_rows_are_judged_in_order(rt: HostRuntime) -> Result<(), Fail> {
         "1 1 | 0 1 | 1 | [1, 1] 1 Lex",
         "1 |  | 0 | [1] 0 Lex",
     ] {
-        assert_eq!(rt; outcome(alloc, row)?.as_str(), part(row, 3), "{row}");
+        judge(row, outcome(alloc, row)?.as_str())?;
     }
     Ok(())
 }
@@ -91,18 +90,13 @@ fn compared(p: &Ring, a: &Poly<WordField>, b: &Poly<WordField>) -> Option<Orderi
     Some(p.order.compare(&a.at, &b.at))
 }
 
-/// Compares the two monomials of the row.
-fn judge_comparison(rt: &impl Abort, alloc: Global, row: &str) -> Result<(), Fail> {
+/// How the order of the row compares its two monomials.
+fn comparison(alloc: Global, row: &str) -> Result<String, Fail> {
     let p = ring_of(alloc, row)?;
     let a = polynomial(alloc, &p, part(row, 3))?;
     let b = polynomial(alloc, &p, part(row, 4))?;
     let found = compared(&p, &a, &b).ok_or("no monomial")?;
-    assert_eq!(rt;
-        format!(in alloc; "{found:?}")?.as_str(),
-        part(row, 5),
-        "{row}"
-    );
-    Ok(())
+    Ok(format!(in alloc; "{found:?}")?)
 }
 
 #[test]
@@ -117,7 +111,7 @@ fn orders_by_weights_compare(rt: HostRuntime) -> Result<(), Fail> {
         "a b | 2 3 | lex | a^3 | b^2 | Greater",
         "a b | 2 3 | 0 1 ; lex | a^3 | b^2 | Less",
     ] {
-        judge_comparison(&rt, rt.alloc(), row)?;
+        judge(row, comparison(rt.alloc(), row)?.as_str())?;
     }
     Ok(())
 }
@@ -133,22 +127,24 @@ fn three_letters(alloc: Global) -> Result<WordOrder, Memory>
 }
 
 /// How the order compares the words.
-fn compared_words(rt: &impl Abort, order: &WordOrder, a: &Monomial, b: &Monomial) -> Ordering
+fn compared_words(order: &WordOrder, a: &Monomial, b: &Monomial) -> Result<Ordering, Fail>
     requires x { order.now.x_degrees.items ≡ 1 ∷ 1 ∷ [] }
     requires s { order.now.s_degrees.items ≡ 2 ∷ [] }
     requires left { (i : ℕ) → exponent a.now i ≤ 7 }
     requires right { (i : ℕ) → exponent b.now i ≤ 7 }
 {
-    assert!(rt; a.places() <= order.places());
-    assert!(rt; b.places() <= order.places());
-    order.compare(a, b)
+    ensure(a.places() <= order.places(), "another letter")?;
+    ensure(b.places() <= order.places(), "another letter")?;
+    Ok(order.compare(a, b))
 }
 
 #[test]
 fn words_compare(rt: HostRuntime) -> Result<(), Fail> {
     let order = three_letters(rt.alloc())?;
-    let s = small(&rt, rt.alloc(), "z")?;
-    let x = small(&rt, rt.alloc(), "x*y")?;
-    assert_eq!(rt; compared_words(&rt, &order, &s, &x), Ordering::Less);
-    Ok(())
+    let s = small(rt.alloc(), "z")?;
+    let x = small(rt.alloc(), "x*y")?;
+    ensure(
+        compared_words(&order, &s, &x)? == Ordering::Less,
+        "s1 and x1*x2",
+    )
 }

@@ -3,25 +3,24 @@ ghost use Rattle.std.specs.Prelude.{ℕ, ◌≤◌, IfOk};
 ghost use Rattle.monomial_order.specs.Monomial.{exponent};
 
 use crate::monomials::{is_word, monomial};
-use crate::rows::part;
+use crate::rows::{ensure, part};
 use monomial_order::Monomial;
 use std::alloc::Global;
-use std::process::Abort;
 use std::test::Fail;
 
 /// A monomial whose exponents are at most 7.
-pub(crate) fn small(rt: &impl Abort, alloc: Global, text: &str) -> Result<Monomial, Fail>
+pub(crate) fn small(alloc: Global, text: &str) -> Result<Monomial, Fail>
     ensures { IfOk result (λ m. (i : ℕ) → exponent m i ≤ 7) }
 {
     let m = monomial(alloc, text)?;
-    assert!(rt; m.as_slice().iter().all(|e| *e <= 7));
+    ensure(m.as_slice().iter().all(|e| *e <= 7), "a great exponent")?;
     Ok(m)
 }
 
 /// What the operation makes of two monomials, and None if the second does not divide the first.
-fn answer(rt: &impl Abort, alloc: Global, row: &str) -> Result<Option<Monomial>, Fail> {
-    let a = small(rt, alloc, part(row, 0))?;
-    let b = small(rt, alloc, part(row, 2))?;
+fn answer(alloc: Global, row: &str) -> Result<Option<Monomial>, Fail> {
+    let a = small(alloc, part(row, 0))?;
+    let b = small(alloc, part(row, 2))?;
     match part(row, 1) {
         "times" => Ok(Some(a.times(alloc, &b)?)),
         "by" => Ok(a.quotient(alloc, &b)?),
@@ -46,8 +45,8 @@ fn products_and_quotients(rt: HostRuntime) -> Result<(), Fail> {
         "x33^6 | by | x33^3 | x33^3",
         "x33^3 | lcm | x | x*x33^3",
     ] {
-        let found = answer(&rt, alloc, row)?;
-        assert!(rt; is_word(alloc, 0, found.as_ref(), part(row, 3))?, "{row}");
+        let found = answer(alloc, row)?;
+        ensure(is_word(alloc, 0, found.as_ref(), part(row, 3))?, row)?;
     }
     Ok(())
 }

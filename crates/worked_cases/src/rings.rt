@@ -2,7 +2,8 @@
 ghost use Rattle.std.specs.Prelude.{All, IfOk};
 ghost use Rattle.worked_cases.specs.Rings.{IsIn, IsLowIn, IsRing};
 
-use monomial_order::{Memory, WeightOrder};
+use crate::rows::ensure;
+use monomial_order::WeightOrder;
 use poly_core::{Poly, Presentation};
 use presentation_text::{TEXT_MAX, read, read_polys};
 use std::alloc::Global;
@@ -20,9 +21,7 @@ pub type Ring = Presentation<WordField, WeightOrder>;
 pub fn ring(alloc: Global, text: &str) -> Result<Ring, Fail>
     ensures { IfOk result IsRing }
 {
-    if text.len() as u64 > TEXT_MAX {
-        return Err(Fail::new("a long text"));
-    }
+    ensure(text.len() as u64 <= TEXT_MAX, "a long text")?;
     Ok(read(alloc, text.as_bytes())?)
 }
 
@@ -32,9 +31,7 @@ pub fn polynomials(alloc: Global, p: &Ring, text: &str) -> Result<Vec<Poly<WordF
     ensures canonical { IfOk result (λ list. All (IsIn p.now) list.items) }
     ensures low { IfOk result (λ list. All (IsLowIn p.now) list.items) }
 {
-    if text.len() as u64 > TEXT_MAX {
-        return Err(Fail::new("a long text"));
-    }
+    ensure(text.len() as u64 <= TEXT_MAX, "a long text")?;
     let list = read_polys(alloc, p, text.as_bytes())?;
     Ok(list)
 }
@@ -53,9 +50,9 @@ pub fn polynomial(alloc: Global, p: &Ring, text: &str) -> Result<Poly<WordField>
 }
 
 /// The canonical text of a polynomial.
-pub fn text_of(alloc: Global, p: &Ring, a: &Poly<WordField>) -> Result<Vec<u8>, Memory>
+pub fn text_of(alloc: Global, p: &Ring, a: &Poly<WordField>) -> Result<String, Fail>
     requires valid { IsRing p.now }
     requires canonical { IsIn p.now a.now }
 {
-    Poly::write(alloc, &p.field, a, &p.names)
+    Ok(String::from_utf8(Poly::write(alloc, &p.field, a, &p.names)?)?)
 }

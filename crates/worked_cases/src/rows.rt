@@ -1,4 +1,6 @@
 //! Rows of a table: parts with ` | ` between them.
+ghost use Rattle.std.specs.Prelude.{IfOk, IsTrue};
+
 use std::alloc::Global;
 use std::test::Fail;
 
@@ -19,4 +21,22 @@ pub fn numbers(alloc: Global, part: &str) -> Result<Vec<u32>, Fail> {
         numbers.push(number(word)?)?;
     }
     Ok(numbers)
+}
+
+/// Compares the answer to a row with the row's last part.
+pub fn judge(row: &str, answer: &str) -> Result<(), Fail> {
+    if row.rsplit(" | ").next() == Some(answer) {
+        return Ok(());
+    }
+    Err(Fail::new(format_args!("{row}: the answer is {answer}")))
+}
+
+/// Fails with the message, such as a row, unless the condition holds.
+pub fn ensure(holds: bool, message: &str) -> Result<(), Fail>
+    ensures { IfOk result (λ _. IsTrue holds) }
+{
+    if holds {
+        return Ok(());
+    }
+    Err(Fail::new(message))
 }

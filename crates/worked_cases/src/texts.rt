@@ -2,38 +2,38 @@
 ghost use Rattle.std.specs.Prelude.{All};
 ghost use Rattle.worked_cases.specs.Rings.{IsIn, IsRing};
 
-use crate::rings::{Ring, X_AND_Y, polynomials, ring, text_of};
-use crate::rows::{number, part};
+use crate::rings::{Ring, X_AND_Y, ring, text_of};
+use crate::rows::{ensure, judge, number, part};
 use monomial_order::Memory;
 use poly_core::Poly;
 use presentation_text::laws::read_written;
-use presentation_text::{TEXT_MAX, TextFault, read, read_polys, write};
+use presentation_text::{TEXT_MAX, read, read_polys, write};
 use std::alloc::Global;
-use std::process::Abort;
 use std::test::Fail;
 use word_field::WordField;
 
 /// Sees that the canonical text of a presentation is the expected one.
-fn assert_written(rt: &impl Abort, alloc: Global, p: &Ring, expected: &str) -> Result<(), Fail>
+fn see_written(alloc: Global, p: &Ring, expected: &str) -> Result<(), Fail>
     requires { IsRing p.now }
 {
-    let text = write(alloc, p)?;
-    assert_eq!(rt; text.as_slice(), expected.as_bytes());
-    Ok(())
+    ensure(
+        write(alloc, p)?.as_slice() == expected.as_bytes(),
+        "another canonical text",
+    )
 }
 
 /// Sees that a text and its copy have the expected canonical text, and that this is read again.
-fn judge_text(rt: &impl Abort, alloc: Global, text: &str, expected: &str) -> Result<(), Fail> {
+fn see_text(alloc: Global, text: &str, expected: &str) -> Result<(), Fail> {
     let p = ring(alloc, text)?;
-    assert_written(rt, alloc, &p, expected)?;
-    assert_written(rt, alloc, &p.copy(alloc)?, expected)?;
+    see_written(alloc, &p, expected)?;
+    see_written(alloc, &p.copy(alloc)?, expected)?;
     let again = read_written(alloc, &p)?.ok_or("a short text")?;
-    assert_eq!(rt; again.field.modulus, p.field.modulus);
-    assert_eq!(rt; again.order.weights(), p.order.weights());
-    assert_eq!(rt; again.order.rows().len(), p.order.rows().len());
-    assert_eq!(rt; again.ideal.len(), p.ideal.len());
-    assert_eq!(rt; again.generators.len(), p.generators.len());
-    Ok(())
+    let is_same = again.field.modulus == p.field.modulus
+        && again.order.weights() == p.order.weights()
+        && again.order.rows().len() == p.order.rows().len()
+        && again.ideal.len() == p.ideal.len()
+        && again.generators.len() == p.generators.len();
+    ensure(is_same, "another presentation")
 }
 
 #[test]
@@ -78,7 +78,7 @@ fn writes_canonical_texts(rt: HostRuntime) -> Result<(), Fail> {
              generators 1\ny\nend\n",
         ),
     ] {
-        judge_text(&rt, rt.alloc(), text, canonical)?;
+        see_text(rt.alloc(), text, canonical)?;
     }
     Ok(())
 }
@@ -108,25 +108,12 @@ fn changed(alloc: Global, line: u32, text: &str) -> Result<String, Memory> {
     Ok(changed)
 }
 
-/// What is read of a text.
-fn read_text(rt: &impl Abort, alloc: Global, text: &str) -> Result<Ring, TextFault> {
-    assert!(rt; text.len() as u64 <= TEXT_MAX);
-    read(alloc, text.as_bytes())
-}
-
-/// Sees that the changed text has the fault of the row.
-fn judge_fault(rt: &impl Abort, alloc: Global, row: &str) -> Result<(), Fail> {
-    let text = changed(alloc, number(part(row, 0))?, part(row, 1))?;
-    match read_text(rt, alloc, text.as_str()) {
-        Ok(_) => Err(Fail::new("no fault")),
-        Err(fault) => {
-            assert_eq!(rt;
-                format!(in alloc; "{fault}")?.as_str(),
-                part(row, 2),
-                "{row}"
-            );
-            Ok(())
-        }
+/// The fault of a text.
+fn fault_of(alloc: Global, text: &str) -> Result<String, Fail> {
+    ensure(text.len() as u64 <= TEXT_MAX, "a long text")?;
+    match read(alloc, text.as_bytes()) {
+        Ok(_) => Ok(format!(in alloc; "no fault")?),
+        Err(fault) => Ok(format!(in alloc; "{fault}")?),
     }
 }
 
@@ -163,7 +150,8 @@ fn finds_the_first_fault(rt: HostRuntime) -> Result<(), Fail> {
         "10 | # end | line 11: Truncated",
         "10 | end\n\nend | line 12: TextAfterEnd",
     ] {
-        judge_fault(&rt, rt.alloc(), row)?;
+        let text = changed(rt.alloc(), number(part(row, 0))?, part(row, 1))?;
+        judge(row, fault_of(rt.alloc(), text.as_str())?.as_str())?;
     }
     Ok(())
 }
@@ -172,29 +160,21 @@ fn finds_the_first_fault(rt: HostRuntime) -> Result<(), Fail> {
 fn finds_a_missing_end(rt: HostRuntime) -> Result<(), Fail> {
     let mut text = changed(rt.alloc(), 10, "")?;
     text.pop();
-    match read_text(&rt, rt.alloc(), text.as_str()) {
-        Ok(_) => Err(Fail::new("no fault")),
-        Err(fault) => {
-            let found = format!(in rt.alloc(); "{fault}")?;
-            assert_eq!(rt; found.as_str(), "line 10: Truncated");
-            Ok(())
-        }
-    }
+    judge(
+        "no line 10 | line 10: Truncated",
+        fault_of(rt.alloc(), text.as_str())?.as_str(),
+    )
 }
 
-/// Compares the canonical text with the line of the row in place of the changed one, and the degrees of the letters.
-fn judge_generator(rt: &impl Abort, alloc: Global, row: &str) -> Result<(), Fail> {
+/// Compares the canonical text with the line of the row in place of the changed one, and gives the degrees of the
+/// letters of the generators.
+fn generator_degrees(alloc: Global, row: &str) -> Result<String, Fail> {
     let text = changed(alloc, number(part(row, 0))?, part(row, 1))?;
     let expected = changed(alloc, 8, part(row, 2))?;
     let p = ring(alloc, text.as_str())?;
-    assert_written(rt, alloc, &p, expected.as_str())?;
+    see_written(alloc, &p, expected.as_str())?;
     let degrees = p.gen_order.s_degrees.as_slice();
-    assert_eq!(rt;
-        format!(in alloc; "{degrees:?}")?.as_str(),
-        part(row, 3),
-        "{row}"
-    );
-    Ok(())
+    Ok(format!(in alloc; "{degrees:?}")?)
 }
 
 #[test]
@@ -205,69 +185,49 @@ fn reads_generators(rt: HostRuntime) -> Result<(), Fail> {
         "8 | 2*x - x + y - 0 | x + y | [1, 2]",
         "8 | -x^2*y + 3*y*x*0*y + 5 + y^3 - 5 | 100*x^2*y + y^3 | [3, 2]",
     ] {
-        judge_generator(&rt, rt.alloc(), row)?;
+        judge(row, generator_degrees(rt.alloc(), row)?.as_str())?;
     }
     Ok(())
 }
 
-/// The canonical texts of polynomials, each in a line.
-fn lines(alloc: Global, p: &Ring, list: &[Poly<WordField>]) -> Result<Vec<u8>, Fail>
+/// The canonical texts of polynomials, each with a comma after it.
+fn list_text(alloc: Global, p: &Ring, list: &[Poly<WordField>]) -> Result<String, Fail>
     requires valid { IsRing p.now }
     requires canonical { All (IsIn p.now) list.now }
 {
-    let mut lines = Vec::new(alloc);
+    let mut text = String::new(alloc);
     for a in list {
-        lines.extend_from_slice(text_of(alloc, p, a)?.as_slice())?;
-        lines.push(b'\n')?;
+        text.push_str(text_of(alloc, p, a)?.as_str())?;
+        text.push(',')?;
     }
-    Ok(lines)
+    Ok(text)
 }
 
-/// Sees that the queries of a text have the expected canonical lines.
-fn judge_queries(rt: &impl Abort, alloc: Global, text: &str, expected: &str) -> Result<(), Fail> {
-    let p = ring(alloc, X_AND_Y)?;
-    let list = polynomials(alloc, &p, text)?;
-    let lines = lines(alloc, &p, list.as_slice())?;
-    assert_eq!(rt; lines.as_slice(), expected.as_bytes(), "{text}");
-    Ok(())
-}
-
-#[test]
-fn reads_queries(rt: HostRuntime) -> Result<(), Fail> {
-    for (text, expected) in [
-        ("# queries\nx*y - 1\n\n 3 \n0", "x*y + 100\n3\n0\n"),
-        ("", ""),
-    ] {
-        judge_queries(&rt, rt.alloc(), text, expected)?;
-    }
-    Ok(())
-}
-
-/// Sees that a query has the fault of the row.
-fn judge_query_fault(rt: &impl Abort, alloc: Global, row: &str) -> Result<(), Fail> {
-    let p = ring(alloc, X_AND_Y)?;
-    let text = part(row, 0);
-    assert!(rt; text.len() as u64 <= TEXT_MAX);
-    match read_polys(alloc, &p, text.as_bytes()) {
-        Ok(_) => Err(Fail::new("no fault")),
-        Err(fault) => {
-            let found = format!(in alloc; "{fault}")?;
-            assert_eq!(rt; found.as_str(), part(row, 1), "{row}");
-            Ok(())
-        }
+/// The queries of a text, or its fault.
+fn queries(alloc: Global, p: &Ring, text: &str) -> Result<String, Fail>
+    requires { IsRing p.now }
+{
+    ensure(text.len() as u64 <= TEXT_MAX, "a long text")?;
+    match read_polys(alloc, p, text.as_bytes()) {
+        Ok(list) => list_text(alloc, p, list.as_slice()),
+        Err(fault) => Ok(format!(in alloc; "{fault}")?),
     }
 }
 
 #[test]
-fn finds_the_first_fault_of_a_query(rt: HostRuntime) -> Result<(), Fail> {
+fn queries_and_their_faults(rt: HostRuntime) -> Result<(), Fail> {
+    let alloc = rt.alloc();
+    let p = ring(alloc, X_AND_Y)?;
     for row in [
+        "# queries\nx*y - 1\n\n 3 \n0 | x*y + 100,3,0,",
+        " | ",
         "x y | line 1: PolySyntax",
         "x\n#\n\nx + w\nx y | line 4: UnknownName",
         "1234567890123456789 | line 1: NumberTooLong",
         "x\nx^30001 | line 2: DegreeTooLarge",
         "x + | line 1: PolySyntax",
     ] {
-        judge_query_fault(&rt, rt.alloc(), row)?;
+        judge(row, queries(alloc, &p, part(row, 0))?.as_str())?;
     }
     Ok(())
 }

@@ -1,5 +1,5 @@
 //! Monomials that generate others.
-ghost use Rattle.std.specs.Prelude.{◌≤◌, Contains, IsTrue};
+ghost use Rattle.std.specs.Prelude.{◌≤◌, Contains, IfOk, IsTrue};
 ghost use Rattle.monomial_order.specs.Limits.{exponent_max};
 ghost use Rattle.monomial_order.specs.Monomial.{Exponents};
 ghost use Rattle.poly_core.specs.Presentation.{weight_order_of};
@@ -9,10 +9,9 @@ use crate::zeros::degree_of;
 use monomial_basis::{is_product, minimal_generators};
 use monomial_order::{Monomial, Order, Tie, WeightOrder};
 use std::alloc::Global;
-use std::process::Abort;
 use std::test::Fail;
 use worked_cases::monomials::{is_word, monomial};
-use worked_cases::rows::{number, numbers, part};
+use worked_cases::rows::{ensure, judge, number, numbers, part};
 
 /// The greatest degree that is computed with.
 const EXPONENT_MAX: u32 = 65_535;
@@ -66,52 +65,52 @@ fn order(alloc: Global, row: &str) -> Result<WeightOrder, Fail> {
     Ok(WeightOrder::new(alloc, weights.as_slice(), &[], Tie::Lex)?)
 }
 
-/// Compares those monomials of a list that the others do not generate.
-fn judge_minimal(rt: &impl Abort, alloc: Global, row: &str) -> Result<(), Fail> {
-    let o = order(alloc, row)?;
-    let list = monomials(alloc, part(row, 1))?;
-    assert!(rt; are_factors(&o, list.as_slice()));
-    let found = minimal_generators(alloc, &o, list.as_slice(), number(part(row, 2))?)?;
-    assert!(rt;
-        are_monomials(alloc, found.as_slice(), part(row, 3))?,
-        "{row}"
-    );
-    Ok(())
+/// The monomials of a row, each of a degree from 1 to `EXPONENT_MAX`.
+fn factors(alloc: Global, o: &WeightOrder, text: &str) -> Result<Vec<Monomial>, Fail>
+    ensures factors { IfOk result (λ list. AreFactors (weight_order_of o.now) list.items) }
+    ensures small { IfOk result (λ list.
+        (m : Exponents) → Contains list.items m → (weight_order_of o.now).degree m ≤ exponent_max) }
+{
+    let list = monomials(alloc, text)?;
+    ensure(are_factors(o, list.as_slice()), text)?;
+    Ok(list)
 }
 
 #[test]
 fn products_and_repeats_are_left_out(rt: HostRuntime) -> Result<(), Fail> {
+    let alloc = rt.alloc();
     for row in [
         "1 1 | x^2, x*y, x^3*y, x*y | 4 | x*y, x^2",
         "1 1 | x^2, x*y, x^3*y, x*y | 1 | -",
         // 10 = 4 + 6, 13 = 4 + 9, 15 = 6 + 9
         "1 | x^4, x^6, x^9, x^10, x^13, x^15 | 15 | x^4, x^6, x^9",
     ] {
-        judge_minimal(&rt, rt.alloc(), row)?;
+        let o = order(alloc, row)?;
+        let list = factors(alloc, &o, part(row, 1))?;
+        let found = minimal_generators(alloc, &o, list.as_slice(), number(part(row, 2))?)?;
+        ensure(are_monomials(alloc, found.as_slice(), part(row, 3))?, row)?;
     }
     Ok(())
 }
 
-/// Compares whether a monomial is a product of others.
-fn judge_product(rt: &impl Abort, alloc: Global, row: &str) -> Result<(), Fail> {
+/// Whether the monomial of a row is a product of its others.
+fn is_product_of_others(alloc: Global, row: &str) -> Result<bool, Fail> {
     let o = order(alloc, row)?;
-    let list = monomials(alloc, part(row, 1))?;
+    let list = factors(alloc, &o, part(row, 1))?;
     let m = monomial(alloc, part(row, 2))?;
-    assert!(rt; are_factors(&o, list.as_slice()));
-    assert!(rt; is_factor(&o, &m));
-    let found = is_product(alloc, &o, list.as_slice(), &m)?;
-    assert_eq!(rt; found, part(row, 3) == "yes", "{row}");
-    Ok(())
+    ensure(is_factor(&o, &m), row)?;
+    Ok(is_product(alloc, &o, list.as_slice(), &m)?)
 }
 
 #[test]
 fn products_of_factors(rt: HostRuntime) -> Result<(), Fail> {
     for row in [
-        "1 1 | x^2, x*y | x^3*y | yes",
-        "1 1 | x^2, x*y | x^2*y | no",
-        "1 | x^4, x^6, x^9 | x^11 | no",
+        "1 1 | x^2, x*y | x^3*y | true",
+        "1 1 | x^2, x*y | x^2*y | false",
+        "1 | x^4, x^6, x^9 | x^11 | false",
     ] {
-        judge_product(&rt, rt.alloc(), row)?;
+        let found = is_product_of_others(rt.alloc(), row)?;
+        judge(row, format!(in rt.alloc(); "{found}")?.as_str())?;
     }
     Ok(())
 }

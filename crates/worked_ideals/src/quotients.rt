@@ -12,12 +12,11 @@ use monomial_order::{Order, WeightOrder};
 use poly_core::Poly;
 use quotient_gb::Quotient;
 use std::alloc::Global;
-use std::process::Abort;
 use std::test::Fail;
 use word_field::WordField;
 use worked_cases::monomials::monomial;
 use worked_cases::rings::{Ring, polynomial, ring, text_of};
-use worked_cases::rows::{number, part};
+use worked_cases::rows::{ensure, judge, number, part};
 
 /// The greatest degree at which a quotient may be asked whether it is closed.
 const CLOSING_MAX: u32 = 15_000;
@@ -67,17 +66,13 @@ fn quotient_to(
 }
 
 /// Compares the leads of a row's ideal to a degree.
-fn judge_leads(rt: &impl Abort, alloc: Global, row: &str) -> Result<(), Fail> {
+fn see_leads(alloc: Global, row: &str) -> Result<(), Fail> {
     let p = ring_of(alloc, row)?;
     let degree = number(part(row, 5))?;
-    assert!(rt; degree <= DEGREE_MAX);
+    ensure(degree <= DEGREE_MAX, row)?;
     let quotient = quotient_to(alloc, &p, degree)?;
-    assert!(rt;
-        are_monomials(alloc, quotient.leads(), part(row, 6))?,
-        "{row}"
-    );
-    assert!(rt; !quotient.known_closed());
-    Ok(())
+    ensure(!quotient.known_closed(), row)?;
+    ensure(are_monomials(alloc, quotient.leads(), part(row, 6))?, row)
 }
 
 #[test]
@@ -104,14 +99,13 @@ fn leads_of_small_ideals(rt: HostRuntime) -> Result<(), Fail> {
         // x has the degree 2 and y the degree 3
         "7 | x y | 2 3 | lex | x^3 + y^2 | 6 | x^3",
     ] {
-        judge_leads(&rt, rt.alloc(), row)?;
+        see_leads(rt.alloc(), row)?;
     }
     Ok(())
 }
 
 /// The normal form of a polynomial. If its degree is above that of the quotient, this finds the quotient closed first.
 fn normal_form(
-    rt: &impl Abort,
     alloc: Global,
     p: &Ring,
     quotient: &mut Quotient<WordField, WeightOrder>,
@@ -128,67 +122,54 @@ fn normal_form(
     if p.order.degree(&first.at) <= degree {
         return Ok(quotient.normal_form(alloc, p, a)?);
     }
-    assert!(rt; degree <= CLOSING_MAX);
-    assert!(rt; quotient.closed(alloc, p)?);
+    ensure(degree <= CLOSING_MAX, "a great degree")?;
+    let closed = quotient.closed(alloc, p)?;
+    ensure(closed, "not closed")?;
     Ok(quotient.normal_form(alloc, p, a)?)
 }
 
-/// Compares the normal form of a polynomial, and finds its one monomial standard and that of the polynomial not.
-fn judge_normal_form(rt: &impl Abort, alloc: Global, row: &str) -> Result<(), Fail> {
+/// The normal form of a polynomial, and which of two monomials are standard.
+fn answer(alloc: Global, row: &str) -> Result<String, Fail> {
     let p = ring_of(alloc, row)?;
     let degree = number(part(row, 5))?;
-    assert!(rt; degree <= DEGREE_MAX);
+    ensure(degree <= DEGREE_MAX, row)?;
     let mut quotient = quotient_to(alloc, &p, degree)?;
     let a = polynomial(alloc, &p, part(row, 6))?;
-    let found = normal_form(rt, alloc, &p, &mut quotient, degree, &a)?;
-    assert_eq!(rt;
-        text_of(alloc, &p, &found)?.as_slice(),
-        part(row, 7).as_bytes(),
-        "{row}"
-    );
-    assert!(rt;
-        quotient.is_standard(&monomial(alloc, part(row, 8))?),
-        "{row}"
-    );
-    assert!(rt;
-        !quotient.is_standard(&monomial(alloc, part(row, 9))?),
-        "{row}"
-    );
-    Ok(())
+    let found = normal_form(alloc, &p, &mut quotient, degree, &a)?;
+    let text = text_of(alloc, &p, &found)?;
+    let is_standard = quotient.is_standard(&monomial(alloc, part(row, 7))?);
+    let is_other_standard = quotient.is_standard(&monomial(alloc, part(row, 8))?);
+    Ok(format!(in alloc; "{text}, {is_standard}, {is_other_standard}")?)
 }
 
 #[test]
 fn normal_forms(rt: HostRuntime) -> Result<(), Fail> {
-    // a ring, a degree, a polynomial with its normal form, a standard monomial and one that is not standard
+    // a ring, a degree, a polynomial, two monomials, the normal form and which of the two are standard
     for row in [
-        "101 | x y | 1 1 | lex | x^2 - y^2 | 3 | x^3 | x*y^2 | x*y^2 | x^2*y",
-        "101 | x y | 1 1 | lex | x^2 - y^2 | 3 | x^2 - y^2 | 0 | 1 | x^2",
+        "101 | x y | 1 1 | lex | x^2 - y^2 | 3 | x^3 | x*y^2 | x^2*y | x*y^2, true, false",
+        "101 | x y | 1 1 | lex | x^2 - y^2 | 3 | x^2 - y^2 | 1 | x^2 | 0, true, false",
         // of degrees above that of the quotient
-        "101 | x y | 1 1 | lex | x^2 - y^2 | 2 | x^5 + x^3 | x*y^4 + x*y^2 | x*y^9 | x^2*y^8",
-        "101 | x y | 1 1 | lex | x^2, y^3 | 3 | x^2*y + x*y^2 | x*y^2 | x*y^2 | x*y^3",
+        "101 | x y | 1 1 | lex | x^2 - y^2 | 2 | x^5 + x^3 | x*y^9 | x^2*y^8 | x*y^4 + x*y^2, true, false",
+        "101 | x y | 1 1 | lex | x^2, y^3 | 3 | x^2*y^2 + x*y^3 | x*y^2 | x*y^9 | 0, true, false",
     ] {
-        judge_normal_form(&rt, rt.alloc(), row)?;
+        judge(row, answer(rt.alloc(), row)?.as_str())?;
     }
     Ok(())
 }
 
 /// Compares whether the quotient to a degree is closed, and its leads to a greater degree.
-fn judge_closed(rt: &impl Abort, alloc: Global, row: &str) -> Result<(), Fail> {
+fn see_closed(alloc: Global, row: &str) -> Result<(), Fail> {
     let p = ring_of(alloc, row)?;
     let degree = number(part(row, 5))?;
-    assert!(rt; degree <= CLOSING_MAX);
+    ensure(degree <= CLOSING_MAX, row)?;
     let mut quotient = quotient_to(alloc, &p, degree)?;
     let closed = quotient.closed(alloc, &p)?;
-    assert_eq!(rt; closed, part(row, 6) == "closed", "{row}");
+    ensure(closed == (part(row, 6) == "closed"), row)?;
     let greater = number(part(row, 7))?;
-    assert!(rt; greater <= DEGREE_MAX);
+    ensure(greater <= DEGREE_MAX, row)?;
     quotient.extend_to(alloc, &p, greater)?;
-    assert!(rt;
-        are_monomials(alloc, quotient.leads(), part(row, 8))?,
-        "{row}"
-    );
-    assert_eq!(rt; quotient.known_closed(), closed, "{row}");
-    Ok(())
+    ensure(quotient.known_closed() == closed, row)?;
+    ensure(are_monomials(alloc, quotient.leads(), part(row, 8))?, row)
 }
 
 #[test]
@@ -216,7 +197,7 @@ fn closed_quotients(rt: HostRuntime) -> Result<(), Fail> {
         "7 | x y | 2 3 | lex | x^3 + y^2, x*y | 6 | open | 9 | x*y, x^3, y^3",
         "7 | x y | 2 3 | lex | x^3 + y^2, x*y | 9 | closed | 30000 | x*y, x^3, y^3",
     ] {
-        judge_closed(&rt, rt.alloc(), row)?;
+        see_closed(rt.alloc(), row)?;
     }
     Ok(())
 }

@@ -3,15 +3,13 @@ use crate::walk::{extend, factor, least, push, settle, x_degrees};
 use crate::zeros::are_degrees;
 use monomial_order::{Monomial, Tie};
 use std::alloc::Global;
-use std::process::Abort;
 use std::test::Fail;
 use toric_ideal::{Rule, Words};
 use worked_cases::monomials::{is_word, monomial};
-use worked_cases::rows::{number, numbers, part};
+use worked_cases::rows::{ensure, number, numbers, part};
 
 /// Does a step: a word, and what it is done with. Zeros wait for the next extension.
 fn step(
-    rt: &impl Abort,
     alloc: Global,
     words: &mut Words,
     zeros: &mut Vec<Monomial>,
@@ -19,28 +17,27 @@ fn step(
 ) -> Result<(), Fail> {
     let (verb, what) = step.split_once(' ').unwrap_or((step, ""));
     match verb {
-        "to" => extend(rt, alloc, words, number(what)?, zeros.as_slice()),
+        "to" => extend(alloc, words, number(what)?, zeros.as_slice()),
         "zero" => Ok(zeros.push(monomial(alloc, what)?)?),
-        "lead" => push(rt, alloc, words, &monomial(alloc, what)?),
-        "lex" => settle(rt, alloc, words, Tie::Lex),
-        "revlex" => settle(rt, alloc, words, Tie::RevLex),
-        _ => look(rt, alloc, words, step),
+        "lead" => push(alloc, words, &monomial(alloc, what)?),
+        "lex" => settle(alloc, words, Tie::Lex),
+        "revlex" => settle(alloc, words, Tie::RevLex),
+        _ => look(alloc, words, step),
     }
 }
 
 /// Compares the factors or the least word of a monomial, as in `factor x^2*y = s1*s2`.
-fn look(rt: &impl Abort, alloc: Global, words: &Words, step: &str) -> Result<(), Fail> {
+fn look(alloc: Global, words: &Words, step: &str) -> Result<(), Fail> {
     let (left, expected) = step.split_once(" = ").ok_or("no step")?;
     let (verb, what) = left.split_once(' ').ok_or("no step")?;
     let m = monomial(alloc, what)?;
     let found = if verb == "factor" {
-        factor(rt, alloc, words, &m)?
+        factor(alloc, words, &m)?
     } else {
-        least(rt, alloc, words, &m)?
+        least(alloc, words, &m)?
     };
     let n = x_degrees(words).len();
-    assert!(rt; is_word(alloc, n, found.as_ref(), expected)?, "{step}");
-    Ok(())
+    ensure(is_word(alloc, n, found.as_ref(), expected)?, step)
 }
 
 /// Whether the rule is that of a text, as `x*s1 > s2`, and `x^2 > -` if the image is zero.
@@ -62,18 +59,17 @@ fn are_rules(alloc: Global, n: usize, rules: &[Rule], text: &str) -> Result<bool
 }
 
 /// Compares the rules after the steps: the degrees of x, y and z, the steps and the rules.
-fn judge(rt: &impl Abort, alloc: Global, row: &str) -> Result<(), Fail> {
+fn see_rules(alloc: Global, row: &str) -> Result<(), Fail> {
     let degrees = numbers(alloc, part(row, 0))?;
-    assert!(rt; are_degrees(degrees.as_slice()));
+    ensure(are_degrees(degrees.as_slice()), "no degrees")?;
     let mut words = Words::new(alloc, degrees.as_slice())?;
     let mut zeros = Vec::new(alloc);
     for text in part(row, 1).split(", ") {
-        step(rt, alloc, &mut words, &mut zeros, text)?;
+        step(alloc, &mut words, &mut zeros, text)?;
     }
     let n = degrees.len();
-    assert!(rt; are_rules(alloc, n, words.rules(), part(row, 2))?, "{row}");
-    assert!(rt; !words.known_closed());
-    Ok(())
+    ensure(!words.known_closed(), "known closed")?;
+    ensure(are_rules(alloc, n, words.rules(), part(row, 2))?, row)
 }
 
 #[test]
@@ -110,7 +106,7 @@ fn rules_are_those_worked_out(rt: HostRuntime) -> Result<(), Fail> {
         // the leads x^2 and x^3, as in the ring of a cusp: s1^3 = x^6 = s2^2
         "1 | to 2, lead x^2, to 3, lead x^3, to 6 | x^2 > s1, x*s1 > s2, x*s2 > s1^2, s1^3 > s2^2",
     ] {
-        judge(&rt, rt.alloc(), row)?;
+        see_rules(rt.alloc(), row)?;
     }
     Ok(())
 }

@@ -133,7 +133,7 @@ module _ (O : MonomialOrder) (L : IsMonomialOrder O) where
   increasing_below m (x ∷ ms) h n k =
       ⊎_elim (λ e. subst (λ y. O.compare m y ≡ Less) e h.0) (λ i. L.total.trans m x n h.0 (increasing_below x ms h.1 n i)) (contains_cases x ms n k)
 
--- before an increasing list stands what is less than all its members
+-- a list is increasing if its first member is less than all others and those increase
 pub increasing_cons : (O : MonomialOrder) (m : List ℕ) (ms : List (List ℕ)) → ((n : List ℕ) → Contains ms n → O.compare m n ≡ Less) →
     IsIncreasing O ms → IsIncreasing O (m ∷ ms)
 increasing_cons O m [] h r = tt

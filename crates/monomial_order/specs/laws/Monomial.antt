@@ -103,7 +103,7 @@ IsMonomial-least_common_multiple N m n h k = record {
   within = omega (arith, length-least_common_multiple m n, h.within, k.within);
 }
 
--- what stands behind the first place of a trimmed list is trimmed
+-- the tail of a trimmed list is trimmed
 pub trimmed_tail : (a : ℕ) (m : List ℕ) → IsTrimmed (a ∷ m) → IsTrimmed m
 trimmed_tail a [] h = tt
 trimmed_tail a (b ∷ m) h = h

@@ -348,7 +348,7 @@ le_tests x y h = grind (arith, nat_tests)
 pub all_three : (a b c : Bool) → a ≡ true → b ≡ true → c ≡ true → (a && b) && c ≡ true
 all_three a b c h k l = ap (λ x. (x && b) && c) h ∙ (ap (λ x. x && c) k ∙ l)
 
--- the test passes where each weight is in the range
+-- the test passes if each weight is in the range
 pub between_from_all : (lo hi : ℕ) (ws : List ℕ) → All (λ w. lo ≤ w) ws → All (λ w. w ≤ hi) ws → all_between lo hi ws ≡ true
 between_from_all lo hi [] h k = refl
 between_from_all lo hi (w ∷ ws) h k =

@@ -153,7 +153,7 @@ module _ (O : MonomialOrder) (L : IsMonomialOrder O) where
       let c = count_lt (lists O.places (O.degree m)) k m h (within_listed (O.degree m) k (record { monomial = hk; degree = d })) in
       omega arith
 
-  -- what holds of a monomial where it holds of all smaller ones holds of all
+  -- what holds of a monomial if it holds of all smaller ones holds of all
   pub below_induction : (D : ℕ) (P : List ℕ → Type 0) → ((m : List ℕ) → IsWithin D m → ((k : List ℕ) → IsWithin D k → O.compare k m ≡ Less → P k) → P m) →
       (m : List ℕ) → IsWithin D m → P m
   below_induction D P step m h = go (rank O m) m h (omega arith)

@@ -1,6 +1,6 @@
 -- What follows from the laws of a field.
 use Rattle.std.proofs.Common.{◌≡◌, ◌≢◌, sym, ◌∙◌, ap, ◌⊎◌, inl, inr, ⊎_elim}
-use Rattle.word_field.specs.Field.{FieldOps, IsField, IsValue, DerivedLaws}
+use Rattle.word_field.specs.Field.{FieldOps, IsField, IsValue}
 
 module _ {E : Type 0} (K : FieldOps E) (F : IsField K) where
   pub zero-plus : (a : E) → K.plus K.zero a ≡ K.reduce a
@@ -112,22 +112,3 @@ module _ {E : Type 0} (K : FieldOps E) (F : IsField K) where
 
   pub word_unique : (a b : E) → IsValue K a → IsValue K b → K.word a ≡ K.word b → a ≡ b
   word_unique a b va vb h = sym (F.of_word_word a va) ∙ (ap K.of_word h ∙ F.of_word_word b vb)
-
-  pub derived_laws : DerivedLaws K
-  derived_laws = record {
-    reduce_plus = reduce-plus;
-    reduce_times = reduce-times;
-    reduce_negate = negate-reduce;
-    plus_times = plus-times;
-    times_zero = times-zero;
-    times_negate = times-negate;
-    negate_zero = negate-zero;
-    negate_negate = negate-negate;
-    negate_plus = negate-plus;
-    plus_cancels = plus_cancel;
-    times_cancels = times_cancel;
-    zero_product = times_is_zero;
-    one_negative = plus_is_zero;
-    one_inverse = inverse_unique;
-    one_word = word_unique;
-  }

@@ -1,5 +1,5 @@
--- The listed sizes are prime. These are proofs: they stand here, and not in proofs/, since the laws that
--- `WordField` gives as a `Field` cite them, and such laws cite specs/ alone.
+-- The listed sizes are prime. They are in specs/, and not in proofs/, since the laws that `WordField`
+-- gives as a `Field` cite them, and such laws cite specs/ alone.
 use Rattle.std.proofs.Common.{◌≡◌, ◌≢◌, ℕ, zero, suc, ◌+◌, ◌*◌, ◌/◌, ◌%◌, ◌<◌, ◌≤◌, refl, sym, subst, Bool, true, false, arith, ⊎_elim}
 use Rattle.std.specs.Prelude.{◌||◌, ◌&&◌, not, nat_le, nat_lt, nat_eq}
 use Rattle.std.proofs.lemmas.Bool.{or_cases, and_parts, eqb-true, eq-eqb, ltb-true, true≢false}

@@ -1,5 +1,5 @@
--- The residues modulo a listed size are a field. These are proofs: they stand here, and not in proofs/, since the
--- laws that `WordField` gives as a `Field` cite them, and such laws cite specs/ alone.
+-- The residues modulo a listed size are a field. They are in specs/, and not in proofs/, since the laws
+-- that `WordField` gives as a `Field` cite them, and such laws cite specs/ alone.
 use Rattle.std.proofs.Common.{◌≡◌, ◌≢◌, ℕ, zero, suc, ◌+◌, ◌-◌, ◌*◌, ◌/◌, ◌%◌, ◌<◌, ◌≤◌, refl, sym, ◌∙◌, ap, subst, true, false, arith, ◌⊎◌, inl, inr, add_comm, add_assoc}
 use Rattle.std.specs.Prelude.{nat_eq, ◌↔◌}
 use Rattle.std.proofs.lemmas.Bool.{eqb-true, eq-eqb, true≢false}

@@ -1,7 +1,7 @@
 use Rattle.std.proofs.Common.{◌≡◌, ◌<◌, ◌*◌, ◌%◌}
 use Rattle.word_field.proofs.WordFieldField.inv.Given as goal
 
--- the product of a and what is kept is the rest, and the rest is not 0
+-- the product of a and the factor found is the rest, and the rest is not 0
 abbrev pub invariant-loop-rest : goal.invariant-loop-rest
 invariant-loop-rest l = record {
   size : l.p ≡ l.self.modulus;

@@ -6,7 +6,7 @@ use Rattle.poly_core.specs.Presentation.{weight_order_of}
 use Rattle.worked_cases.proofs.operations.value.Goals as goal
 
 pub evaluate-requires-clause-h : goal.evaluate-requires-clause-h
-evaluate-requires-clause-h g c =
+evaluate-requires-clause-h c =
     let K = residues c.args.p.now.field.modulus in
     let o = weight_order_of c.args.p.now.order in
     let each_place : length c.args.at.now ≡ o.places = search rules in
