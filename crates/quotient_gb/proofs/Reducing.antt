@@ -70,8 +70,7 @@ module _ {E : Type 0} (K : FieldOps E) (F : IsField K) (O : MonomialOrder) (L : 
     pub rest_below : (r : Polynomial E) → IsDecreasing K O r → Same K r (p ++ (term_of t.at (K.negate t.by) ∷ [])) → IsBelow K O t.at r
     rest_below r fr s =
         two_below p (term_of t.at (K.negate t.by) ∷ []) t.at first_leads.greatest (λ n k ne. absurd (ne (sym (single_term K F t.at (K.negate t.by) n k))))
-        (ap (λ x. K.plus x (coefficient K (term_of t.at (K.negate t.by) ∷ []) t.at)) first_coefficient ∙
-        (ap (K.plus t.by) (single_at t.at (K.negate t.by) (F.negate_value t.by)) ∙ F.plus_negate t.by)) r fr s
+        (simp (first_coefficient, single_at t.at (K.negate t.by) (F.negate_value t.by), F.plus_negate)) r fr s
 
     -- the first term is moved to what is done
     pub moved_sum : (rest more done : Polynomial E) → Same K rest (p ++ (term_of t.at (K.negate t.by) ∷ [])) → Same K more (done ++ (t ∷ [])) → Same K (rest ++ more) (p ++ done)

@@ -1,11 +1,11 @@
 -- A remainder modulo the subalgebra is unique; so are a sum of irreducible s-words and a rest that no product of leads leads.
-use Rattle.std.proofs.Common.{◌≡◌, ◌≢◌, ℕ, zero, suc, ◌<◌, refl, sym, ◌∙◌, List, ◌∷◌, ◌++◌, length, get_or, arith, ⊎_elim, append-nil, append_assoc, [], ap, subst}
+use Rattle.std.proofs.Common.{◌≡◌, ◌≢◌, ℕ, zero, suc, ◌<◌, refl, sym, ◌∙◌, List, ◌∷◌, ◌++◌, length, get_or, arith, ⊎_elim, append-nil, [], ap, subst}
 use Rattle.word_field.specs.Field.{FieldOps, IsField, IsValue}
 use Rattle.polynomials.specs.Polynomial.{Polynomial, Same, times, constant, negated, minus, IsPoly, IsLead, lead_monomial, coefficient}
 use Rattle.polynomials.specs.Ideal.{Congruent}
 use Rattle.polynomials.specs.Subalgebra.{Presented, IsPresentation, InSubalgebra, LeadsSubalgebra, IsStandard}
 use Rattle.polynomials.specs.laws.Canonical.{zero_or_lead}
-use Rattle.polynomials.specs.laws.Same.{append_same, append_comm, minus_self}
+use Rattle.polynomials.specs.laws.Same.{coefficient-negated, append_same, append_comm}
 use Rattle.polynomials.specs.laws.Congruence.{congruent_same, congruent_refl, congruent_trans, congruent_plus, congruent_negated, negated_is, minus_zero, minus_chain, negated-minus, minus_same}
 use Rattle.polynomials.specs.laws.Membership.{sub_congruent, sub_minus}
 use Rattle.subalgebra_laws.specs.Words.{combination_value, IsIrreducibleSum, IsCombination, HasSumAndRest, linear_sum, IsSubductionRemainder}
@@ -77,8 +77,7 @@ module _ {E : Type 0} (P : Presented E) (H : IsPresentation P) (S : List (Polyno
   without_rest : (a v r : Polynomial E) → Congruent K O.places P.ideal a (v ++ r) → Congruent K O.places P.ideal (minus K a r) v
   without_rest a v r c = congruent_trans K F O.places P.ideal (minus K a r) (minus K (v ++ r) r) v
       (congruent_plus K F O.places P.ideal a (v ++ r) (negated K r) (negated K r) c (congruent_refl K F O.places P.ideal (negated K r)))
-      (congruent_same K F O.places P.ideal (minus K (v ++ r) r) v (λ m. ap (λ p. coefficient K p m) (append_assoc v r (negated K r)) ∙
-      (append_same K F v v (minus K r r) [] (λ i. refl) (minus_self K F r) m ∙ ap (λ p. coefficient K p m) (append-nil v))))
+      (congruent_same K F O.places P.ideal (minus K (v ++ r) r) v (λ m. simp (coefficient-append K F, coefficient-negated K F, F.plus_assoc, F.plus_negate, F.plus_zero, coefficient_value K F)))
 
   value_combination : (e : Polynomial E) → IsIrreducibleSum P S e → IsCombination P S (combination_value P S e)
   value_combination e h = record { sum = e; irreducible = h; equal = congruent_refl K F O.places P.ideal (combination_value P S e) }

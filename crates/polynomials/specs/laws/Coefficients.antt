@@ -1,23 +1,22 @@
 -- Coefficients and leads of single terms, sums and differences, and what a decreasing list says of them.
-use Rattle.std.proofs.Common.{◌≡◌, ◌≢◌, ℕ, ◌≤◌, refl, sym, ◌∙◌, ap, [], ◌∷◌, ◌++◌, ◌⊎◌, inl, inr, ⊎_elim, cond, true, false, arith}
+use Rattle.std.proofs.Common.{◌≡◌, ◌≢◌, ◌≤◌, refl, sym, ◌∙◌, ap, [], ◌∷◌, ◌++◌, ◌⊎◌, ⊎_elim, cond, true, false, arith}
 use Rattle.std.specs.declared.cmp.Ordering.TheVariants.{Less}
 use Rattle.word_field.specs.Field.{FieldOps, IsField}
-use Rattle.word_field.specs.laws.Field.{zero-plus-zero, negate-zero}
+use Rattle.word_field.specs.laws.Field.{zero-plus-zero}
 use Rattle.monomial_order.specs.declared.terms.Term.{Term}
 use Rattle.monomial_order.specs.Monomial.{Exponents, product, IsMonomial}
 use Rattle.monomial_order.specs.MonomialOrder.{MonomialOrder, IsMonomialOrder}
 use Rattle.monomial_order.specs.laws.Comparing.{not_below_self, degree_falls}
-use Rattle.polynomials.specs.Polynomial.{Polynomial, same_monomial, coefficient, Same, term_of, scaled, times, negated, minus, constant, IsTerm, IsPoly, IsBelow, IsLead, IsSmall, IsDecreasing, AllAt, lead_monomial}
+use Rattle.polynomials.specs.Polynomial.{Polynomial, same_monomial, coefficient, Same, term_of, scaled, times, minus, constant, IsTerm, IsPoly, IsBelow, IsLead, IsSmall, IsDecreasing, AllAt, lead_monomial}
 use Rattle.polynomials.specs.laws.Ring.{coefficient_value, coefficient-append, times_comm}
 use Rattle.polynomials.specs.laws.Same.{same_true, append_comm, coefficient-negated}
 use Rattle.polynomials.specs.laws.Value.{one_times}
 use Rattle.polynomials.specs.laws.Canonical.{IsLead_same}
-use Rattle.polynomials.specs.laws.Ideal.{IsPoly-append, IsPoly-negated}
-use Rattle.polynomials.specs.laws.Congruence.{coefficient-minus}
 use Rattle.polynomials.specs.laws.Degrees.{all_found}
 use Rattle.polynomials.specs.laws.Decreasing.{IsDecreasing_IsPoly, IsLead_first, IsLead_unique}
 use Rattle.polynomials.specs.laws.Terms.{scaled_below}
 pub use Rattle.polynomials.specs.laws.Ideal.{constant_poly}
+pub use Rattle.polynomials.specs.laws.Congruence.{sum_nonzero, minus_nonzero, minus_poly}
 
 pub nothing_at : {E : Type 0} (K : FieldOps E) (m : Exponents) → K.zero ≡ coefficient K [] m
 unfolding coefficient
@@ -37,21 +36,8 @@ module _ {E : Type 0} (K : FieldOps E) (F : IsField K) where
         | false ↦ λ e. absurd (k (ap (λ b. K.plus (cond b c K.zero) K.zero) e ∙ zero-plus-zero K F))
       ] refl
 
-  -- a sum that is not zero has a part that is not
-  pub sum_nonzero : (a b : E) → K.plus a b ≢ K.zero → (a ≢ K.zero) ⊎ (b ≢ K.zero)
-  sum_nonzero a b h =
-      ⊎_elim (λ z. inr (λ w. h (ap (λ x. K.plus x b) z ∙ (ap (K.plus K.zero) w ∙ zero-plus-zero K F)))) (λ n. inl n) (F.equal_or_not a K.zero)
-
   pub append_nonzero : (p q : Polynomial E) (m : Exponents) → coefficient K (p ++ q) m ≢ K.zero → (coefficient K p m ≢ K.zero) ⊎ (coefficient K q m ≢ K.zero)
-  append_nonzero p q m h = sum_nonzero (coefficient K p m) (coefficient K q m) (λ z. h (coefficient-append K F p q m ∙ z))
-
-  pub minus_nonzero : (p q : Polynomial E) (m : Exponents) → coefficient K (minus K p q) m ≢ K.zero → (coefficient K p m ≢ K.zero) ⊎ (coefficient K q m ≢ K.zero)
-  minus_nonzero p q m h =
-      ⊎_elim (λ a. inl a) (λ b. inr (λ z. b (ap K.negate z ∙ negate-zero K F)))
-      (sum_nonzero (coefficient K p m) (K.negate (coefficient K q m)) (λ z. h (coefficient-minus K F p q m ∙ z)))
-
-  pub minus_poly : (n : ℕ) (a b : Polynomial E) → IsPoly K n a → IsPoly K n b → IsPoly K n (minus K a b)
-  minus_poly n a b h k = IsPoly-append K F n a (negated K b) h (IsPoly-negated K F n b k)
+  append_nonzero p q m h = sum_nonzero K F (coefficient K p m) (coefficient K q m) (λ z. h (coefficient-append K F p q m ∙ z))
 
   -- the product with the constant 1
   pub times_one : (p : Polynomial E) → Same K (times K p (constant K K.one)) p

@@ -1,5 +1,5 @@
 -- Congruence modulo an ideal is an equivalence that sums and products keep.
-use Rattle.std.proofs.Common.{◌≡◌, ℕ, refl, sym, ◌∙◌, ap, List, [], ◌∷◌, ◌++◌}
+use Rattle.std.proofs.Common.{◌≡◌, ℕ, refl, sym, ◌∙◌, ap, List, [], ◌∷◌, ◌++◌, ◌≢◌, ◌⊎◌, inl, inr, ⊎_elim}
 use Rattle.word_field.specs.Field.{FieldOps, IsField}
 use Rattle.word_field.specs.laws.Field.{negate-negate, zero-plus-zero, negate-zero, negate-plus, plus_four, negate-plus_cancel, plus_is_zero, negate-times, one-times}
 use Rattle.polynomials.specs.Polynomial.{Polynomial, coefficient, Same, times, negated, minus, constant, IsPoly}
@@ -7,15 +7,25 @@ use Rattle.polynomials.specs.Ideal.{InIdeal, Congruent}
 use Rattle.polynomials.specs.laws.Ring.{coefficient_value, coefficient-append, times_assoc, times_plus, times_comm}
 use Rattle.polynomials.specs.laws.Same.{times_same, times_same_left, append_same, coefficient-negated, minus_self}
 use Rattle.polynomials.specs.laws.Value.{coefficient-constant_times}
-use Rattle.polynomials.specs.laws.Ideal.{constant_poly, InIdeal_same, InIdeal_zero, InIdeal_plus, InIdeal_times}
+use Rattle.polynomials.specs.laws.Ideal.{constant_poly, InIdeal_same, InIdeal_zero, InIdeal_plus, InIdeal_times, IsPoly-append, IsPoly-negated}
 use Rattle.monomial_order.specs.Monomial.{Exponents}
 
 module _ {E : Type 0} (K : FieldOps E) (F : IsField K) where
-  pub zero_difference : (a b : E) → a ≡ K.zero → b ≡ K.zero → K.plus a (K.negate b) ≡ K.zero
-  zero_difference a b h k = simp (h, k, negate-zero K F, zero-plus-zero K F)
+  -- a sum that is not zero has a part that is not
+  pub sum_nonzero : (a b : E) → K.plus a b ≢ K.zero → (a ≢ K.zero) ⊎ (b ≢ K.zero)
+  sum_nonzero a b h =
+      ⊎_elim (λ z. inr (λ w. h (ap (λ x. K.plus x b) z ∙ (ap (K.plus K.zero) w ∙ zero-plus-zero K F)))) (λ n. inl n) (F.equal_or_not a K.zero)
 
   pub coefficient-minus : (p q : Polynomial E) (m : Exponents) → coefficient K (minus K p q) m ≡ K.plus (coefficient K p m) (K.negate (coefficient K q m))
   coefficient-minus p q m = simp (coefficient-append K F, coefficient-negated K F)
+
+  pub minus_nonzero : (p q : Polynomial E) (m : Exponents) → coefficient K (minus K p q) m ≢ K.zero → (coefficient K p m ≢ K.zero) ⊎ (coefficient K q m ≢ K.zero)
+  minus_nonzero p q m h =
+      ⊎_elim (λ a. inl a) (λ b. inr (λ z. b (ap K.negate z ∙ negate-zero K F)))
+      (sum_nonzero (coefficient K p m) (K.negate (coefficient K q m)) (λ z. h (coefficient-minus p q m ∙ z)))
+
+  pub minus_poly : (n : ℕ) (a b : Polynomial E) → IsPoly K n a → IsPoly K n b → IsPoly K n (minus K a b)
+  minus_poly n a b h k = IsPoly-append K F n a (negated K b) h (IsPoly-negated K F n b k)
 
   pub minus_same : (p p' q q' : Polynomial E) → Same K p p' → Same K q q' → Same K (minus K p q) (minus K p' q')
   minus_same p p' q q' h k m = simp (coefficient-append K F, coefficient-negated K F, h, k)

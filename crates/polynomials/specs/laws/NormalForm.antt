@@ -10,14 +10,14 @@ use Rattle.monomial_order.specs.laws.Comparing.{le_or_not}
 use Rattle.monomial_order.specs.laws.Lists.{find_member}
 use Rattle.monomial_order.specs.laws.Monomial.{product_comm}
 use Rattle.monomial_order.specs.MonomialOrder.{MonomialOrder}
-use Rattle.polynomials.specs.Polynomial.{Polynomial, coefficient, Same, term_of, times, scaled, negated, minus, component, IsTerm, IsPoly, IsLead, IsHomogeneous}
+use Rattle.polynomials.specs.Polynomial.{Polynomial, coefficient, Same, term_of, times, scaled, minus, component, IsTerm, IsPoly, IsLead, IsHomogeneous}
 use Rattle.polynomials.specs.Subalgebra.{HasHomogeneousLead, Presented, IsPresentation, LeadsIdeal, IsDecidedTo, AreZerosTo, HasDegreesTo, IsNormalForm}
 use Rattle.polynomials.specs.laws.Ring.{coefficient_value, coefficient-append}
 use Rattle.polynomials.specs.laws.Same.{times_same, coefficient-negated}
 use Rattle.polynomials.specs.laws.Decreasing.{IsLead_first, IsLead_unique}
 use Rattle.polynomials.specs.laws.Canonical.{canonical, IsCanonicalForm, IsLead_same, zero_or_lead}
-use Rattle.polynomials.specs.laws.Ideal.{IsPoly-append, IsPoly-negated, IsPoly-times, InIdeal_same, InIdeal_times}
-use Rattle.polynomials.specs.laws.Congruence.{coefficient-minus, zero_difference, minus_zero, congruent_sym, congruent_trans}
+use Rattle.polynomials.specs.laws.Ideal.{IsPoly-times, InIdeal_same, InIdeal_times}
+use Rattle.polynomials.specs.laws.Congruence.{minus_nonzero, minus_poly, minus_zero, congruent_sym, congruent_trans}
 use Rattle.polynomials.specs.laws.Terms.{IsDecreasing-scaled}
 use Rattle.polynomials.specs.laws.Degrees.{ideal_component, coefficient-component, component_is, component_nonzero, component_leads}
 use Rattle.polynomials.specs.laws.Coefficients.{nothing_at, no_coefficient, found_monomial}
@@ -29,16 +29,10 @@ module _ {E : Type 0} (P : Presented E) (H : IsPresentation P) where
       ⊎_elim (λ z. minus_zero P.field H.field b c z) (λ l. absurd (no_lead l.0 l.1)) (zero_or_lead P.field H.field P.order H.order (minus P.field b c) poly)
     where
       poly : IsPoly P.field P.order.places (minus P.field b c)
-      poly = IsPoly-append P.field H.field P.order.places b (negated P.field c) h.poly (IsPoly-negated P.field H.field P.order.places c k.poly)
+      poly = minus_poly P.field H.field P.order.places b c h.poly k.poly
 
       no_lead : (m : Exponents) → IsLead P.field P.order (minus P.field b c) m → ⊥
-      no_lead m l =
-          ⊎_elim
-          (λ z. ⊎_elim
-          (λ w. l.nonzero (coefficient-minus P.field H.field b c m ∙ zero_difference P.field H.field (coefficient P.field b m) (coefficient P.field c m) z w))
-          (λ w. (k.standard m w).no_lead leads) (H.field.equal_or_not (coefficient P.field c m) P.field.zero))
-          (λ z. (h.standard m z).no_lead leads)
-          (H.field.equal_or_not (coefficient P.field b m) P.field.zero)
+      no_lead m l = ⊎_elim (λ z. (h.standard m z).no_lead leads) (λ w. (k.standard m w).no_lead leads) (minus_nonzero P.field H.field b c m l.nonzero)
         where
           leads : LeadsIdeal P m
           leads = record {

@@ -6,12 +6,11 @@ use Rattle.monomial_order.specs.laws.Lists.{contains_cases, contains_here, conta
 use Rattle.monomial_order.specs.Monomial.{Exponents, product}
 use Rattle.monomial_order.specs.MonomialOrder.{MonomialOrder, IsMonomialOrder, IsIncreasing}
 use Rattle.monomial_order.specs.laws.Monomial.{product_assoc, product-one}
-use Rattle.polynomials.specs.Polynomial.{Polynomial, coefficient, Same, negated, minus, IsLead, lead_monomial}
+use Rattle.polynomials.specs.Polynomial.{IsPoly, Polynomial, coefficient, Same, minus, IsLead, lead_monomial}
 use Rattle.polynomials.specs.Subalgebra.{Presented, IsPresentation, product_of, AllIn, IsGenerated, LeadsSubalgebra, IsStandard, IsElement, IsReducedBasis}
 use Rattle.polynomials.specs.laws.Decreasing.{IsDecreasing_IsPoly, IsDecreasing_unique, IsLead_first}
 use Rattle.polynomials.specs.laws.Canonical.{zero_or_lead}
-use Rattle.polynomials.specs.laws.Congruence.{coefficient-minus, zero_difference, minus_zero}
-use Rattle.polynomials.specs.laws.Ideal.{IsPoly-append, IsPoly-negated}
+use Rattle.polynomials.specs.laws.Congruence.{coefficient-minus, minus_nonzero, minus_poly, minus_zero}
 use Rattle.polynomials.specs.laws.Membership.{sub_minus}
 use Rattle.monomial_order.specs.laws.Comparing.{not_below_self}
 
@@ -130,43 +129,31 @@ module _ {E : Type 0} (P : Presented E) (H : IsPresentation P) (c : ℕ) where
 
   -- two elements with one lead are equal
   difference_zero : (s t : Polynomial E) (m : Exponents) → coefficient P.field s m ≡ coefficient P.field t m → coefficient P.field (minus P.field s t) m ≡ P.field.zero
-  difference_zero s t m e =
-      coefficient-minus P.field H.field s t m ∙ (ap (λ x. P.field.plus x (P.field.negate (coefficient P.field t m))) e ∙ H.field.plus_negate (coefficient P.field t m))
+  difference_zero s t m e = simp (coefficient-minus P.field H.field, e, H.field.plus_negate)
 
   pub same_lead : (s t : Polynomial E) → IsElement P c s → IsElement P c t → lead_monomial s ≡ lead_monomial t → s ≡ t
   same_lead s t hs ht e =
       IsDecreasing_unique P.field H.field P.order H.order s t hs.decreasing ht.decreasing (⊎_elim equal (λ l. absurd (no_lead l.0 l.1))
-      (zero_or_lead P.field H.field P.order H.order (minus P.field s t)
-      (IsPoly-append P.field H.field P.order.places s (negated P.field t) (IsDecreasing_IsPoly P.field P.order s hs.decreasing)
-      (IsPoly-negated P.field H.field P.order.places t (IsDecreasing_IsPoly P.field P.order t ht.decreasing)))))
+      (zero_or_lead P.field H.field P.order H.order (minus P.field s t) poly))
     where
+      poly : IsPoly P.field P.order.places (minus P.field s t)
+      poly = minus_poly P.field H.field P.order.places s t (IsDecreasing_IsPoly P.field P.order s hs.decreasing) (IsDecreasing_IsPoly P.field P.order t ht.decreasing)
+
       equal : Same P.field (minus P.field s t) [] → Same P.field s t
       equal z = minus_zero P.field H.field s t z
 
       no_lead : (m : Exponents) → IsLead P.field P.order (minus P.field s t) m → ⊥
       no_lead m l =
           let differs : m ≢ lead_monomial s = λ same. l.nonzero (difference_zero s t m (ap (coefficient P.field s) same ∙ (hs.monic ∙ (sym ht.monic ∙ (ap (coefficient P.field t) (sym e) ∙ ap (coefficient P.field t) (sym same)))))) in
-          let found : IsStandard P m → ⊥ = λ st. ⊎_elim
-          (λ z. ⊎_elim
-          (λ w. l.nonzero (coefficient-minus P.field H.field s t m ∙ zero_difference P.field H.field (coefficient P.field s m) (coefficient P.field t m) z w))
-          (λ w. ht.tail m w (λ same. differs (same ∙ sym e)) (lead_of st))
-          (H.field.equal_or_not (coefficient P.field t m) P.field.zero))
-          (λ z. hs.tail m z differs (lead_of st))
-          (H.field.equal_or_not (coefficient P.field s m) P.field.zero) in
-          ⊎_elim
-          (λ z. ⊎_elim
-          (λ w. l.nonzero (coefficient-minus P.field H.field s t m ∙ zero_difference P.field H.field (coefficient P.field s m) (coefficient P.field t m) z w))
-          (λ w. found (ht.standard m w))
-          (H.field.equal_or_not (coefficient P.field t m) P.field.zero))
-          (λ z. found (hs.standard m z))
-          (H.field.equal_or_not (coefficient P.field s m) P.field.zero)
+          let either = minus_nonzero P.field H.field s t m l.nonzero in
+          let found : IsStandard P m → ⊥ = λ st. ⊎_elim (λ z. hs.tail m z differs (lead_of st)) (λ w. ht.tail m w (λ same. differs (same ∙ sym e)) (lead_of st)) either in
+          ⊎_elim (λ z. found (hs.standard m z)) (λ w. found (ht.standard m w)) either
         where
           lead_of : IsStandard P m → LeadsSubalgebra P m
           lead_of st = record {
             standard = st;
             member = minus P.field s t;
-            poly = IsPoly-append P.field H.field P.order.places s (negated P.field t) (IsDecreasing_IsPoly P.field P.order s hs.decreasing)
-                (IsPoly-negated P.field H.field P.order.places t (IsDecreasing_IsPoly P.field P.order t ht.decreasing));
+            poly = poly;
             inside = sub_minus P H s t hs.inside ht.inside;
             leads = l;
           }
