@@ -180,6 +180,8 @@ fn closed_quotients(rt: HostRuntime) -> Result<(), Fail> {
         "101 | x y | 1 1 | lex | x^2 - y^2 | 3 | closed | 30000 | x^2",
         // a generator of twice the degree; a lead has x for the first variable and y for the second
         "101 | y x | 1 1 | lex | x^2 | 1 | open | 2 | y^2",
+        // the generator x^3 is above the degree, though x^2 divides each lead
+        "101 | x y | 1 1 | lex | x^2, x^3 | 2 | open | 3 | x^2",
         // monomials
         "101 | x y | 1 1 | lex | x^2, x*y, y^3 | 2 | open | 3 | x*y, x^2, y^3",
         "101 | x y | 1 1 | lex | x^2, x*y, y^3 | 3 | closed | 30000 | x*y, x^2, y^3",
