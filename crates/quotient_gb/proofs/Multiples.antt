@@ -1,9 +1,9 @@
 -- Least common multiples and cofactors.
-use Rattle.std.proofs.Common.{◌≡◌, ℕ, ◌+◌, ◌≤◌, sym, ◌∙◌, ap, subst, arith, ⊎_elim}
-use Rattle.monomial_order.specs.Monomial.{exponent, product, least_common_multiple as lcm, IsTrimmed, IsMonomial, Divides, AreCoprime, Exponents}
+use Rattle.std.proofs.Common.{◌≡◌, ℕ, ◌+◌, ◌≤◌, sym, ◌∙◌, ap, subst, arith}
+use Rattle.monomial_order.specs.Monomial.{exponent, product, least_common_multiple as lcm, IsTrimmed, IsMonomial, Exponents}
 use Rattle.monomial_order.specs.MonomialOrder.{MonomialOrder, IsMonomialOrder}
 use Rattle.monomial_order.specs.laws.Monomial.{exponent-product, IsTrimmed-product, IsMonomial-product, product_assoc, product_comm, length-product, exponent-least_common_multiple as exponent-lcm, IsTrimmed-least_common_multiple as IsTrimmed-lcm, IsMonomial-least_common_multiple as IsMonomial-lcm}
-use Rattle.monomial_order.specs.laws.Cofactors.{cofactor, same_exponents, product_cancel_right}
+use Rattle.monomial_order.specs.laws.Cofactors.{cofactor, product_cancel_right}
 
 pub divides_left : (k m : Exponents) (N : ℕ) → IsMonomial N (product k m) → IsTrimmed k → IsMonomial N k
 divides_left k m N h t = record { trimmed = t; within = let w = h.within in let l = length-product k m in omega arith }

@@ -123,7 +123,8 @@ fn normal_form(
         return Ok(quotient.normal_form(alloc, p, a)?);
     }
     ensure(degree <= CLOSING_MAX, "a great degree")?;
-    ensure(quotient.closed(alloc, p)?, "not closed")?;
+    let closed = quotient.closed(alloc, p)?;
+    ensure(closed, "not closed")?;
     Ok(quotient.normal_form(alloc, p, a)?)
 }
 
@@ -149,7 +150,7 @@ fn normal_forms(rt: HostRuntime) -> Result<(), Fail> {
         "101 | x y | 1 1 | lex | x^2 - y^2 | 3 | x^2 - y^2 | 1 | x^2 | 0, true, false",
         // of degrees above that of the quotient
         "101 | x y | 1 1 | lex | x^2 - y^2 | 2 | x^5 + x^3 | x*y^9 | x^2*y^8 | x*y^4 + x*y^2, true, false",
-        "101 | x y | 1 1 | lex | x^2, y^3 | 3 | x^2*y + x*y^2 | x*y^2 | x*y^3 | x*y^2, true, false",
+        "101 | x y | 1 1 | lex | x^2, y^3 | 3 | x^2*y^2 + x*y^3 | x*y^2 | x*y^9 | 0, true, false",
     ] {
         judge(row, answer(rt.alloc(), row)?.as_str())?;
     }
@@ -179,6 +180,8 @@ fn closed_quotients(rt: HostRuntime) -> Result<(), Fail> {
         "101 | x y | 1 1 | lex | x^2 - y^2 | 3 | closed | 30000 | x^2",
         // a generator of twice the degree; a lead has x for the first variable and y for the second
         "101 | y x | 1 1 | lex | x^2 | 1 | open | 2 | y^2",
+        // the generator x^3 is above the degree, though x^2 divides each lead
+        "101 | x y | 1 1 | lex | x^2, x^3 | 2 | open | 3 | x^2",
         // monomials
         "101 | x y | 1 1 | lex | x^2, x*y, y^3 | 2 | open | 3 | x*y, x^2, y^3",
         "101 | x y | 1 1 | lex | x^2, x*y, y^3 | 3 | closed | 30000 | x*y, x^2, y^3",
