@@ -1,9 +1,8 @@
 -- The norm of a pair is its product with its conjugate, and 0 only at the pair of zeros.
-use Rattle.std.proofs.Common.{◌≡◌, ◌≢◌, ℕ, ◌+◌, ◌-◌, ◌*◌, ◌%◌, ◌<◌, ◌≤◌, true, refl, sym, ◌∙◌, ap, subst, arith, ◌⊎◌, inl, inr, ⊎_elim}
-use Rattle.std.proofs.Math.Nat.{add-mul-mod_self_right, mod-lt, mod-eq_of_lt, mod-add-mod, add-mod-mod}
+use Rattle.std.proofs.Common.{◌≡◌, ◌≢◌, ℕ, ◌+◌, ◌-◌, ◌*◌, ◌%◌, ◌<◌, true, sym, ◌∙◌, ap, subst, arith, ⊎_elim}
+use Rattle.std.proofs.Math.Nat.{add-mul-mod_self_right, mod-eq_of_lt, mod-add-mod, add-mod-mod}
 use Rattle.std.proofs.lemmas.Nat.{mul-mod_first, mul-mod_second}
-use Rattle.word_field.specs.Field.{IsField}
-use Rattle.word_field.specs.Residues.{residues, is_listed}
+use Rattle.word_field.specs.Residues.{residues}
 use Rattle.word_field.specs.laws.Residues.{residues_field}
 use Rattle.word_field.specs.laws.Field.{times_is_zero}
 use Rattle.ext_field.specs.PairField.{is_square}

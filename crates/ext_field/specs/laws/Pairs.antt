@@ -1,10 +1,9 @@
 -- The pairs of numbers below p are a field. These are proofs: they stand here, and not in proofs/, since the laws
 -- that `PairField` gives as a `Field` cite them, and such laws cite specs/ alone.
-use Rattle.std.proofs.Common.{◌≡◌, ◌≢◌, ℕ, zero, suc, ◌+◌, ◌-◌, ◌*◌, ◌/◌, ◌%◌, ◌<◌, ◌≤◌, refl, sym, ◌∙◌, ap, subst, true, arith, ◌⊎◌, inl, inr, ⊎_elim}
+use Rattle.std.proofs.Common.{◌≡◌, ◌≢◌, ℕ, ◌+◌, ◌-◌, ◌*◌, ◌/◌, ◌%◌, ◌<◌, ◌≤◌, sym, ◌∙◌, ap, subst, true, arith, inl, inr, ⊎_elim}
 use Rattle.std.proofs.Math.Nat.{add-mul-mod_self_left, mul-mod_left, mod-lt, mod-mod, mod-add-div, mod-eq_of_lt, mod-add-mod, add-mod-mod}
-use Rattle.std.proofs.lemmas.Nat.{mul-mod_first, mul-mod_second, div_below, div-mul-add}
+use Rattle.std.proofs.lemmas.Nat.{mul-mod_first, div_below, div-mul-add}
 use Rattle.word_field.specs.Field.{IsField, IsValue}
-use Rattle.word_field.specs.Residues.{residues}
 use Rattle.word_field.specs.laws.Residues.{residues_field}
 use Rattle.ext_field.specs.declared.pair.Pair.{Pair}
 use Rattle.ext_field.specs.PairField.{pair, pairs, is_square}

@@ -1,6 +1,6 @@
-use Rattle.std.proofs.Common.{◌≡◌, ◌*◌, ◌%◌, sym, ◌∙◌, ap, refl, arith}
+use Rattle.std.proofs.Common.{◌*◌, ◌%◌, sym, ◌∙◌, ap, refl, arith}
 use Rattle.std.proofs.lemmas.Nat.{mul-mod_first}
-use Rattle.ext_field.specs.PairField.{pair, pairs}
+use Rattle.ext_field.specs.PairField.{pairs}
 use Rattle.ext_field.specs.laws.Norms.{norm, norm_is_zero}
 use Rattle.ext_field.specs.laws.Pairs.{pair_eq, inverse_by, low_of_value, high_of_value}
 use Rattle.ext_field.proofs.pair_field.PairFieldField.inv.Goals as goal
