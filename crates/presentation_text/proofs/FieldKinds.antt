@@ -6,11 +6,10 @@ use Rattle.word_field.specs.Field.{FieldOps, IsField}
 use Rattle.word_field.specs.Residues.{residues, is_listed}
 use Rattle.word_field.specs.laws.Residues.{residues_field}
 use Rattle.word_field.specs.declared.WordField.{WordField}
-use Rattle.ext_field.specs.PairField.{pairs, pairs_of, is_square, is_pair_size}
+use Rattle.ext_field.specs.PairField.{pairs_of, is_pair_size}
 use Rattle.ext_field.specs.declared.pair.Pair.{Pair}
 use Rattle.ext_field.specs.declared.pair_field.PairField.{PairField}
 use Rattle.ext_field.specs.laws.Pairs.{pairs_field}
-use Rattle.ext_field.specs.laws.Primes.{square_cases}
 use Rattle.ext_field.specs.laws.Sizes.{one_field as one_pair_field, square_size, pairs_of_square}
 use Rattle.polynomial_text.specs.Results.{◌>>=◌}
 use Rattle.presentation_text.specs.Heading.{is_size}

@@ -1,12 +1,12 @@
 -- The lists of polynomials that were read are lists of a presentation.
-use Rattle.std.proofs.Common.{◌≡◌, ◌≢◌, ℕ, zero, suc, ◌≤◌, Bool, true, false, cond, eqb, List, [], ◌∷◌, length, map, Result, Ok, Err, refl, sym, ap, subst, ◌∙◌, arith}
+use Rattle.std.proofs.Common.{◌≡◌, ℕ, zero, suc, ◌≤◌, Bool, true, false, cond, eqb, List, [], ◌∷◌, length, map, Result, Ok, Err, refl, ap, subst, ◌∙◌, arith}
 use Rattle.std.specs.List.{list_any, AllByRecursion}
 use Rattle.std.proofs.lemmas.Bool.{le-leb}
 use Rattle.word_field.specs.Field.{FieldOps, IsField}
 use Rattle.monomial_order.specs.Limits.{degree_max}
 use Rattle.monomial_order.specs.MonomialOrder.{MonomialOrder, IsMonomialOrder}
 use Rattle.monomial_order.specs.Ranges.{all_between}
-use Rattle.polynomials.specs.Polynomial.{Polynomial, Same, coefficient, IsPoly, AllAt, IsSmall, IsCanonical}
+use Rattle.polynomials.specs.Polynomial.{Polynomial, Same, IsPoly, IsSmall, IsCanonical}
 use Rattle.polynomials.specs.laws.Canonical.{canonical}
 use Rattle.polynomials.specs.laws.Degrees.{all_found, decreasing_all}
 use Rattle.poly_core.specs.Presentation.{AreCanonicalGenerators, IsCanonicalList, generator_degree}

@@ -1,5 +1,5 @@
 -- What a text is read as is a presentation.
-use Rattle.std.proofs.Common.{◌≡◌, ℕ, true, ◌≤◌, List, length, Ok, refl, sym, ap, subst, ◌∙◌}
+use Rattle.std.proofs.Common.{◌≡◌, ℕ, ◌≤◌, List, length, Ok, refl, sym, ap, subst, ◌∙◌}
 use Rattle.std.specs.Prelude.{codes}
 use Rattle.std.specs.List.{AllByRecursion}
 use Rattle.word_field.specs.Field.{FieldOps, IsField}
@@ -12,7 +12,6 @@ use Rattle.polynomials.specs.Polynomial.{Polynomial}
 use Rattle.poly_core.specs.Names.{AreNames, IsNameList}
 use Rattle.poly_core.specs.Presentation.{IsCanonicalList, IsValid, weight_order_of}
 use Rattle.poly_core.specs.declared.place_names.Names.{Names}
-use Rattle.poly_core.specs.declared.place_names.Names.TheVariants.{Listed}
 use Rattle.poly_core.specs.declared.presentations.Presentation.{Presentation}
 use Rattle.poly_core.specs.laws.Presentation.{canonical_presentation}
 use Rattle.polynomial_text.specs.laws.Steps.{step_ok, same_ok}
@@ -21,7 +20,7 @@ use Rattle.presentation_text.specs.Heading.{is_size, count_max}
 use Rattle.presentation_text.specs.Lines.{content, end_line}
 use Rattle.presentation_text.specs.Meaning.{AreSums, IsReadIn}
 use Rattle.presentation_text.specs.Presenting.{IsHeading, IsListOf, IsPresented, IsFromReading}
-use Rattle.presentation_text.specs.Reading.{Line, Head, Reading, AnyReading, order_of_head, head, counted, ended, reading_over, reading_behind, reading_of, reading}
+use Rattle.presentation_text.specs.Reading.{Line, Head, Reading, AnyReading, order_of_head, head, counted, ended, reading_over, reading_of, reading}
 use Rattle.presentation_text.proofs.FieldKinds.{IsKind}
 use Rattle.presentation_text.proofs.ReadHeads.{head_read, heading_laws}
 use Rattle.presentation_text.proofs.ReadLists.{IsFit, counted_fit, forms, canonical_list, letter_degrees}

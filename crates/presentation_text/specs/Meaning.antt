@@ -16,7 +16,7 @@ use Rattle.poly_core.specs.declared.presentations.Presentation.{Presentation}
 use Rattle.presentation_text.specs.declared.text_fault.TextFault.{TextFault}
 use Rattle.presentation_text.specs.declared.text_fault.TextFault.TheVariants as faults
 use Rattle.presentation_text.specs.Kinds.{Fault}
-use Rattle.presentation_text.specs.Reading.{Reading, AnyReading, reading, queries}
+use Rattle.presentation_text.specs.Reading.{Reading, reading, queries}
 use Rattle.presentation_text.specs.Reading.AnyReading.{word, pair}
 use Rattle.presentation_text.specs.declared.any_presentation.AnyPresentation.{AnyPresentation}
 use Rattle.presentation_text.specs.declared.any_presentation.AnyPresentation.TheVariants as presentations

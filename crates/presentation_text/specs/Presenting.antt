@@ -1,5 +1,5 @@
 -- What a reading gives is a presentation.
-use Rattle.std.specs.Prelude.{◌≡◌, ℕ, List, [], length, map, true}
+use Rattle.std.specs.Prelude.{◌≡◌, List, [], length, map, true}
 use Rattle.word_field.specs.Field.{FieldOps}
 use Rattle.monomial_order.specs.declared.weight_order.WeightOrder.{WeightOrder}
 use Rattle.monomial_order.specs.Faults.{IsWeighing}

@@ -1,7 +1,6 @@
 use Rattle.std.proofs.lemmas.Result.{err_from_is_err_and}
 use Rattle.word_field.specs.Residues.{residues}
 use Rattle.ext_field.specs.PairField.{pairs_of}
-use Rattle.presentation_text.specs.Giving.{head_of}
 use Rattle.presentation_text.specs.Heading.{is_size}
 use Rattle.presentation_text.specs.Meaning.{word_ops, pair_ops}
 use Rattle.presentation_text.specs.Reading.AnyReading.{word, pair}
