@@ -1,5 +1,5 @@
 -- Where a reading that knows the prime sizes alone differs from one that knows all sizes.
-use Rattle.std.proofs.Common.{◌≡◌, ℕ, Bool, true, false, cond, ◌⊎◌, inl, inr, ⊎_elim, List, [], ◌∷◌, Option, Some, None, Result, Ok, Err, refl, sym, ap, ◌∙◌, arith}
+use Rattle.std.proofs.Common.{◌≡◌, ℕ, Bool, true, false, cond, ◌⊎◌, inl, inr, List, [], ◌∷◌, Option, Some, None, Result, Ok, Err, refl, sym, ap, ◌∙◌}
 use Rattle.std.specs.Prelude.{codes}
 use Rattle.word_field.specs.Residues.{is_listed}
 use Rattle.ext_field.specs.PairField.{is_pair_size}
@@ -11,7 +11,7 @@ use Rattle.presentation_text.specs.Heading.{◌>>=◌, behind_key, only, size, i
 use Rattle.presentation_text.specs.Kinds.{Fault, or_fault}
 use Rattle.presentation_text.specs.Lines.{tokens, content, end_line}
 use Rattle.presentation_text.specs.Numbers.{number_of}
-use Rattle.presentation_text.specs.Reading.{Line, AnyReading, at_line, next, head, reading_of, reading_with}
+use Rattle.presentation_text.specs.Reading.{Line, at_line, next, head, reading_of, reading_with}
 use Rattle.presentation_text.proofs.FieldKinds.{no_pair_size}
 use Rattle.presentation_text.proofs.NextLines.{next_err}
 
@@ -83,7 +83,7 @@ module _ (text : List ℕ) where
   by_size : (none : List (List ℕ)) (line : Line) (rest : List Line) → next (end_line text) header_line (content text) ≡ Ok (none, line ∷ rest) → SizeOf line.1 → Differs text
   by_size none line rest header (inl unknown) =
       let failed = λ (known : ℕ → Bool). field_err (end_line text) (content text) none (line ∷ rest) header known (FieldUnknown, line.0)
-          (next_err (field_line known) (end_line text) line.0 line.1 (line ∷ rest) rest (line_faults.Kind FieldUnknown) refl (unknown known)) in
+      (next_err (field_line known) (end_line text) line.0 line.1 (line ∷ rest) rest (line_faults.Kind FieldUnknown) refl (unknown known)) in
       inl (failed is_listed ∙ sym (failed is_size))
   by_size none line rest header (inr (n, judged)) = by (is_pair_size n) refl
     where

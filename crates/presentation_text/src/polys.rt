@@ -24,7 +24,12 @@ use std::alloc::Global;
 use word_field::Field;
 
 /// Whether a polynomial is zero or homogeneous of a positive degree. `constant` is the fault of another constant.
-fn judge<F: Field>(f: &F, h: &Head, constant: TextKind, p: &Poly<F>) -> Result<(), LineFault<TextKind>>
+fn judge<F: Field>(
+    f: &F,
+    h: &Head,
+    constant: TextKind,
+    p: &Poly<F>,
+) -> Result<(), LineFault<TextKind>>
     requires canonical { IsCanonical (F.ops f.now) (order_in h.now) p.now }
     requires low { IsLow (order_in h.now) p.now }
     ensures accepted { IfOk result (λ _. (sum : Polynomial F.Elem) → Same (F.ops f.now) p.now sum →

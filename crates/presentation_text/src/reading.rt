@@ -62,7 +62,12 @@ fn generator_degree<F: Field>(f: &F, h: &Head, p: &Poly<F>) -> u32
 }
 
 /// The order of the tokens in the generators.
-fn gen_order<F: Field>(alloc: Global, f: &F, h: &Head, generators: &[Poly<F>]) -> Result<WordOrder, Memory>
+fn gen_order<F: Field>(
+    alloc: Global,
+    f: &F,
+    h: &Head,
+    generators: &[Poly<F>],
+) -> Result<WordOrder, Memory>
     requires { AreCanonicalGenerators (F.ops f.now) (order_in h.now) generators.now }
     ensures x { IfOk result (λ o. o.x_degrees.items ≡ []) }
     ensures s { IfOk result (λ o. o.s_degrees.items ≡ map (generator_degree (order_in h.now)) generators.now) }
@@ -88,7 +93,14 @@ fn lists<F: Field>(
         (IsFaultOf (lists (F.ops f.now) lines.old.missing (head_of h.now) lines.old.left)) }
 {
     let ideal = counted(alloc, f, h, b"ideal", TextKind::UnitIdeal, lines)?;
-    let generators = counted(alloc, f, h, b"generators", TextKind::ConstantGenerator, lines)?;
+    let generators = counted(
+        alloc,
+        f,
+        h,
+        b"generators",
+        TextKind::ConstantGenerator,
+        lines,
+    )?;
     ended(lines)?;
     Ok((ideal, generators))
 }

@@ -7,7 +7,7 @@ use Rattle.sagbi_cli.specs.Built.{IsNotBuilt}
 use Rattle.sagbi_cli.specs.Report.{IsReportOf}
 use Rattle.sagbi_cli.specs.SinkChange.{SinkChange, HasFailed, TakesNothing, TakesWhole, TakesFront}
 use Rattle.sagbi_cli.specs.declared.outcome.Outcome.{Outcome}
-use Rattle.sagbi_cli.specs.declared.outcome.Outcome.TheVariants.{Done, Usage, Fault, Shelf, Sink, Memory, Missing, TooLong, NotBuilt}
+use Rattle.sagbi_cli.specs.declared.outcome.Outcome.TheVariants.{Done, Sink, Memory, NotBuilt}
 
 module _ {F E : Type 0} (ops : F → FieldOps E) (p : Presentation F WeightOrder E) (bound : ℕ) where
   -- a front of its report

@@ -16,8 +16,6 @@ mod slots;
 mod steady_shelf;
 mod steady_sink;
 mod stream_sink;
-#[cfg(test)]
-mod tests;
 mod write_record;
 
 pub use file_shelf::FileShelf;

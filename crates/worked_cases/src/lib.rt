@@ -24,4 +24,6 @@ pub mod rows;
 #[cfg(test)]
 mod shelves;
 #[cfg(test)]
+mod stops;
+#[cfg(test)]
 mod texts;

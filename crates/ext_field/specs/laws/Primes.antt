@@ -1,5 +1,5 @@
 -- The three primes with their t and u: x * x is never t + u * x, and the fifth power of a number inverts it. These
--- are proofs: they stand here, and not in proofs/, since the laws that `PairField` gives as a `Field` cite them.
+-- are in specs/, and not in proofs/, since the laws that `PairField` gives as a `Field` cite them.
 use Rattle.std.proofs.Common.{◌≡◌, ◌≢◌, ℕ, zero, suc, ◌+◌, ◌*◌, ◌%◌, ◌<◌, ◌≤◌, refl, sym, ◌∙◌, ap, subst, Bool, true, false, arith, ⊎_elim}
 use Rattle.std.specs.Prelude.{◌||◌, ◌&&◌, not, nat_eq}
 use Rattle.std.proofs.lemmas.Bool.{or_cases, and_parts, eqb-true, eq-eqb}

@@ -1,6 +1,6 @@
 use Rattle.std.proofs.Common.{[], ◌∷◌, Ok}
 use Rattle.shelf_io.specs.Stages.{save, Writes}
-use Rattle.shelf_io.proofs.tests.save_both.Goals as goal
+use Rattle.worked_cases.proofs.stops.save_both.Goals as goal
 
 pub returns-in_err-write : goal.returns-in_err-write
 returns-in_err-write g c = λ files held found start first last at stop.

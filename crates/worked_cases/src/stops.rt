@@ -5,8 +5,8 @@ ghost use Rattle.shelf_io.specs.Stages.{save, IsFromStage};
 ghost use Rattle.shelf_io.specs.MemoryShelf.{shelf_state, held_files};
 ghost use Rattle.shelf_io.specs.Writes.{IsStopSince};
 
-use super::*;
-use crate::laws::{saves_go_on, stops_at_stages};
+use shelf_io::laws::{saves_go_on, stops_at_stages};
+use shelf_io::*;
 use std::alloc::Global;
 use std::test::Fail;
 

@@ -1,6 +1,6 @@
 use Rattle.std.proofs.Common.{length, refl}
 use Rattle.shelf_io.specs.MemoryShelf.{shelf_state, held_files}
-use Rattle.shelf_io.proofs.tests.save_both_in_memory.Goals as goal
+use Rattle.worked_cases.proofs.stops.save_both_in_memory.Goals as goal
 
 pub returns : goal.returns
 returns c = λ found stop.
