@@ -33,7 +33,6 @@ abbrev is_rootless : ℕ → ℕ → ℕ → ℕ → Bool
 is_rootless p t u zero = true
 is_rootless p t u (suc k) = not (nat_eq (k * k % p) ((t + u * k) % p)) && is_rootless p t u k
 
-
 rootless_at : (p t u k x : ℕ) → is_rootless p t u k ≡ true → x < k → x * x % p ≢ (t + u * x) % p
 rootless_at p t u zero x h l e = omega arith
 rootless_at p t u (suc k) x h l e =
