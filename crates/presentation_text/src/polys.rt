@@ -104,7 +104,8 @@ fn several<F: Field>(
         (λ sums. several lines.old.missing (poly_line (F.ops f.now) (head_of h.now) constant) count lines.old.left
         ≡ Ok (sums, lines.new.left)) v.items) }
     ensures fault { IfErr result
-        (IsFaultOf (several lines.old.missing (poly_line (F.ops f.now) (head_of h.now) constant) count lines.old.left)) }
+        (IsFaultOf (several lines.old.missing
+        (poly_line (F.ops f.now) (head_of h.now) constant) count lines.old.left)) }
 {
     let mut polys = Vec::new(alloc);
     for _ in 0..count {

@@ -75,7 +75,8 @@ impl<F: Field, O: Order> Quotient<F, O> {
         ensures reached { c ≤ self.old.degree → IsOk result }
         ensures unchanged { c ≤ self.old.degree → self.new ≡ self.old }
         ensures closed { self.new.closed ≡ self.old.closed }
-        ensures known { self.old.closed ≡ true → IsOk result × (self.new ≡ with_degree (max self.old.degree c) self.old) }
+        ensures known { self.old.closed ≡ true →
+            IsOk result × (self.new ≡ with_degree (max self.old.degree c) self.old) }
         ensures memory { OnErr result (self.new ≡ self.old) }
     {
         let degree = self.degree;

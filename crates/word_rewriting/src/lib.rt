@@ -84,7 +84,7 @@ pub fn resuming()
     ensures rules { ForGeneratingRules CompletionsGoOn }
 {}
 
-/// Words over x of degree 1 with letters for x^2 and x^3: the rules that were found by hand are complete to every degree.
+/// Words over x of degree 1 with letters for x^2 and x^3: the rules found by hand are complete to every degree.
 pub fn sample()
     ensures rules { AreRewriteRules (IsMultiple []) square_and_cube sample_rules }
     ensures reduced { AreReducedRules sample_rules }
