@@ -52,6 +52,10 @@ REPORTS = [
     (presentation(["x - 2*x + 2*x"], field=3), 2, report(2, (1, "x"))),
     (presentation(["65522*x"], field=65521), 2, report(2, (1, "x"))),
     (presentation(["32003*x + y"], field=32003), 2, report(2, (1, "y"))),
+    # over pairs (0, 1) is 2, 3 or 7; in the field of 4 it times (1, 1) is 1, and in the others its square is -1
+    (presentation(["2*3*x + 4*y"], field=4), 2, report(2, (1, "x"))),
+    (presentation(["3*3*3*3*x + 9*y"], field=9), 2, report(2, (1, "x"))),
+    (presentation(["7*7*7*7*y - 49*x"], field=49), 2, report(2, (1, "y"))),
     # x has the degree 2
     (presentation(["x", "y"], field=5, weights="2 1"), 2, report(2, (1, "y"), (2, "x"))),
     # a row that puts y above x
@@ -95,6 +99,8 @@ REFUSALS = [
     (SUMS, 99, NOT_BUILT),
     (presentation(["x"], ideal=["x^2"], field=7), 99, NOT_BUILT),
     (presentation(["2*x"], field=7), 99, NOT_BUILT),
+    (presentation(["2*x"], field=4), 99, NOT_BUILT),
+    (presentation(["x"], field=25), 2, fault(2, "FieldUnknown")),
 ]
 
 # other words with the file PLANE, the status, and the line
