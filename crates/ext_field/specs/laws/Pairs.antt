@@ -1,4 +1,4 @@
--- The pairs of numbers below p are a field. These are proofs: they stand here, and not in proofs/, since the laws
+-- The pairs of numbers below p are a field. They are in specs/, and not in proofs/, since the laws
 -- that `PairField` gives as a `Field` cite them, and such laws cite specs/ alone.
 use Rattle.std.proofs.Common.{◌≡◌, ◌≢◌, ℕ, ◌+◌, ◌-◌, ◌*◌, ◌/◌, ◌%◌, ◌<◌, ◌≤◌, sym, ◌∙◌, ap, subst, true, arith, inl, inr, ⊎_elim}
 use Rattle.std.proofs.Math.Nat.{add-mul-mod_self_left, mul-mod_left, mod-lt, mod-mod, mod-add-div, mod-eq_of_lt, mod-add-mod, add-mod-mod}
