@@ -26,6 +26,6 @@ module _ (p : Presentation WordField WeightOrder ℕ) (w : WordOrder) where
     pub low : IsLow (weight_order_of p.order) t.value
     pub low_by : IsLow (by_order w) t.by
 
--- in each such order
+-- in each order with these places
 abbrev pub IsLowPair : Presentation WordField WeightOrder ℕ → Tracked WordField ℕ → Type 0
 IsLowPair p t = (w : WordOrder) → HasRoom p w → IsLowPairIn p w t
