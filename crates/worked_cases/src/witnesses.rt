@@ -10,7 +10,7 @@ use monomial_order::WordOrder;
 use poly_core::{Names, Poly};
 use std::alloc::Global;
 use std::test::Fail;
-use witness::{Tracked, element, generator, product, scale, sum};
+use witness::{Tracked, element, generator, product, reduce, scale, sum};
 use word_field::{Field, WordField};
 
 /// The generators x^2 + y^2 and x*y over the field of 101 elements.
@@ -77,12 +77,21 @@ fn made_of(alloc: Global, p: &Ring, w: &WordOrder, row: &str) -> Result<Tracked<
     ensures { IfOk result (IsPairIn p.now w.now) }
 {
     let a = named(alloc, p, part(row, 0))?;
-    if part(row, 1) == "scaled by" {
-        let factor = p.field.from_word(number(part(row, 2))? as u64);
-        return Ok(scale(alloc, p, &a, factor)?);
+    match part(row, 1) {
+        // without an ideal a polynomial is its own normal form
+        "reduced" => {
+            let normal_form = a.value.copy(alloc)?;
+            Ok(reduce(p, a, normal_form))
+        }
+        "scaled by" => {
+            let factor = p.field.from_word(number(part(row, 2))? as u64);
+            Ok(scale(alloc, p, &a, factor)?)
+        }
+        operation => {
+            let b = named(alloc, p, part(row, 2))?;
+            of_two(alloc, p, w, &a, operation, &b)
+        }
     }
-    let b = named(alloc, p, part(row, 2))?;
-    of_two(alloc, p, w, &a, part(row, 1), &b)
 }
 
 /// The canonical texts of a value and of its witness.
@@ -116,6 +125,7 @@ fn each_value_has_its_witness(rt: HostRuntime) -> Result<(), Fail> {
     let mut w = p.gen_order.copy(alloc)?;
     w.push_place(2)?;
     for row in [
+        "g1 | reduced | x^2 + y^2 = g1",
         "g1 | scaled by | 1 | x^2 + y^2 = g1",
         "g2 | scaled by | 3 | 3*x*y = 3*g2",
         "s1 | scaled by | 100 | 100*x*y = 100*s1",
