@@ -27,3 +27,5 @@ mod shelves;
 mod stops;
 #[cfg(test)]
 mod texts;
+#[cfg(test)]
+mod witnesses;

@@ -1,0 +1,10 @@
+//! Values with a witness: a polynomial in the generators and the elements of a basis that has this value.
+#![tactic(auto)]
+
+mod arithmetic;
+mod letters;
+mod tracked;
+
+pub use arithmetic::{product, reduce, scale, sum};
+pub use letters::{element, generator};
+pub use tracked::Tracked;
