@@ -3,7 +3,6 @@ use Rattle.std.proofs.Common.{List, [], ◌∷◌}
 use Rattle.std.specs.Prelude.{All}
 use Rattle.std.proofs.lemmas.List.Elements.{All-cons, All-nil}
 use Rattle.word_field.specs.Field.{FieldOps}
-use Rattle.monomial_order.specs.declared.terms.Term.{Term}
 use Rattle.monomial_order.specs.MonomialOrder.{MonomialOrder}
 use Rattle.polynomials.specs.Polynomial.{Polynomial, IsCanonical}
 use Rattle.presentation_text.specs.Meaning.{AreSums}

@@ -1,8 +1,7 @@
 -- Presentations that tests read, and their polynomials.
-use Rattle.std.specs.Prelude.{ℕ, List}
+use Rattle.std.specs.Prelude.{ℕ}
 use Rattle.word_field.specs.Residues.{residues}
 use Rattle.word_field.specs.declared.WordField.{WordField}
-use Rattle.monomial_order.specs.declared.terms.Term.{Term}
 use Rattle.monomial_order.specs.declared.weight_order.WeightOrder.{WeightOrder}
 use Rattle.polynomials.specs.Polynomial.{Polynomial, IsCanonical}
 use Rattle.poly_core.specs.Presentation.{IsValid, weight_order_of}
