@@ -1,9 +1,9 @@
 //! Chains of terms in x and y over the field of 101 elements.
 ghost use Rattle.std.specs.Prelude.{◌≡◌, [], OnOk};
-ghost use Rattle.worked_cases.specs.Rings.{IsIn, IsRing};
+ghost use Rattle.worked_rows.specs.Rings.{IsIn, IsRing};
 
-use crate::rings::{Ring, X_AND_Y, polynomial, ring};
-use crate::rows::{ensure, number};
+use worked_rows::rings::{Ring, X_AND_Y, polynomial, ring};
+use worked_rows::rows::{ensure, number};
 use linked_terms::TermChain;
 use monomial_order::{Monomial, Term};
 use std::alloc::Global;

@@ -4,11 +4,11 @@ ghost use Rattle.polynomials.specs.Polynomial.{degree_of};
 ghost use Rattle.monomial_order.specs.Limits.{exponent_max};
 ghost use Rattle.poly_core.specs.Presentation.{weight_order_of};
 ghost use Rattle.polynomials.specs.Value.{value_degree, HasSmallValue};
-ghost use Rattle.worked_cases.specs.Rings.{IsIn, IsLowIn, IsRing};
+ghost use Rattle.worked_rows.specs.Rings.{IsIn, IsLowIn, IsRing};
 
-use crate::monomials::monomial;
-use crate::rings::{Ring, X_AND_Y, polynomial, polynomials, ring, text_of};
-use crate::rows::{ensure, judge, number, part};
+use worked_rows::monomials::monomial;
+use worked_rows::rings::{Ring, X_AND_Y, polynomial, polynomials, ring, text_of};
+use worked_rows::rows::{ensure, judge, number, part};
 use monomial_order::{Order, Term};
 use poly_core::{NameTable, Poly};
 use std::alloc::Global;

@@ -1,11 +1,11 @@
 //! Orders of monomials and of words.
 ghost use Rattle.std.specs.Prelude.{◌≡◌, ℕ, ◌≤◌, [], ◌∷◌, IfOk};
 ghost use Rattle.monomial_order.specs.Monomial.{exponent};
-ghost use Rattle.worked_cases.specs.Rings.{IsIn, IsRing};
+ghost use Rattle.worked_rows.specs.Rings.{IsIn, IsRing};
 
 use crate::products::small;
-use crate::rings::{Ring, polynomial, ring};
-use crate::rows::{ensure, judge, number, numbers, part};
+use worked_rows::rings::{Ring, polynomial, ring};
+use worked_rows::rows::{ensure, judge, number, numbers, part};
 use monomial_order::{Memory, Monomial, Order, OrderFault, Row, Tie, WeightOrder, WordOrder};
 use poly_core::Poly;
 use std::alloc::Global;

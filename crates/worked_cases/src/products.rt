@@ -2,8 +2,8 @@
 ghost use Rattle.std.specs.Prelude.{ℕ, ◌≤◌, IfOk};
 ghost use Rattle.monomial_order.specs.Monomial.{exponent};
 
-use crate::monomials::{is_word, monomial};
-use crate::rows::{ensure, part};
+use worked_rows::monomials::{is_word, monomial};
+use worked_rows::rows::{ensure, part};
 use monomial_order::Monomial;
 use std::alloc::Global;
 use std::test::Fail;

@@ -1,11 +1,11 @@
 //! Values with their witnesses, over the generators x^2 + y^2 and x*y.
 ghost use Rattle.std.specs.Prelude.{◌≤◌, IfOk};
 ghost use Rattle.monomial_order.specs.declared.word_order.WordOrder.{WordOrder};
-ghost use Rattle.worked_cases.specs.Rings.{IsRing};
+ghost use Rattle.worked_rows.specs.Rings.{IsRing};
 ghost use Rattle.worked_cases.specs.Witnesses.{HasRoom, IsLowPair, IsLowPairIn, IsPairIn};
 
-use crate::rings::{Ring, polynomial, ring, text_of};
-use crate::rows::{ensure, judge, number, part};
+use worked_rows::rings::{Ring, polynomial, ring, text_of};
+use worked_rows::rows::{ensure, judge, number, part};
 use monomial_order::WordOrder;
 use poly_core::{Names, Poly};
 use std::alloc::Global;

@@ -10,8 +10,8 @@ use monomial_basis::{is_product, minimal_generators};
 use monomial_order::{Monomial, Order, Tie, WeightOrder};
 use std::alloc::Global;
 use std::test::Fail;
-use worked_cases::monomials::{is_word, monomial};
-use worked_cases::rows::{ensure, judge, number, numbers, part};
+use worked_rows::monomials::{is_word, monomial};
+use worked_rows::rows::{ensure, judge, number, numbers, part};
 
 /// The greatest degree that is computed with.
 const EXPONENT_MAX: u32 = 65_535;

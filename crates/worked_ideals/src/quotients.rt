@@ -4,7 +4,7 @@ ghost use Rattle.word_field.specs.Residues.{residues};
 ghost use Rattle.monomial_order.specs.Limits.{degree_max};
 ghost use Rattle.poly_core.specs.Presentation.{weight_order_of, presented};
 ghost use Rattle.quotient_gb.specs.Quotient.{IsQuotientOf};
-ghost use Rattle.worked_cases.specs.Rings.{IsIn, IsRing};
+ghost use Rattle.worked_rows.specs.Rings.{IsIn, IsRing};
 
 use crate::bases::are_monomials;
 use crate::zeros::DEGREE_MAX;
@@ -14,9 +14,9 @@ use quotient_gb::Quotient;
 use std::alloc::Global;
 use std::test::Fail;
 use word_field::WordField;
-use worked_cases::monomials::monomial;
-use worked_cases::rings::{Ring, polynomial, ring, text_of};
-use worked_cases::rows::{ensure, judge, number, part};
+use worked_rows::monomials::monomial;
+use worked_rows::rings::{Ring, polynomial, ring, text_of};
+use worked_rows::rows::{ensure, judge, number, part};
 
 /// The greatest degree at which a quotient may be asked whether it is closed.
 const CLOSING_MAX: u32 = 15_000;

@@ -8,7 +8,7 @@ use monomial_order::{Monomial, Tie, WeightOrder};
 use std::alloc::Global;
 use std::test::Fail;
 use toric_ideal::Words;
-use worked_cases::rows::ensure;
+use worked_rows::rows::ensure;
 
 /// The degrees of the x.
 pub(crate) fn x_degrees(words: &Words) -> &[u32]

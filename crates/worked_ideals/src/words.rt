@@ -5,8 +5,8 @@ use monomial_order::{Monomial, Tie};
 use std::alloc::Global;
 use std::test::Fail;
 use toric_ideal::{Rule, Words};
-use worked_cases::monomials::{is_word, monomial};
-use worked_cases::rows::{ensure, number, numbers, part};
+use worked_rows::monomials::{is_word, monomial};
+use worked_rows::rows::{ensure, number, numbers, part};
 
 /// Does a step: a word, and what it is done with. Zeros wait for the next extension.
 fn step(
