@@ -24,6 +24,7 @@ use Rattle.polynomials.specs.laws.Congruence.{congruent_same}
 use Rattle.polynomials.specs.laws.Membership.{sub_plus, sub_times, sub_congruent}
 use Rattle.subalgebra_laws.specs.Words.{letters, letter_values, word_value}
 use Rattle.subalgebra_laws.specs.Bases.{AreMonicElements, AreMembers}
+use Rattle.subalgebra_laws.specs.laws.Members.{sub_constant, sub_zero}
 use Rattle.subalgebra_laws.specs.Statements.{SWordsAreMembers, SumsOfSWordsAreMembers, StandardProductsLead}
 use Rattle.subalgebra_laws.proofs.Letters.{letter_degrees, letter_laws, are_letters, places_letters, s_one, s_product, letter, letter_word, letter_image, letter_value, word_monic}
 use Rattle.polynomials.specs.laws.Coefficients.{constant_poly, value_letter}
@@ -37,35 +38,6 @@ none_before (suc n) (e ∷ w) h zero l = let c = sum_by-cons (λ (y : ℕ). y) e
 none_before (suc n) (e ∷ w) h (suc i) l = none_before n w (let c = sum_by-cons (λ (y : ℕ). y) e (take n w) in omega arith) i (omega arith)
 
 module _ {E : Type 0} (P : Presented E) (H : IsPresentation P) where
-  pub sub_constant : (f : E) → IsValue P.field f → InSubalgebra P (constant P.field f)
-  sub_constant f v = record {
-    witness = constant P.field f;
-    poly = constant_poly P.field H.field (length P.generators) f v;
-    inside = congruent_same P.field H.field P.order.places P.ideal (constant P.field f) (value P.field (constant P.field f) P.generators)
-        (λ m. sym (value-constant P.field H.field f P.generators m));
-  }
-
-  pub sub_zero : InSubalgebra P []
-  sub_zero = record { witness = []; poly = tt; inside = congruent_same P.field H.field P.order.places P.ideal [] [] (λ m. refl) }
-
-  -- a generator is a member of the subalgebra
-  pub generator_sub : (f : Polynomial E) → Contains P.generators f → InSubalgebra P f
-  generator_sub f h =
-      let l = h.1 in
-      record {
-        witness = term_of (variable h.0) P.field.one ∷ [];
-        poly = (record { monomial = record { trimmed = variable_trimmed h.0; within = let n = variable_length h.0 in omega arith }; value = H.field.one_value }, tt);
-        inside = congruent_same P.field H.field P.order.places P.ideal f (value P.field (term_of (variable h.0) P.field.one ∷ []) P.generators)
-            (λ m. sym (value_letter P.field H.field P.generators h.0 l m ∙ ap (λ p. coefficient P.field p m) (get_or_default P.generators h.0 [] f l ∙ h.2)));
-      }
-
-  pub generator_poly : (f : Polynomial E) → Contains P.generators f → IsPoly P.field P.order.places f
-  generator_poly f h = among P.generators H.generators f h
-    where
-      among : (gs : List (Polynomial E)) → AreGenerators P.field P.order gs → (f : Polynomial E) → Contains gs f → IsPoly P.field P.order.places f
-      among [] h f k = absurd (contains_none f k)
-      among (g ∷ gs) h f k = ⊎_elim (λ e. subst (IsPoly P.field P.order.places) e h.0.poly) (λ i. among gs h.1 f i) (contains_cases g gs f k)
-
   module _ (S : List (Polynomial E)) (HS : AreMonicElements P S) where
     abbrev im : List ℕ → List ℕ
     im w = image_of (letters P S) w
@@ -129,7 +101,7 @@ module _ {E : Type 0} (P : Presented E) (H : IsPresentation P) where
     module _ (inside : AreMembers P S) where
       -- values of s-words are members
       pub word_sub : SWordsAreMembers P S
-      word_sub = by_letters (λ v. InSubalgebra P (word_value P S v)) (sub_constant P.field.one H.field.one_value)
+      word_sub = by_letters (λ v. InSubalgebra P (word_value P S v)) (sub_constant P H P.field.one H.field.one_value)
           (λ j v l h.
           let one = word_monic P H S HS (letter P S j) in
           sub_congruent P H (times P.field (word_value P S (letter P S j)) (word_value P S v)) (word_value P S (product (letter P S j) v))
@@ -140,10 +112,10 @@ module _ {E : Type 0} (P : Presented E) (H : IsPresentation P) where
           (monomial_value-product P.field H.field (letter P S j) v (letter_values P S))))
 
       terms_sub : (e : Polynomial E) → IsPoly P.field (word_order_of (letters P S)).places e → AllAt (IsSWord (letters P S)) e → InSubalgebra P (value P.field e (letter_values P S))
-      terms_sub [] hp h = sub_zero
+      terms_sub [] hp h = sub_zero P H
       terms_sub (t ∷ e) hp h =
           sub_plus P H (term_value P.field (letter_values P S) t) (value P.field e (letter_values P S))
-          (sub_times P H (constant P.field t.by) (word_value P S t.at) (constant_poly P.field H.field P.order.places t.by hp.0.value) (sub_constant t.by hp.0.value) (word_sub t.at h.0))
+          (sub_times P H (constant P.field t.by) (word_value P S t.at) (constant_poly P.field H.field P.order.places t.by hp.0.value) (sub_constant P H t.by hp.0.value) (word_sub t.at h.0))
           (terms_sub e hp.1 h.1)
 
       -- the value of a sum of s-words is a member: that of its canonical form is

@@ -1,0 +1,97 @@
+-- Elements whose witnesses use elements of smaller degree alone are members of the subalgebra.
+use Rattle.std.proofs.Common.{◌≡◌, ◌≢◌, ℕ, zero, suc, ◌+◌, ◌<◌, refl, sym, ◌∙◌, ap, subst, List, [], ◌∷◌, ◌++◌, length, get_or, length-append, arith, ⊎_elim}
+use Rattle.std.specs.Prelude.{All, map, replicate}
+use Rattle.std.proofs.lemmas.List.{length-map, get_or-map, get_or_append_left, get_or-append-add, get_or_default}
+use Rattle.word_field.specs.Field.{FieldOps, IsField}
+use Rattle.monomial_order.specs.Monomial.{Exponents, exponent}
+use Rattle.monomial_order.specs.MonomialOrder.{MonomialOrder, IsMonomialOrder}
+use Rattle.monomial_order.specs.Orders.{word_order}
+use Rattle.monomial_order.specs.laws.Lists.{contains_at}
+use Rattle.monomial_order.specs.laws.Comparing.{le_or_not}
+use Rattle.monomial_order.specs.laws.Orders.{ArePositive, word_order_laws}
+use Rattle.polynomials.specs.Polynomial.{Polynomial, coefficient, Same, times, constant, degree_of, AllAt, IsPoly}
+use Rattle.polynomials.specs.Ideal.{Congruent}
+use Rattle.polynomials.specs.Value.{power, monomial_value, term_value, value}
+use Rattle.polynomials.specs.Subalgebra.{Presented, IsPresentation, InSubalgebra}
+use Rattle.polynomials.specs.laws.Canonical.{canonical}
+use Rattle.polynomials.specs.laws.Congruence.{congruent_same, congruent_trans}
+use Rattle.polynomials.specs.laws.Coefficients.{constant_poly}
+use Rattle.polynomials.specs.laws.Decreasing.{IsDecreasing_IsPoly}
+use Rattle.polynomials.specs.laws.Degrees.{decreasing_all}
+use Rattle.polynomials.specs.laws.Value.{value_same}
+use Rattle.polynomials.specs.laws.Membership.{ArePolys, IsPoly-power, IsPoly-monomial_value, sub_congruent, sub_plus, sub_times}
+use Rattle.subalgebra_laws.specs.laws.Members.{sub_constant, sub_zero, generator_sub, generator_poly}
+use Rattle.witness.specs.declared.tracked.Tracked.{Tracked}
+use Rattle.witness.specs.Tracking.{values_of, Tracks, UsesLower, IsLowerElement, IsTrackedElement}
+
+ones_positive : (n : ℕ) → ArePositive (replicate n 1)
+ones_positive zero = tt
+ones_positive (suc n) = (omega arith, ones_positive n)
+
+length_ones : (n : ℕ) → length (replicate n 1) ≡ n
+length_ones zero = refl
+length_ones (suc n) = ap suc (length_ones n)
+
+module _ {E : Type 0} (K : FieldOps E) (F : IsField K) where
+  -- the same polynomial with each monomial once
+  pub plain : (n : ℕ) (p : Polynomial E) (Q : Exponents → Type 0) → IsPoly K n p → ((m : Exponents) → coefficient K p m ≢ K.zero → Q m) →
+      (q : Polynomial E) × IsPoly K n q × Same K q p × AllAt Q q
+  plain n p Q h k =
+      let O : MonomialOrder = word_order [] (replicate n 1) in
+      let L : IsMonomialOrder O = word_order_laws [] (replicate n 1) (ones_positive n) in
+      let r = canonical K F O L p (subst (λ i. IsPoly K i p) (sym (length_ones n)) h) in (
+        r.0,
+        subst (λ i. IsPoly K i r.0) (length_ones n) (IsDecreasing_IsPoly K O r.0 r.1.decreasing),
+        r.1.same,
+        decreasing_all K F O L Q r.0 r.1.decreasing (λ m c. k m (λ z. c (r.1.same m ∙ z))),
+      )
+
+module _ {E : Type 0} (P : Presented E) (H : IsPresentation P) where
+  open P use {field as K, order as O, ideal as rs, generators as fs}
+  open H use {field as F}
+
+  power_member : (f : Polynomial E) (e : ℕ) → IsPoly K O.places f → InSubalgebra P f → InSubalgebra P (power K f e)
+  power_member f zero p h = sub_constant P H K.one F.one_value
+  power_member f (suc e) p h = sub_times P H f (power K f e) p h (power_member f e p h)
+
+  monomial_member : (m : Exponents) (at : List (Polynomial E)) → ArePolys K F O.places at → ((i : ℕ) → exponent m i ≢ 0 → i < length at → InSubalgebra P (get_or at i [])) → InSubalgebra P (monomial_value K m at)
+  monomial_member [] at p h = sub_constant P H K.one F.one_value
+  monomial_member (e ∷ m) [] p h = sub_constant P H K.one F.one_value
+  monomial_member (zero ∷ m) (f ∷ at) p h =
+      sub_times P H (power K f 0) (monomial_value K m at) (IsPoly-power K F O.places f 0 p.0) (sub_constant P H K.one F.one_value)
+      (monomial_member m at p.1 (λ i n l. h (suc i) n (omega arith)))
+  monomial_member (suc e ∷ m) (f ∷ at) p h =
+      sub_times P H (power K f (suc e)) (monomial_value K m at) (IsPoly-power K F O.places f (suc e) p.0) (power_member f (suc e) p.0 (h 0 (omega arith) (omega arith)))
+      (monomial_member m at p.1 (λ i n l. h (suc i) n (omega arith)))
+
+  -- the value at polynomials of which those that are used are members
+  pub value_member : (n : ℕ) (h : Polynomial E) (at : List (Polynomial E)) → ArePolys K F O.places at → IsPoly K n h →
+      AllAt (λ m. (i : ℕ) → exponent m i ≢ 0 → i < length at → InSubalgebra P (get_or at i [])) h → InSubalgebra P (value K h at)
+  value_member n [] at p hp a = sub_zero P H
+  value_member n (t ∷ h) at p hp a =
+      sub_plus P H (term_value K at t) (value K h at)
+      (sub_times P H (constant K t.by) (monomial_value K t.at at) (constant_poly K F O.places t.by hp.0.value) (sub_constant P H t.by hp.0.value) (monomial_member t.at at p a.0))
+      (value_member n h at p hp.1 a.1)
+
+  polys : (gs : List (Polynomial E)) → ((i : ℕ) → i < length gs → IsPoly K O.places (get_or gs i [])) → ArePolys K F O.places gs
+  polys [] h = tt
+  polys (g ∷ gs) h = (h 0 (omega arith), polys gs (λ i l. h (suc i) (omega arith)))
+
+  module _ {A : Type 0} (s : List (Tracked A E)) (h : All (IsLowerElement P (values_of s)) s) where
+    abbrev S : List (Polynomial E)
+    S = values_of s
+
+    length_S : length S ≡ length s
+    length_S = length-map s (λ t. t.value)
+
+    value_at : (i : ℕ) (t : Tracked A E) → i < length s → get_or S i [] ≡ (let u : Tracked A E = get_or s i t in u.value)
+    value_at i t l = get_or-map (λ u. u.value) s i t [] l
+
+    poly_at : (i : ℕ) → i < length (fs ++ S) → IsPoly K O.places (get_or (fs ++ S) i [])
+    poly_at i l = ⊎_elim right left (le_or_not (length fs) i)
+      where
+        left : (length fs ≤ i → ⊥) → IsPoly K O.places (get_or (fs ++ S) i [])
+        left n = ?
+
+        right : length fs ≤ i → IsPoly K O.places (get_or (fs ++ S) i [])
+        right n = ?
