@@ -1,11 +1,12 @@
 -- Letters as polynomials, and their degrees in an order of witnesses.
-use Rattle.std.proofs.Common.{◌≡◌, ℕ, zero, suc, ◌+◌, ◌<◌, ◌≤◌, refl, sym, ◌∙◌, ap, subst, List, [], ◌∷◌, ◌++◌, length, get_or, length-append, arith}
+use Rattle.std.proofs.Common.{◌≡◌, ℕ, zero, suc, ◌+◌, ◌-◌, ◌*◌, ◌<◌, ◌≤◌, ⊎_elim, refl, sym, ◌∙◌, ap, subst, List, [], ◌∷◌, ◌++◌, length, get_or, length-append, arith}
 use Rattle.std.specs.Prelude.{map}
 use Rattle.std.proofs.lemmas.List.{length-map, get_or-map, get_or_append_left, get_or-append-add}
 use Rattle.word_field.specs.Field.{FieldOps, IsField}
 use Rattle.monomial_order.specs.Monomial.{Exponents, variable, weighted_degree}
 use Rattle.monomial_order.specs.MonomialOrder.{MonomialOrder, IsMonomialOrder, HasSmallDegrees}
 use Rattle.monomial_order.specs.declared.word_order.WordOrder.{WordOrder}
+use Rattle.monomial_order.specs.laws.Comparing.{le_or_not}
 use Rattle.monomial_order.specs.laws.Monomial.{variable_monomial, weighted_nil}
 use Rattle.monomial_order.specs.laws.Orders.{word_laws, word_small}
 use Rattle.polynomials.specs.Polynomial.{Polynomial, IsPoly, IsCanonical, degree_of}
@@ -29,6 +30,11 @@ module _ {E : Type 0} (K : FieldOps E) (F : IsField K) where
 
     pub graded_letter : (d i : ℕ) → W.degree (variable i) ≡ d → IsGraded K W d (letter_poly K i)
     graded_letter d i e m n = subst (λ v. W.degree v ≡ d) (single_term K F (variable i) K.one m n) e
+
+-- a place is one of the first k, or one of n after them
+pub by_place : (k n : ℕ) (Q : ℕ → Type 0) → ((i : ℕ) → i < k → Q i) → ((j : ℕ) → j < n → Q (k + j)) → (i : ℕ) → i < k + n → Q i
+by_place k n Q first after i l =
+    ⊎_elim (λ h. let e : k + (i - k) ≡ i = omega arith in subst Q e (after (i - k) (omega arith))) (λ h. first i (omega arith)) (le_or_not k i)
 
 -- a single letter has its weight as its degree
 pub weighted_letter : (ws : List ℕ) (i : ℕ) → i < length ws → weighted_degree ws (variable i) ≡ get_or ws i 0

@@ -22,13 +22,17 @@ use Rattle.polynomials.specs.laws.Value.{value_same}
 use Rattle.polynomials.specs.laws.Membership.{ArePolys, IsPoly-power, IsPoly-monomial_value, sub_congruent, sub_plus, sub_times}
 use Rattle.subalgebra_laws.specs.laws.Members.{sub_constant, sub_zero, generator_sub, generator_poly}
 use Rattle.witness.specs.declared.tracked.Tracked.{Tracked}
+use Rattle.witness.specs.laws.Letters.{by_place}
 use Rattle.witness.specs.Tracking.{values_of, Tracks, UsesLower, IsLowerElement, IsTrackedElement}
 
-ones_positive : (n : ℕ) → ArePositive (replicate n 1)
+abbrev ones : ℕ → List ℕ
+ones n = replicate n 1
+
+ones_positive : (n : ℕ) → ArePositive (ones n)
 ones_positive zero = tt
 ones_positive (suc n) = (omega arith, ones_positive n)
 
-length_ones : (n : ℕ) → length (replicate n 1) ≡ n
+length_ones : (n : ℕ) → length (ones n) ≡ n
 length_ones zero = refl
 length_ones (suc n) = ap suc (length_ones n)
 
@@ -37,8 +41,8 @@ module _ {E : Type 0} (K : FieldOps E) (F : IsField K) where
   pub plain : (n : ℕ) (p : Polynomial E) (Q : Exponents → Type 0) → IsPoly K n p → ((m : Exponents) → coefficient K p m ≢ K.zero → Q m) →
       (q : Polynomial E) × IsPoly K n q × Same K q p × AllAt Q q
   plain n p Q h k =
-      let O : MonomialOrder = word_order [] (replicate n 1) in
-      let L : IsMonomialOrder O = word_order_laws [] (replicate n 1) (ones_positive n) in
+      let O : MonomialOrder = word_order [] (ones n) in
+      let L : IsMonomialOrder O = word_order_laws [] (ones n) (ones_positive n) in
       let r = canonical K F O L p (subst (λ i. IsPoly K i p) (sym (length_ones n)) h) in (
         r.0,
         subst (λ i. IsPoly K i r.0) (length_ones n) (IsDecreasing_IsPoly K O r.0 r.1.decreasing),
@@ -87,11 +91,50 @@ module _ {E : Type 0} (P : Presented E) (H : IsPresentation P) where
     value_at : (i : ℕ) (t : Tracked A E) → i < length s → get_or S i [] ≡ (let u : Tracked A E = get_or s i t in u.value)
     value_at i t l = get_or-map (λ u. u.value) s i t [] l
 
-    poly_at : (i : ℕ) → i < length (fs ++ S) → IsPoly K O.places (get_or (fs ++ S) i [])
-    poly_at i l = ⊎_elim right left (le_or_not (length fs) i)
-      where
-        left : (length fs ≤ i → ⊥) → IsPoly K O.places (get_or (fs ++ S) i [])
-        left n = ?
+    S_poly : (j : ℕ) → j < length S → IsPoly K O.places (get_or S j [])
+    S_poly j l =
+        let d : Tracked A E = record { value = []; by = [] } in
+        subst (IsPoly K O.places) (sym (value_at j d (let n = length_S in omega arith))) (let e = h j d (let n = length_S in omega arith) in e.value)
 
-        right : length fs ≤ i → IsPoly K O.places (get_or (fs ++ S) i [])
-        right n = ?
+    all_polys : ArePolys K F O.places (fs ++ S)
+    all_polys = polys (fs ++ S) (λ i l. by_place (length fs) (length S) (λ i. IsPoly K O.places (get_or (fs ++ S) i []))
+        (λ i l. subst (IsPoly K O.places) (sym (get_or_append_left fs S [] i l)) (generator_poly P H (get_or fs i []) (contains_at fs i [] l)))
+        (λ j l. subst (IsPoly K O.places) (sym (get_or-append-add fs S j [])) (S_poly j l))
+        i (let n = length-append fs S in omega arith))
+
+    -- a value is a member if the elements that its witness uses are
+    from_used : (t : Tracked A E) → IsPoly K (length fs + length S) t.by → Tracks P S t →
+        ((m : Exponents) → coefficient K t.by m ≢ K.zero → (j : ℕ) → exponent m (length fs + j) ≢ 0 → j < length S → InSubalgebra P (get_or S j [])) → InSubalgebra P t.value
+    from_used t p c used =
+        let q = plain K F (length fs + length S) t.by (λ m. (i : ℕ) → exponent m i ≢ 0 → i < length (fs ++ S) → InSubalgebra P (get_or (fs ++ S) i [])) p
+            (λ m k i n l. by_place (length fs) (length S) (λ i. exponent m i ≢ 0 → InSubalgebra P (get_or (fs ++ S) i []))
+            (λ i l n. subst (InSubalgebra P) (sym (get_or_append_left fs S [] i l)) (generator_sub P H (get_or fs i []) (contains_at fs i [] l)))
+            (λ j l n. subst (InSubalgebra P) (sym (get_or-append-add fs S j [])) (used m k j n l))
+            i (let a = length-append fs S in omega arith) n) in
+        sub_congruent P H (value K q.0 (fs ++ S)) t.value (value_member (length fs + length S) q.0 (fs ++ S) all_polys q.1 q.3)
+        (congruent_trans K F O.places rs t.value (value K t.by (fs ++ S)) (value K q.0 (fs ++ S)) c
+        (congruent_same K F O.places rs (value K t.by (fs ++ S)) (value K q.0 (fs ++ S)) (λ m. sym (value_same K F q.0 t.by (fs ++ S) q.2 m))))
+
+    element_below : (d j : ℕ) → j < length S → degree_of O (get_or S j []) < d → InSubalgebra P (get_or S j [])
+    element_below zero j l b = absurd (omega arith)
+    element_below (suc d) j l b =
+        let z : Tracked A E = record { value = []; by = [] } in
+        let n = length_S in
+        let inside : j < length s = omega arith in
+        let u : Tracked A E = get_or s j z in
+        let e : get_or S j [] ≡ u.value = value_at j z inside in
+        let r : IsLowerElement P S u = h j z inside in
+        subst (InSubalgebra P) (sym e)
+        (from_used u r.by r.tracks (λ m k i x l. element_below d i l (let a = r.lower m k i x in let c : degree_of O (get_or S j []) ≡ degree_of O u.value = ap (degree_of O) e in omega arith)))
+
+    pub element_member : (j : ℕ) → j < length S → InSubalgebra P (get_or S j [])
+    element_member j l = element_below (suc (degree_of O (get_or S j []))) j l (omega arith)
+
+    -- each element is a member of the subalgebra
+    pub elements_are_members : All (λ t. InSubalgebra P t.value) s
+    elements_are_members j z l =
+        subst (InSubalgebra P) (value_at j z l) (element_member j (let n = length_S in omega arith))
+
+    -- and so is each value with a witness over them
+    pub tracked_member : (t : Tracked A E) → IsPoly K (length fs + length s) t.by → Tracks P S t → InSubalgebra P t.value
+    tracked_member t p c = from_used t (subst (λ n. IsPoly K (length fs + n) t.by) (sym length_S) p) c (λ m k j n l. element_member j l)
