@@ -1,1 +1,3 @@
 pub mod Witnesses
+pub mod Greatest
+pub mod Replacing

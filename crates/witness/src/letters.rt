@@ -15,7 +15,7 @@ use std::alloc::Global;
 use word_field::Field;
 
 /// The letter at a place, as a polynomial.
-fn letter<F: Field>(alloc: Global, f: &F, place: usize) -> Result<Poly<F>, Memory>
+pub(crate) fn letter<F: Field>(alloc: Global, f: &F, place: usize) -> Result<Poly<F>, Memory>
     requires { place + 1 < 2 ^ 64 }
     ensures letter { IfOk result (λ r. r ≡ letter_poly (F.ops f.now) place) }
 {

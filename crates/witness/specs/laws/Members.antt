@@ -81,6 +81,13 @@ module _ {E : Type 0} (P : Presented E) (H : IsPresentation P) where
   polys [] h = tt
   polys (g ∷ gs) h = (h 0 (omega arith), polys gs (λ i l. h (suc i) (omega arith)))
 
+  -- the generators and elements are polynomials in the places
+  pub places_polys : (S : List (Polynomial E)) → ((j : ℕ) → j < length S → IsPoly K O.places (get_or S j [])) → ArePolys K F O.places (fs ++ S)
+  places_polys S h = polys (fs ++ S) (λ i l. by_place (length fs) (length S) (λ i. IsPoly K O.places (get_or (fs ++ S) i []))
+      (λ i l. subst (IsPoly K O.places) (sym (get_or_append_left fs S [] i l)) (generator_poly P H (get_or fs i []) (contains_at fs i [] l)))
+      (λ j l. subst (IsPoly K O.places) (sym (get_or-append-add fs S j [])) (h j l))
+      i (let n = length-append fs S in omega arith))
+
   module _ {A : Type 0} (s : List (Tracked A E)) (h : All (IsLowerElement P (values_of s)) s) where
     abbrev S : List (Polynomial E)
     S = values_of s
@@ -97,10 +104,7 @@ module _ {E : Type 0} (P : Presented E) (H : IsPresentation P) where
         subst (IsPoly K O.places) (sym (value_at j d (let n = length_S in omega arith))) (let e = h j d (let n = length_S in omega arith) in e.value)
 
     all_polys : ArePolys K F O.places (fs ++ S)
-    all_polys = polys (fs ++ S) (λ i l. by_place (length fs) (length S) (λ i. IsPoly K O.places (get_or (fs ++ S) i []))
-        (λ i l. subst (IsPoly K O.places) (sym (get_or_append_left fs S [] i l)) (generator_poly P H (get_or fs i []) (contains_at fs i [] l)))
-        (λ j l. subst (IsPoly K O.places) (sym (get_or-append-add fs S j [])) (S_poly j l))
-        i (let n = length-append fs S in omega arith))
+    all_polys = places_polys S S_poly
 
     -- a value is a member if the elements that its witness uses are
     from_used : (t : Tracked A E) → IsPoly K (length fs + length S) t.by → Tracks P S t →
