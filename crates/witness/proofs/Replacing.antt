@@ -1,7 +1,7 @@
 -- Letters of elements are replaced by their witnesses.
 use Rattle.std.proofs.Common.{◌≡◌, ◌≢◌, ℕ, zero, suc, ◌+◌, ◌-◌, ◌*◌, ◌<◌, ◌≤◌, refl, sym, ◌∙◌, ap, subst, List, [], ◌∷◌, ◌++◌, length, get_or, length-append, arith, ⊎_elim, ◌⊎◌, inl, inr}
 use Rattle.std.specs.Prelude.{All, Contains, map}
-use Rattle.std.proofs.lemmas.List.{length-map, get_or-map, get_or_append_left, get_or-append-add, get_or_past, get_or_default}
+use Rattle.std.proofs.lemmas.List.{length-map, get_or-map, get_or_append_left, get_or-append-add, get_or_past, get_or_default, get_or_push}
 use Rattle.std.proofs.lemmas.List.Elements.{Contains-get_or}
 use Rattle.std.proofs.Math.Nat.{mul-le-mul_left}
 use Rattle.word_field.specs.Field.{FieldOps, IsField}
@@ -93,6 +93,13 @@ module _ {E : Type 0} (K : FieldOps E) (F : IsField K) (W : MonomialOrder) (L : 
   graded_degree : (d : ℕ) (p : Polynomial E) → IsDecreasing K W p → IsGraded K W d p → W.degree [] ≡ 0 → degree_of W p ≤ d
   graded_degree d [] h g z = omega arith
   graded_degree d (t ∷ p) h g z = let e = g t.at (λ z. h.0.nonzero (sym (coefficient_first K F W L t p h.0) ∙ z)) in omega arith
+
+-- one more polynomial at the end of a list
+pub more_replacements : {E : Type 0} (R : ℕ → Polynomial E → Type 0) (at : List (Polynomial E)) (a : Polynomial E) (n : ℕ) → length at ≡ n → ((i : ℕ) → i < n → R i (get_or at i [])) → R n a →
+    (i : ℕ) → i < n + 1 → R i (get_or (at ++ a ∷ []) i [])
+more_replacements R at a n l h r i li =
+    ⊎_elim (λ e. subst (λ j. R j (get_or (at ++ a ∷ []) j [])) (sym e) (subst (R n) (sym (get_or_push at a [] n l)) r))
+    (λ o. let b : i < n = omega (arith, o) in subst (R i) (sym (get_or_append_left at (a ∷ []) [] i (omega arith))) (h i b)) (numbers_or_not i n)
 
 module _ {E : Type 0} (P : Presented E) (H : IsPresentation P) (S : List (Polynomial E)) (w : WordOrder) (h : IsWitnessOrder P S w) where
   open P use {field as K, order as O, ideal as rs, generators as fs}

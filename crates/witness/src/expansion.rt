@@ -73,7 +73,8 @@ fn replace_degree<F: Field, O: Order>(
 {
     laws::compositions::<F>();
     let at = replacements(alloc, p, w, s, degree)?;
-    Poly::evaluate(alloc, &p.field, w, e, at.as_slice())
+    let replaced = Poly::evaluate(alloc, &p.field, w, e, at.as_slice())?;
+    Ok(replaced)
 }
 
 /// The letters, and the witnesses in place of those of the elements of this degree.

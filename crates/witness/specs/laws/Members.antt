@@ -142,3 +142,24 @@ module _ {E : Type 0} (P : Presented E) (H : IsPresentation P) where
     -- and so is each value with a witness over them
     pub tracked_member : (t : Tracked A E) → IsPoly K (length fs + length s) t.by → Tracks P S t → InSubalgebra P t.value
     tracked_member t p c = from_used t (subst (λ n. IsPoly K (length fs + n) t.by) (sym length_S) p) c (λ m k j n l. element_member j l)
+
+module _ {A E : Type 0} (P : Presented E) (W : MonomialOrder) (s : List (Tracked A E)) (h : All (IsTrackedElement P W (values_of s)) s) where
+  -- elements are polynomials in the places
+  pub element_polys : (j : ℕ) → j < length (values_of s) → IsPoly P.field P.order.places (get_or (values_of s) j [])
+  element_polys j l =
+      let z : Tracked A E = record { value = []; by = [] } in
+      let inside : j < length s = let n = length-map s (λ t. t.value) in omega arith in
+      let e = h j z inside in
+      subst (IsPoly P.field P.order.places) (sym (get_or-map (λ t. t.value) s j z [] inside)) (IsDecreasing_IsPoly P.field P.order (let t : Tracked A E = get_or s j z in t.value) e.canonical.value.decreasing)
+
+  -- what is asked of elements is enough for the law
+  pub tracked_are_lower : W.places ≡ length P.generators + length (values_of s) → All (IsLowerElement P (values_of s)) s
+  tracked_are_lower places j z l =
+      let e = h j z l in
+      let t : Tracked A E = get_or s j z in
+      record {
+        value = IsDecreasing_IsPoly P.field P.order t.value e.canonical.value.decreasing;
+        by = subst (λ n. IsPoly P.field n t.by) places (IsDecreasing_IsPoly P.field W t.by e.canonical.by.decreasing);
+        tracks = e.tracks;
+        lower = e.lower;
+      }
