@@ -6,7 +6,7 @@ use Rattle.std.proofs.lemmas.List.Elements.{Contains-get_or}
 use Rattle.std.proofs.Math.Nat.{mul-le-mul_left}
 use Rattle.word_field.specs.Field.{FieldOps, IsField}
 use Rattle.word_field.specs.laws.Field.{times-zero}
-use Rattle.monomial_order.specs.Monomial.{Exponents, exponent, variable, product, weighted_degree}
+use Rattle.monomial_order.specs.Monomial.{Exponents, exponent, variable, product, weighted_degree, IsMonomial}
 use Rattle.monomial_order.specs.MonomialOrder.{MonomialOrder, IsMonomialOrder}
 use Rattle.monomial_order.specs.declared.word_order.WordOrder.{WordOrder}
 use Rattle.monomial_order.specs.laws.Lists.{contains_cases, contains_none}
@@ -122,6 +122,10 @@ module _ {E : Type 0} (P : Presented E) (H : IsPresentation P) (S : List (Polyno
 
   pub order_places : W.places ≡ length ds
   order_places = ap length weights
+
+  pub letter_monomials : (e : Polynomial E) → IsDecreasing K W e → AllAt (IsMonomial (length ds)) e
+  letter_monomials [] d = tt
+  letter_monomials (t ∷ e) d = (subst (λ n. IsMonomial n t.at) order_places (let l = d.0 in l.term.monomial), letter_monomials e d.1)
 
   letter_weight : (i : ℕ) → i < length ds → W.degree (variable i) ≡ get_or ds i 0
   letter_weight i l = weighted_letter (w.x_degrees.items ++ w.s_degrees.items) i (let p = order_places in omega arith) ∙ ap (λ ws. get_or ws i 0) weights
@@ -257,3 +261,20 @@ module _ {E : Type 0} (P : Presented E) (H : IsPresentation P) (S : List (Polyno
                 subst (λ x. Congruent K O.places rs x (get_or (fs ++ S) i [])) (sym (get_or-map (λ a. value K a (fs ++ S)) at i [] [] inside))
                 (congruent_sym K F O.places rs (get_or (fs ++ S) i []) (value K (get_or at i []) (fs ++ S)) (let r = each i inside in r.value));
           }
+
+module _ {E : Type 0} (P : Presented E) (H : IsPresentation P) (W : MonomialOrder) (S : List (Polynomial E)) where
+  pub replaced_none : (h : Polynomial E) → IsCanonical P.field W h → IsReplaced P W S h h
+  replaced_none h c = record {
+    canonical = c;
+    value = congruent_same P.field H.field P.order.places P.ideal (value P.field h (P.generators ++ S)) (value P.field h (P.generators ++ S)) (λ m. refl);
+    degrees = λ d x. x;
+    graded = λ d x. x;
+  }
+
+  pub replaced_more : (h e r : Polynomial E) → IsReplaced P W S h e → IsReplaced P W S e r → IsReplaced P W S h r
+  replaced_more h e r a b = record {
+    canonical = b.canonical;
+    value = congruent_trans P.field H.field P.order.places P.ideal (value P.field h (P.generators ++ S)) (value P.field e (P.generators ++ S)) (value P.field r (P.generators ++ S)) a.value b.value;
+    degrees = λ d x. b.degrees d (a.degrees d x);
+    graded = λ d x. b.graded d (a.graded d x);
+  }
