@@ -16,6 +16,10 @@ use Rattle.witness.specs.declared.tracked.Tracked.{Tracked}
 abbrev pub by_order : WordOrder → MonomialOrder
 by_order w = word_order w.x_degrees.items w.s_degrees.items
 
+-- it has n letters or more
+abbrev pub HasPlaces : ℕ → WordOrder → Type 0
+HasPlaces n w = let W : MonomialOrder = by_order w in n ≤ W.places
+
 -- modulo the ideal, the value of t is that of its witness at the generators and the elements S
 abbrev pub Tracks : {F E : Type 0} → Presented E → List (Polynomial E) → Tracked F E → Type 0
 Tracks P S t = Congruent P.field P.order.places P.ideal t.value (value P.field t.by (P.generators ++ S))

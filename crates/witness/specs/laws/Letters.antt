@@ -9,10 +9,11 @@ use Rattle.monomial_order.specs.declared.word_order.WordOrder.{WordOrder}
 use Rattle.monomial_order.specs.laws.Comparing.{le_or_not}
 use Rattle.monomial_order.specs.laws.Monomial.{variable_monomial, weighted_nil}
 use Rattle.monomial_order.specs.laws.Orders.{word_laws, word_small}
-use Rattle.polynomials.specs.Polynomial.{Polynomial, IsPoly, IsCanonical, degree_of}
+use Rattle.polynomials.specs.Polynomial.{Polynomial, coefficient, IsPoly, IsCanonical, degree_of}
 use Rattle.polynomials.specs.Subalgebra.{Presented}
 use Rattle.polynomials.specs.laws.Coefficients.{single_term}
-use Rattle.poly_core.specs.Presentation.{generator_degree}
+use Rattle.polynomials.specs.laws.Decreasing.{coefficient_first}
+use Rattle.poly_core.specs.Presentation.{generator_degree, IsCanonicalGenerator, AreCanonicalGenerators}
 use Rattle.witness.specs.Tracking.{by_order, letter_poly, IsGraded, IsWitnessOrder}
 
 module _ {E : Type 0} (K : FieldOps E) (F : IsField K) where
@@ -30,6 +31,20 @@ module _ {E : Type 0} (K : FieldOps E) (F : IsField K) where
 
     pub graded_letter : (d i : ℕ) → W.degree (variable i) ≡ d → IsGraded K W d (letter_poly K i)
     graded_letter d i e m n = subst (λ v. W.degree v ≡ d) (single_term K F (variable i) K.one m n) e
+
+module _ {E : Type 0} (K : FieldOps E) (F : IsField K) (O : MonomialOrder) (L : IsMonomialOrder O) where
+  -- a generator is zero or homogeneous of its degree
+  pub generator_graded : (f : Polynomial E) → IsCanonicalGenerator K O f → IsGraded K O (generator_degree O f) f
+  unfolding coefficient
+  generator_graded [] h m n = absurd (n refl)
+  generator_graded (t ∷ f) h m n =
+      ⊎_elim (λ e. absurd cc)
+      (λ r. r.3.each m n ∙ sym (r.3.each t.at (λ z. (let l = h.canonical.decreasing.0 in l.nonzero) (sym (coefficient_first K F O L t f h.canonical.decreasing.0) ∙ z)))) h.homogeneous
+
+  pub generators_are : (fs : List (Polynomial E)) (i : ℕ) → i < length fs → AreCanonicalGenerators K O fs → IsCanonicalGenerator K O (get_or fs i [])
+  generators_are [] i l h = absurd (omega arith)
+  generators_are (f ∷ fs) zero l h = h.0
+  generators_are (f ∷ fs) (suc i) l h = generators_are fs i (omega arith) h.1
 
 -- a place is one of the first k, or one of n after them
 pub by_place : (k n : ℕ) (Q : ℕ → Type 0) → ((i : ℕ) → i < k → Q i) → ((j : ℕ) → j < n → Q (k + j)) → (i : ℕ) → i < k + n → Q i
