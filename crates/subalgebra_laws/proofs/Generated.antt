@@ -1,22 +1,21 @@
 -- Products of leads are images of s-words, and the values of s-words are members of the subalgebra.
 use Rattle.std.proofs.Common.{◌≡◌, ◌≢◌, ℕ, zero, suc, ◌+◌, ◌-◌, ◌<◌, ◌≤◌, refl, sym, ◌∙◌, ap, subst, List, [], ◌∷◌, ⊎_elim, length, get_or, take, arith}
-use Rattle.std.specs.Prelude.{map, Contains, sum}
+use Rattle.std.specs.Prelude.{map, sum}
 use Rattle.std.proofs.lemmas.List.{get_or_default}
 use Rattle.std.proofs.lemmas.List.Elements.{Contains-get_or}
 use Rattle.std.proofs.lemmas.List.Sums.{sum_by-cons}
-use Rattle.word_field.specs.Field.{IsValue}
 use Rattle.monomial_order.specs.Monomial.{product, exponent, variable, Divides}
-use Rattle.monomial_order.specs.laws.Lists.{contains_cases, contains_none, contains_map}
-use Rattle.monomial_order.specs.laws.Monomial.{product_comm, product-one, variable_divides, variable_trimmed, variable_length}
+use Rattle.monomial_order.specs.laws.Lists.{contains_map}
+use Rattle.monomial_order.specs.laws.Monomial.{product_comm, product-one, variable_divides, variable_trimmed}
 use Rattle.monomial_order.specs.laws.Cofactors.{cofactor, Divides-product, length-product_right}
 use Rattle.monomial_order.specs.laws.Comparing.{le_or_not, equal_or_not, some_exponent}
 use Rattle.word_laws.specs.Words.{word_order_of, image_of, IsSWord}
 use Rattle.word_laws.specs.laws.Words.{image_times, s_divisor}
-use Rattle.polynomials.specs.Polynomial.{Polynomial, coefficient, term_of, times, constant, AllAt, IsPoly, IsLead, lead_monomial}
+use Rattle.polynomials.specs.Polynomial.{Polynomial, times, constant, AllAt, IsPoly, IsLead, lead_monomial}
 use Rattle.polynomials.specs.Value.{value, term_value}
-use Rattle.polynomials.specs.Subalgebra.{Presented, IsPresentation, AreGenerators, InSubalgebra, IsGenerated, AllIn, product_of}
+use Rattle.polynomials.specs.Subalgebra.{Presented, IsPresentation, InSubalgebra, IsGenerated, AllIn, product_of}
 use Rattle.polynomials.specs.laws.ReducedBasis.{map_contains, generated_times}
-use Rattle.polynomials.specs.laws.Value.{value_same, value-constant, monomial_value-product}
+use Rattle.polynomials.specs.laws.Value.{value_same, monomial_value-product}
 use Rattle.polynomials.specs.laws.Decreasing.{IsDecreasing_IsPoly}
 use Rattle.polynomials.specs.laws.Canonical.{canonical}
 use Rattle.polynomials.specs.laws.Degrees.{decreasing_all}
@@ -27,7 +26,7 @@ use Rattle.subalgebra_laws.specs.Bases.{AreMonicElements, AreMembers}
 use Rattle.subalgebra_laws.specs.laws.Members.{sub_constant, sub_zero}
 use Rattle.subalgebra_laws.specs.Statements.{SWordsAreMembers, SumsOfSWordsAreMembers, StandardProductsLead}
 use Rattle.subalgebra_laws.proofs.Letters.{letter_degrees, letter_laws, are_letters, places_letters, s_one, s_product, letter, letter_word, letter_image, letter_value, word_monic}
-use Rattle.polynomials.specs.laws.Coefficients.{constant_poly, value_letter}
+use Rattle.polynomials.specs.laws.Coefficients.{constant_poly}
 use Rattle.subalgebra_laws.proofs.MonicProducts.{monic_lead}
 
 -- in a word without x each x has the exponent 0

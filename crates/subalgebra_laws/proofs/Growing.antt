@@ -6,9 +6,7 @@ use Rattle.std.proofs.lemmas.List.Elements.{Contains-get_or}
 use Rattle.std.specs.Ordering.{nat_cmp, ordering_then, on, then_cmp}
 use Rattle.std.specs.declared.cmp.Ordering.{Ordering}
 use Rattle.std.specs.declared.cmp.Ordering.TheVariants.{Less}
-use Rattle.word_field.specs.Field.{FieldOps}
-use Rattle.monomial_order.specs.Monomial.{product, exponent, variable, IsMonomial, IsTrimmed, weighted_degree}
-use Rattle.monomial_order.specs.MonomialOrder.{MonomialOrder}
+use Rattle.monomial_order.specs.Monomial.{product, exponent, variable, IsTrimmed, weighted_degree}
 use Rattle.monomial_order.specs.Orders.{lex}
 use Rattle.monomial_order.specs.laws.Lists.{contains_left}
 use Rattle.monomial_order.specs.laws.Monomial.{product-one, length-product, variable_divides, variable_trimmed, variable_length}
@@ -17,9 +15,9 @@ use Rattle.monomial_order.specs.laws.Comparing.{le_or_not, equal_or_not, some_ex
 use Rattle.word_laws.specs.Words.{image_of, image, variables, lead_degrees, IsWord, IsSWord, IsSmaller}
 use Rattle.word_laws.specs.laws.Words.{degree_same, s_smaller, s_divisor}
 use Rattle.word_laws.specs.laws.Images.{weighted_front, image_front, length-variables}
-use Rattle.polynomials.specs.Polynomial.{Polynomial, coefficient, Same, term_of, times, constant, AllAt, IsPoly, IsBelow, IsDecreasing, IsHomogeneous, lead_monomial}
+use Rattle.polynomials.specs.Polynomial.{Polynomial, coefficient, Same, term_of, times, constant, AllAt, IsPoly, IsHomogeneous, lead_monomial}
 use Rattle.polynomials.specs.Ideal.{Congruent}
-use Rattle.polynomials.specs.Value.{power, monomial_value, value, term_value}
+use Rattle.polynomials.specs.Value.{monomial_value, value, term_value}
 use Rattle.polynomials.specs.Subalgebra.{Presented, IsPresentation, LeadsIdeal, IsGenerated, HasDegreesTo}
 use Rattle.polynomials.specs.laws.Decreasing.{IsDecreasing_IsPoly}
 use Rattle.polynomials.specs.laws.Degrees.{decreasing_all}

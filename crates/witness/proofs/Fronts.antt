@@ -1,11 +1,11 @@
 -- A polynomial in which no letter of an element is left is one in the letters of the generators.
 use Rattle.std.proofs.Common.{◌≡◌, ◌≢◌, ℕ, zero, suc, ◌+◌, ◌-◌, ◌<◌, ◌≤◌, refl, sym, ◌∙◌, ap, subst, List, [], ◌∷◌, ◌++◌, length, get_or, take, arith, ⊎_elim}
 use Rattle.std.specs.Prelude.{map, sum, drop}
-use Rattle.std.proofs.lemmas.List.{length-map, get_or_past}
+use Rattle.std.proofs.lemmas.List.{length-map}
 use Rattle.std.specs.Ordering.{nat_cmp, ordering_then, on, then_cmp}
 use Rattle.std.specs.declared.cmp.Ordering.{Ordering}
 use Rattle.word_field.specs.Field.{FieldOps, IsField}
-use Rattle.monomial_order.specs.Monomial.{Exponents, exponent, variable, weighted_degree, IsMonomial, IsTrimmed}
+use Rattle.monomial_order.specs.Monomial.{Exponents, exponent, IsMonomial, IsTrimmed}
 use Rattle.monomial_order.specs.MonomialOrder.{MonomialOrder}
 use Rattle.monomial_order.specs.Orders.{word_order, lex}
 use Rattle.monomial_order.specs.declared.word_order.WordOrder.{WordOrder}
@@ -14,8 +14,8 @@ use Rattle.monomial_order.specs.laws.Comparing.{le_or_not, numbers_or_not}
 use Rattle.monomial_order.specs.laws.Monomial.{trimmed_tail, exponent_past}
 use Rattle.monomial_order.specs.laws.Orders.{ArePositive, positive_weights}
 use Rattle.word_laws.specs.laws.Images.{weighted_front}
-use Rattle.polynomials.specs.Polynomial.{Polynomial, coefficient, degree_of, times, constant, AllAt, IsPoly, IsSmall, IsDecreasing, IsCanonical}
-use Rattle.polynomials.specs.Value.{monomial_value, term_value, value}
+use Rattle.polynomials.specs.Polynomial.{Polynomial, coefficient, degree_of, times, constant, AllAt, IsSmall, IsDecreasing, IsCanonical}
+use Rattle.polynomials.specs.Value.{term_value, value}
 use Rattle.polynomials.specs.Subalgebra.{Presented}
 use Rattle.polynomials.specs.laws.Degrees.{all_found}
 use Rattle.poly_core.specs.Presentation.{generator_degree}
@@ -104,11 +104,11 @@ module _ {E : Type 0} (P : Presented E) (F : IsField P.field) (S : List (Polynom
         no_letter i l =
             ⊎_elim (λ z. z)
             (λ n.
-                let e : k + (i - k) ≡ i = omega arith in
-                let a = x (i - k) (λ z. n (ap (exponent m) (sym e) ∙ z)) in
-                ⊎_elim (λ past. absurd (n (exponent_past m i past)))
-                (λ inside. let b = positive_at ds (k + (i - k)) (positive_weights 1 30000 ds (omega arith) w.s_in_range) (let d = t.within in let f = letters in omega (arith, inside)) in absurd (omega arith))
-                (le_or_not (length m) i))
+            let e : k + (i - k) ≡ i = omega arith in
+            let a = x (i - k) (λ z. n (ap (exponent m) (sym e) ∙ z)) in
+            ⊎_elim (λ past. absurd (n (exponent_past m i past)))
+            (λ inside. let b = positive_at ds (k + (i - k)) (positive_weights 1 30000 ds (omega arith) w.s_in_range) (let d = t.within in let f = letters in omega (arith, inside)) in absurd (omega arith))
+            (le_or_not (length m) i))
             (numbers_or_not (exponent m i) 0)
 
     pub fronts : AllAt (IsMonomial k) e

@@ -2,7 +2,6 @@
 use Rattle.std.proofs.Common.{◌≡◌, ◌≢◌, ℕ, zero, suc, ◌+◌, ◌-◌, ◌*◌, ◌<◌, ◌≤◌, refl, sym, ◌∙◌, ap, subst, List, [], ◌∷◌, ◌++◌, length, get_or, length-append, arith, ⊎_elim, ◌⊎◌, inl, inr}
 use Rattle.std.specs.Prelude.{All, Contains, map}
 use Rattle.std.proofs.lemmas.List.{length-map, get_or-map, get_or_append_left, get_or-append-add, get_or_past, get_or_default, get_or_push}
-use Rattle.std.proofs.lemmas.List.Elements.{Contains-get_or}
 use Rattle.std.proofs.Math.Nat.{mul-le-mul_left}
 use Rattle.word_field.specs.Field.{FieldOps, IsField}
 use Rattle.word_field.specs.laws.Field.{times-zero}
@@ -10,7 +9,7 @@ use Rattle.monomial_order.specs.Monomial.{Exponents, exponent, variable, product
 use Rattle.monomial_order.specs.MonomialOrder.{MonomialOrder, IsMonomialOrder}
 use Rattle.monomial_order.specs.declared.word_order.WordOrder.{WordOrder}
 use Rattle.monomial_order.specs.laws.Lists.{contains_cases, contains_none}
-use Rattle.monomial_order.specs.laws.Monomial.{variable_off, variable_length, exponent-product, exponent_past}
+use Rattle.monomial_order.specs.laws.Monomial.{variable_off, exponent-product}
 use Rattle.monomial_order.specs.laws.Comparing.{numbers_or_not, le_or_not, degree_one}
 use Rattle.polynomials.specs.Polynomial.{Polynomial, coefficient, Same, term_of, scaled, times, constant, degree_of, AllAt, IsPoly, IsDecreasing, IsCanonical}
 use Rattle.polynomials.specs.Ideal.{Congruent}
@@ -29,7 +28,7 @@ use Rattle.subalgebra_laws.specs.Bases.{AreCongruent}
 use Rattle.subalgebra_laws.specs.Statements.{ValuesCompose, ValuesAreCongruent}
 use Rattle.witness.specs.declared.tracked.Tracked.{Tracked}
 use Rattle.witness.specs.Expansion.{UsesUpTo, IsReplaced, IsReplacement}
-use Rattle.witness.specs.Tracking.{by_order, letter_poly, Tracks, HasDegreesUpTo, IsGraded, IsTrackedElement, IsWitnessOrder}
+use Rattle.witness.specs.Tracking.{by_order, letter_poly, IsGraded, IsTrackedElement, IsWitnessOrder}
 use Rattle.witness.specs.laws.Letters.{canonical_letter, graded_letter, by_laws, by_small, by_places, element_weight, weighted_letter}
 
 -- a property of the monomials of polynomials that products keep holds of the monomials of a value
@@ -219,8 +218,8 @@ module _ {E : Type 0} (P : Presented E) (H : IsPresentation P) (S : List (Polyno
       pub replaced_lower : AllAt (UsesUpTo k ds d) e → AllAt (UsesUpTo k ds (d - 1)) r
       replaced_lower u =
           let q = value_all K (UsesUpTo k ds (d - 1)) (λ i n. absurd (n refl))
-              (λ a b ha hb i n. ⊎_elim (λ z. hb i (λ y. n (let q = exponent-product a b (k + i) in omega arith))) (λ z. ha i z) (numbers_or_not (exponent a (k + i)) 0))
-              e at (uses e u) in
+          (λ a b ha hb i n. ⊎_elim (λ z. hb i (λ y. n (let q = exponent-product a b (k + i) in omega arith))) (λ z. ha i z) (numbers_or_not (exponent a (k + i)) 0))
+          e at (uses e u) in
           decreasing_all K F W (by_laws w) (UsesUpTo k ds (d - 1)) r cr.decreasing (λ m n. all_found K F W (by_laws w) (UsesUpTo k ds (d - 1)) (value K e at) q m (λ z. n (s m ∙ z)))
         where
           letter_uses : (m : Exponents) → UsesUpTo k ds d m → (i : ℕ) → exponent m i ≢ 0 → UsesUpTo k ds d (variable i)

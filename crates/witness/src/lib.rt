@@ -7,7 +7,7 @@ pub mod laws;
 mod letters;
 mod tracked;
 
-pub use expansion::expand;
 pub use arithmetic::{product, reduce, scale, sum};
+pub use expansion::expand;
 pub use letters::{element, generator};
 pub use tracked::Tracked;

@@ -1,5 +1,5 @@
 -- Constants and generators are members of the subalgebra.
-use Rattle.std.proofs.Common.{◌≡◌, sym, ◌∙◌, ap, subst, refl, List, [], ◌∷◌, ⊎_elim, length, arith}
+use Rattle.std.proofs.Common.{sym, ◌∙◌, ap, subst, refl, List, [], ◌∷◌, ⊎_elim, length, arith}
 use Rattle.std.specs.Prelude.{Contains}
 use Rattle.std.proofs.lemmas.List.{get_or_default}
 use Rattle.word_field.specs.Field.{IsValue}

@@ -1,16 +1,14 @@
 -- Elements whose witnesses use elements of smaller degree alone are members of the subalgebra.
-use Rattle.std.proofs.Common.{◌≡◌, ◌≢◌, ℕ, zero, suc, ◌+◌, ◌<◌, refl, sym, ◌∙◌, ap, subst, List, [], ◌∷◌, ◌++◌, length, get_or, length-append, arith, ⊎_elim}
-use Rattle.std.specs.Prelude.{All, map, replicate}
-use Rattle.std.proofs.lemmas.List.{length-map, get_or-map, get_or_append_left, get_or-append-add, get_or_default}
+use Rattle.std.proofs.Common.{◌≡◌, ◌≢◌, ℕ, zero, suc, ◌+◌, ◌<◌, refl, sym, ◌∙◌, ap, subst, List, [], ◌∷◌, ◌++◌, length, get_or, length-append, arith}
+use Rattle.std.specs.Prelude.{All, replicate}
+use Rattle.std.proofs.lemmas.List.{length-map, get_or-map, get_or_append_left, get_or-append-add}
 use Rattle.word_field.specs.Field.{FieldOps, IsField}
 use Rattle.monomial_order.specs.Monomial.{Exponents, exponent}
 use Rattle.monomial_order.specs.MonomialOrder.{MonomialOrder, IsMonomialOrder}
 use Rattle.monomial_order.specs.Orders.{word_order}
 use Rattle.monomial_order.specs.laws.Lists.{contains_at}
-use Rattle.monomial_order.specs.laws.Comparing.{le_or_not}
 use Rattle.monomial_order.specs.laws.Orders.{ArePositive, word_order_laws}
-use Rattle.polynomials.specs.Polynomial.{Polynomial, coefficient, Same, times, constant, degree_of, AllAt, IsPoly}
-use Rattle.polynomials.specs.Ideal.{Congruent}
+use Rattle.polynomials.specs.Polynomial.{Polynomial, coefficient, Same, constant, degree_of, AllAt, IsPoly}
 use Rattle.polynomials.specs.Value.{power, monomial_value, term_value, value}
 use Rattle.polynomials.specs.Subalgebra.{Presented, IsPresentation, InSubalgebra}
 use Rattle.polynomials.specs.laws.Canonical.{canonical}
@@ -19,11 +17,11 @@ use Rattle.polynomials.specs.laws.Coefficients.{constant_poly}
 use Rattle.polynomials.specs.laws.Decreasing.{IsDecreasing_IsPoly}
 use Rattle.polynomials.specs.laws.Degrees.{decreasing_all}
 use Rattle.polynomials.specs.laws.Value.{value_same}
-use Rattle.polynomials.specs.laws.Membership.{ArePolys, IsPoly-power, IsPoly-monomial_value, sub_congruent, sub_plus, sub_times}
+use Rattle.polynomials.specs.laws.Membership.{ArePolys, IsPoly-power, sub_congruent, sub_plus, sub_times}
 use Rattle.subalgebra_laws.specs.laws.Members.{sub_constant, sub_zero, generator_sub, generator_poly}
 use Rattle.witness.specs.declared.tracked.Tracked.{Tracked}
 use Rattle.witness.specs.laws.Letters.{by_place}
-use Rattle.witness.specs.Tracking.{values_of, Tracks, UsesLower, IsLowerElement, IsTrackedElement}
+use Rattle.witness.specs.Tracking.{values_of, Tracks, IsLowerElement, IsTrackedElement}
 
 abbrev ones : ℕ → List ℕ
 ones n = replicate n 1
@@ -111,10 +109,10 @@ module _ {E : Type 0} (P : Presented E) (H : IsPresentation P) where
         ((m : Exponents) → coefficient K t.by m ≢ K.zero → (j : ℕ) → exponent m (length fs + j) ≢ 0 → j < length S → InSubalgebra P (get_or S j [])) → InSubalgebra P t.value
     from_used t p c used =
         let q = plain K F (length fs + length S) t.by (λ m. (i : ℕ) → exponent m i ≢ 0 → i < length (fs ++ S) → InSubalgebra P (get_or (fs ++ S) i [])) p
-            (λ m k i n l. by_place (length fs) (length S) (λ i. exponent m i ≢ 0 → InSubalgebra P (get_or (fs ++ S) i []))
-            (λ i l n. subst (InSubalgebra P) (sym (get_or_append_left fs S [] i l)) (generator_sub P H (get_or fs i []) (contains_at fs i [] l)))
-            (λ j l n. subst (InSubalgebra P) (sym (get_or-append-add fs S j [])) (used m k j n l))
-            i (let a = length-append fs S in omega arith) n) in
+        (λ m k i n l. by_place (length fs) (length S) (λ i. exponent m i ≢ 0 → InSubalgebra P (get_or (fs ++ S) i []))
+        (λ i l n. subst (InSubalgebra P) (sym (get_or_append_left fs S [] i l)) (generator_sub P H (get_or fs i []) (contains_at fs i [] l)))
+        (λ j l n. subst (InSubalgebra P) (sym (get_or-append-add fs S j [])) (used m k j n l))
+        i (let a = length-append fs S in omega arith) n) in
         sub_congruent P H (value K q.0 (fs ++ S)) t.value (value_member (length fs + length S) q.0 (fs ++ S) all_polys q.1 q.3)
         (congruent_trans K F O.places rs t.value (value K t.by (fs ++ S)) (value K q.0 (fs ++ S)) c
         (congruent_same K F O.places rs (value K t.by (fs ++ S)) (value K q.0 (fs ++ S)) (λ m. sym (value_same K F q.0 t.by (fs ++ S) q.2 m))))

@@ -5,7 +5,7 @@ use Rattle.word_field.specs.laws.Field.{times-zero}
 use Rattle.monomial_order.specs.Monomial.{Exponents, exponent, variable}
 use Rattle.polynomials.specs.Polynomial.{Polynomial, coefficient, Same}
 use Rattle.polynomials.specs.laws.Coefficients.{append_nonzero, single_term}
-use Rattle.witness.specs.Tracking.{letter_poly, IsShort, IsShortMonomial}
+use Rattle.witness.specs.Tracking.{letter_poly, IsShort}
 
 module _ {E : Type 0} (K : FieldOps E) (F : IsField K) (k : ℕ) where
   pub short_zero : IsShort K k []

@@ -1,4 +1,4 @@
-use Rattle.std.proofs.Common.{◌≡◌, ◌+◌, ◌-◌, ◌<◌, ◌≤◌, ◌↔◌, ℕ, [], ◌++◌, length, subst, sym, ◌∙◌, ap, arith}
+use Rattle.std.proofs.Common.{◌≡◌, ◌-◌, ◌≤◌, ◌++◌, length, subst, sym, ◌∙◌, arith}
 use Rattle.polynomials.specs.Polynomial.{AllAt, IsDecreasing}
 use Rattle.polynomials.specs.Ideal.{Congruent}
 use Rattle.polynomials.specs.Value.{value}
@@ -39,7 +39,7 @@ pub degrees-smaller : goal.degrees-smaller
 degrees-smaller g c =
     let long : c.len-k.result ≡ length c.args.p.now.generators.items = let a = c.len-k.ensures in let b = c.args.p.now.generators.ok in omega arith in
     let l = (c.greatest_degree-degree-in-degrees.ensures (c.degrees.degree - 1)).1
-        (subst (λ k. AllAt (UsesUpTo k c.args.w.now.s_degrees.items (c.degrees.degree - 1)) c.in_ok-next.next) (sym long) c.in_ok-next.ensures.lower) in
+    (subst (λ k. AllAt (UsesUpTo k c.args.w.now.s_degrees.items (c.degrees.degree - 1)) c.in_ok-next.next) (sym long) c.in_ok-next.ensures.lower) in
     let p = c.degrees-test.true in
     omega arith
 

@@ -1,8 +1,8 @@
-use Rattle.std.proofs.Common.{◌≤◌, ◌<◌, ◌↔◌, ℕ, length, arith, subst, sym}
+use Rattle.std.proofs.Common.{◌≤◌, ◌↔◌, ℕ, length, arith, subst, sym}
 use Rattle.monomial_order.specs.Monomial.{IsMonomial}
 use Rattle.polynomials.specs.Polynomial.{AllAt}
 use Rattle.witness.specs.Expansion.{UsesUpTo}
-use Rattle.witness.proofs.Greatest.{more_terms, all_terms, all_index, term_at}
+use Rattle.witness.proofs.Greatest.{more_terms, all_terms, term_at}
 use Rattle.witness.proofs.expansion.greatest_degree.Goals as goal
 
 pub terms-init : goal.terms-init

@@ -1,6 +1,5 @@
-use Rattle.std.proofs.Common.{◌≤◌, ◌<◌, ◌+◌, ◌↔◌, ◌≡◌, sym, ◌∙◌, subst, ℕ, get_or, length, arith, rules}
+use Rattle.std.proofs.Common.{◌≤◌, ◌+◌, ◌↔◌, ◌≡◌, sym, ◌∙◌, subst, ℕ, get_or, arith}
 use Rattle.std.proofs.lemmas.List.{get_or_default}
-use Rattle.monomial_order.specs.Monomial.{exponent}
 use Rattle.witness.proofs.Greatest.{Before, step_with, step_without, all_places, max_both}
 use Rattle.witness.proofs.expansion.greatest_letter.Goals as goal
 use Rattle.witness.proofs.expansion.greatest_letter.Goals.{then-exponent-gt0, else-exponent-gt0}

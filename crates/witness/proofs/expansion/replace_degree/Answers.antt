@@ -1,4 +1,4 @@
-use Rattle.std.proofs.Common.{◌≡◌, ◌+◌, ◌<◌, ◌≤◌, ℕ, [], length, get_or, subst, sym, ◌∙◌, ap, arith}
+use Rattle.std.proofs.Common.{◌≡◌, ◌≤◌, length, subst, sym, ◌∙◌, ap, arith}
 use Rattle.std.specs.Prelude.{All}
 use Rattle.std.proofs.lemmas.List.{length-map}
 use Rattle.monomial_order.specs.MonomialOrder.{MonomialOrder}
@@ -7,7 +7,6 @@ use Rattle.polynomials.specs.Value.{value, HasSmallValue}
 use Rattle.polynomials.specs.laws.Decreasing.{IsDecreasing_IsPoly}
 use Rattle.polynomials.specs.laws.Degrees.{decreasing_all}
 use Rattle.poly_core.specs.Presentation.{presented}
-use Rattle.witness.specs.Expansion.{IsReplacement}
 use Rattle.witness.specs.Tracking.{by_order, values_of}
 use Rattle.witness.specs.laws.Letters.{by_laws, by_places}
 use Rattle.witness.specs.laws.Members.{element_polys}

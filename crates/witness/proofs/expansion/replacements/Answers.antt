@@ -1,5 +1,5 @@
-use Rattle.std.proofs.Common.{◌≡◌, ◌+◌, ◌<◌, ℕ, [], length, get_or, subst, sym, ◌∙◌, ap, arith, inl, ◌∷◌, ◌++◌}
-use Rattle.std.proofs.lemmas.List.{length-append, get_or_append_left, get_or_push}
+use Rattle.std.proofs.Common.{◌+◌, [], length, get_or, subst, sym, ◌∙◌, ap, arith, inl, ◌∷◌}
+use Rattle.std.proofs.lemmas.List.{length-append}
 use Rattle.poly_core.specs.Presentation.{presented}
 use Rattle.witness.specs.Expansion.{IsReplacement}
 use Rattle.witness.specs.Tracking.{by_order, values_of}
