@@ -2,3 +2,4 @@ pub mod LowPairs
 pub mod ShortMonomials
 pub mod SmallWords
 pub mod Sums
+pub mod PairedNames

@@ -5,6 +5,8 @@
 #[cfg(test)]
 mod chains;
 #[cfg(test)]
+mod expansions;
+#[cfg(test)]
 mod fields;
 #[cfg(test)]
 mod lines;
