@@ -21,7 +21,7 @@ use Rattle.subalgebra_laws.proofs.Plane.{field, plane, plane_laws, term_in, sum_
 use Rattle.subalgebra_laws.proofs.Letters.{letter_laws}
 use Rattle.subalgebra_laws.proofs.Combinations.{IsIrreducible, combination_same, combination_word}
 use Rattle.subalgebra_laws.proofs.Growing.{front_monic}
-use Rattle.subalgebra_laws.proofs.Generated.{generator_sub}
+use Rattle.subalgebra_laws.specs.laws.Members.{generator_sub}
 use Rattle.subalgebra_laws.proofs.SampleTools.{each_of, each_part, reducible_listed, same_checked, first_homogeneous, first_monic, first_checked, not_generated, no_leads}
 
 pub presentation : IsPresentation endless

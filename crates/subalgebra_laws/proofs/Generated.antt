@@ -1,22 +1,21 @@
 -- Products of leads are images of s-words, and the values of s-words are members of the subalgebra.
 use Rattle.std.proofs.Common.{◌≡◌, ◌≢◌, ℕ, zero, suc, ◌+◌, ◌-◌, ◌<◌, ◌≤◌, refl, sym, ◌∙◌, ap, subst, List, [], ◌∷◌, ⊎_elim, length, get_or, take, arith}
-use Rattle.std.specs.Prelude.{map, Contains, sum}
+use Rattle.std.specs.Prelude.{map, sum}
 use Rattle.std.proofs.lemmas.List.{get_or_default}
 use Rattle.std.proofs.lemmas.List.Elements.{Contains-get_or}
 use Rattle.std.proofs.lemmas.List.Sums.{sum_by-cons}
-use Rattle.word_field.specs.Field.{IsValue}
 use Rattle.monomial_order.specs.Monomial.{product, exponent, variable, Divides}
-use Rattle.monomial_order.specs.laws.Lists.{contains_cases, contains_none, contains_map}
-use Rattle.monomial_order.specs.laws.Monomial.{product_comm, product-one, variable_divides, variable_trimmed, variable_length}
+use Rattle.monomial_order.specs.laws.Lists.{contains_map}
+use Rattle.monomial_order.specs.laws.Monomial.{product_comm, product-one, variable_divides, variable_trimmed}
 use Rattle.monomial_order.specs.laws.Cofactors.{cofactor, Divides-product, length-product_right}
 use Rattle.monomial_order.specs.laws.Comparing.{le_or_not, equal_or_not, some_exponent}
 use Rattle.word_laws.specs.Words.{word_order_of, image_of, IsSWord}
 use Rattle.word_laws.specs.laws.Words.{image_times, s_divisor}
-use Rattle.polynomials.specs.Polynomial.{Polynomial, coefficient, term_of, times, constant, AllAt, IsPoly, IsLead, lead_monomial}
+use Rattle.polynomials.specs.Polynomial.{Polynomial, times, constant, AllAt, IsPoly, IsLead, lead_monomial}
 use Rattle.polynomials.specs.Value.{value, term_value}
-use Rattle.polynomials.specs.Subalgebra.{Presented, IsPresentation, AreGenerators, InSubalgebra, IsGenerated, AllIn, product_of}
+use Rattle.polynomials.specs.Subalgebra.{Presented, IsPresentation, InSubalgebra, IsGenerated, AllIn, product_of}
 use Rattle.polynomials.specs.laws.ReducedBasis.{map_contains, generated_times}
-use Rattle.polynomials.specs.laws.Value.{value_same, value-constant, monomial_value-product}
+use Rattle.polynomials.specs.laws.Value.{value_same, monomial_value-product}
 use Rattle.polynomials.specs.laws.Decreasing.{IsDecreasing_IsPoly}
 use Rattle.polynomials.specs.laws.Canonical.{canonical}
 use Rattle.polynomials.specs.laws.Degrees.{decreasing_all}
@@ -24,9 +23,10 @@ use Rattle.polynomials.specs.laws.Congruence.{congruent_same}
 use Rattle.polynomials.specs.laws.Membership.{sub_plus, sub_times, sub_congruent}
 use Rattle.subalgebra_laws.specs.Words.{letters, letter_values, word_value}
 use Rattle.subalgebra_laws.specs.Bases.{AreMonicElements, AreMembers}
+use Rattle.subalgebra_laws.specs.laws.Members.{sub_constant, sub_zero}
 use Rattle.subalgebra_laws.specs.Statements.{SWordsAreMembers, SumsOfSWordsAreMembers, StandardProductsLead}
 use Rattle.subalgebra_laws.proofs.Letters.{letter_degrees, letter_laws, are_letters, places_letters, s_one, s_product, letter, letter_word, letter_image, letter_value, word_monic}
-use Rattle.polynomials.specs.laws.Coefficients.{constant_poly, value_letter}
+use Rattle.polynomials.specs.laws.Coefficients.{constant_poly}
 use Rattle.subalgebra_laws.proofs.MonicProducts.{monic_lead}
 
 -- in a word without x each x has the exponent 0
@@ -37,35 +37,6 @@ none_before (suc n) (e ∷ w) h zero l = let c = sum_by-cons (λ (y : ℕ). y) e
 none_before (suc n) (e ∷ w) h (suc i) l = none_before n w (let c = sum_by-cons (λ (y : ℕ). y) e (take n w) in omega arith) i (omega arith)
 
 module _ {E : Type 0} (P : Presented E) (H : IsPresentation P) where
-  pub sub_constant : (f : E) → IsValue P.field f → InSubalgebra P (constant P.field f)
-  sub_constant f v = record {
-    witness = constant P.field f;
-    poly = constant_poly P.field H.field (length P.generators) f v;
-    inside = congruent_same P.field H.field P.order.places P.ideal (constant P.field f) (value P.field (constant P.field f) P.generators)
-        (λ m. sym (value-constant P.field H.field f P.generators m));
-  }
-
-  pub sub_zero : InSubalgebra P []
-  sub_zero = record { witness = []; poly = tt; inside = congruent_same P.field H.field P.order.places P.ideal [] [] (λ m. refl) }
-
-  -- a generator is a member of the subalgebra
-  pub generator_sub : (f : Polynomial E) → Contains P.generators f → InSubalgebra P f
-  generator_sub f h =
-      let l = h.1 in
-      record {
-        witness = term_of (variable h.0) P.field.one ∷ [];
-        poly = (record { monomial = record { trimmed = variable_trimmed h.0; within = let n = variable_length h.0 in omega arith }; value = H.field.one_value }, tt);
-        inside = congruent_same P.field H.field P.order.places P.ideal f (value P.field (term_of (variable h.0) P.field.one ∷ []) P.generators)
-            (λ m. sym (value_letter P.field H.field P.generators h.0 l m ∙ ap (λ p. coefficient P.field p m) (get_or_default P.generators h.0 [] f l ∙ h.2)));
-      }
-
-  pub generator_poly : (f : Polynomial E) → Contains P.generators f → IsPoly P.field P.order.places f
-  generator_poly f h = among P.generators H.generators f h
-    where
-      among : (gs : List (Polynomial E)) → AreGenerators P.field P.order gs → (f : Polynomial E) → Contains gs f → IsPoly P.field P.order.places f
-      among [] h f k = absurd (contains_none f k)
-      among (g ∷ gs) h f k = ⊎_elim (λ e. subst (IsPoly P.field P.order.places) e h.0.poly) (λ i. among gs h.1 f i) (contains_cases g gs f k)
-
   module _ (S : List (Polynomial E)) (HS : AreMonicElements P S) where
     abbrev im : List ℕ → List ℕ
     im w = image_of (letters P S) w
@@ -129,7 +100,7 @@ module _ {E : Type 0} (P : Presented E) (H : IsPresentation P) where
     module _ (inside : AreMembers P S) where
       -- values of s-words are members
       pub word_sub : SWordsAreMembers P S
-      word_sub = by_letters (λ v. InSubalgebra P (word_value P S v)) (sub_constant P.field.one H.field.one_value)
+      word_sub = by_letters (λ v. InSubalgebra P (word_value P S v)) (sub_constant P H P.field.one H.field.one_value)
           (λ j v l h.
           let one = word_monic P H S HS (letter P S j) in
           sub_congruent P H (times P.field (word_value P S (letter P S j)) (word_value P S v)) (word_value P S (product (letter P S j) v))
@@ -140,10 +111,10 @@ module _ {E : Type 0} (P : Presented E) (H : IsPresentation P) where
           (monomial_value-product P.field H.field (letter P S j) v (letter_values P S))))
 
       terms_sub : (e : Polynomial E) → IsPoly P.field (word_order_of (letters P S)).places e → AllAt (IsSWord (letters P S)) e → InSubalgebra P (value P.field e (letter_values P S))
-      terms_sub [] hp h = sub_zero
+      terms_sub [] hp h = sub_zero P H
       terms_sub (t ∷ e) hp h =
           sub_plus P H (term_value P.field (letter_values P S) t) (value P.field e (letter_values P S))
-          (sub_times P H (constant P.field t.by) (word_value P S t.at) (constant_poly P.field H.field P.order.places t.by hp.0.value) (sub_constant t.by hp.0.value) (word_sub t.at h.0))
+          (sub_times P H (constant P.field t.by) (word_value P S t.at) (constant_poly P.field H.field P.order.places t.by hp.0.value) (sub_constant P H t.by hp.0.value) (word_sub t.at h.0))
           (terms_sub e hp.1 h.1)
 
       -- the value of a sum of s-words is a member: that of its canonical form is

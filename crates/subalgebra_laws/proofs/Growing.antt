@@ -6,9 +6,7 @@ use Rattle.std.proofs.lemmas.List.Elements.{Contains-get_or}
 use Rattle.std.specs.Ordering.{nat_cmp, ordering_then, on, then_cmp}
 use Rattle.std.specs.declared.cmp.Ordering.{Ordering}
 use Rattle.std.specs.declared.cmp.Ordering.TheVariants.{Less}
-use Rattle.word_field.specs.Field.{FieldOps}
-use Rattle.monomial_order.specs.Monomial.{product, exponent, variable, IsMonomial, IsTrimmed, weighted_degree}
-use Rattle.monomial_order.specs.MonomialOrder.{MonomialOrder}
+use Rattle.monomial_order.specs.Monomial.{product, exponent, variable, IsTrimmed, weighted_degree}
 use Rattle.monomial_order.specs.Orders.{lex}
 use Rattle.monomial_order.specs.laws.Lists.{contains_left}
 use Rattle.monomial_order.specs.laws.Monomial.{product-one, length-product, variable_divides, variable_trimmed, variable_length}
@@ -17,18 +15,20 @@ use Rattle.monomial_order.specs.laws.Comparing.{le_or_not, equal_or_not, some_ex
 use Rattle.word_laws.specs.Words.{image_of, image, variables, lead_degrees, IsWord, IsSWord, IsSmaller}
 use Rattle.word_laws.specs.laws.Words.{degree_same, s_smaller, s_divisor}
 use Rattle.word_laws.specs.laws.Images.{weighted_front, image_front, length-variables}
-use Rattle.polynomials.specs.Polynomial.{Polynomial, coefficient, Same, term_of, times, constant, AllAt, IsPoly, IsBelow, IsDecreasing, IsHomogeneous, lead_monomial}
+use Rattle.polynomials.specs.Polynomial.{Polynomial, coefficient, Same, term_of, times, constant, AllAt, IsPoly, IsHomogeneous, lead_monomial}
 use Rattle.polynomials.specs.Ideal.{Congruent}
-use Rattle.polynomials.specs.Value.{power, monomial_value, value, term_value}
+use Rattle.polynomials.specs.Value.{monomial_value, value, term_value}
 use Rattle.polynomials.specs.Subalgebra.{Presented, IsPresentation, LeadsIdeal, IsGenerated, HasDegreesTo}
 use Rattle.polynomials.specs.laws.Decreasing.{IsDecreasing_IsPoly}
 use Rattle.polynomials.specs.laws.Degrees.{decreasing_all}
 use Rattle.subalgebra_laws.specs.Words.{letters, letter_values, word_value, combination_value, IsReducibleWord, IsMinimalWord, IsCombination}
 use Rattle.subalgebra_laws.specs.Bases.{AreMonicElements, HaveLeadsFrom, AreAfter, AreStandardAfter}
+use Rattle.subalgebra_laws.specs.laws.Members.{generator_poly}
+use Rattle.subalgebra_laws.specs.laws.Fronts.{monomial_value_front, decreasing_over}
 use Rattle.subalgebra_laws.specs.Statements.{ValuesStay, SumsStay, SumsWithoutNewLettersStay, CombinationsStay, ElementsAreCombinations, MinimalWordsStay, OrderDoesNotMatter, NextAreCombinations}
 use Rattle.subalgebra_laws.proofs.Letters.{order_over, letter_degrees, places_letters, letter, letter_word, letter_image, letter_value, are_letters, letter_laws, word_degree, word_monic}
 use Rattle.subalgebra_laws.proofs.Combinations.{combination_same, combination_congruent, combination_word, combination_linear, sum_low}
-use Rattle.subalgebra_laws.proofs.Generated.{generated_images, generator_poly}
+use Rattle.subalgebra_laws.proofs.Generated.{generated_images}
 use Rattle.subalgebra_laws.proofs.ReducedBases.{word_low}
 
 -- the last exponent of a trimmed list
@@ -36,23 +36,6 @@ last_exponent : (u : List ℕ) → IsTrimmed u → u ≢ [] → (i : ℕ) × (su
 last_exponent [] h n = absurd (n refl)
 last_exponent (a ∷ []) h n = (0, refl, omega (arith, h))
 last_exponent (a ∷ (b ∷ u)) h n = let r = last_exponent (b ∷ u) h (λ e. cc) in (suc r.0, ap suc r.1, r.2)
-
--- the value of a word over the first members of a list
-monomial_value_front : {E : Type 0} (K : FieldOps E) (w : List ℕ) (fs gs : List (Polynomial E)) → length w ≤ length fs → monomial_value K w (fs ++ gs) ≡ monomial_value K w fs
-monomial_value_front K [] fs gs l = refl
-monomial_value_front K (e ∷ w) [] gs l = absurd (omega arith)
-monomial_value_front K (e ∷ w) (f ∷ fs) gs l = ap (times K (power K f e)) (monomial_value_front K w fs gs (omega arith))
-
--- a list that is decreasing in one order is so in another that compares its words in the same way
-decreasing_over : {E : Type 0} (K : FieldOps E) (O N : MonomialOrder) (Q : List ℕ → Type 0) → ((w : List ℕ) → Q w → IsMonomial N.places w) → ((v w : List ℕ) → Q v → Q w → N.compare v w ≡ O.compare v w) →
-    (p : Polynomial E) → AllAt Q p → IsDecreasing K O p → IsDecreasing K N p
-decreasing_over K O N Q word same [] h f = tt
-decreasing_over {E} K O N Q word same (t ∷ p) h f =
-    (record { term = record { monomial = word t.at h.0; value = f.0.term.value }; nonzero = f.0.nonzero; above = below p h.1 f.0.above }, decreasing_over K O N Q word same p h.1 f.1)
-  where
-    below : (p : Polynomial E) → AllAt Q p → IsBelow K O t.at p → IsBelow K N t.at p
-    below [] k b = tt
-    below (u ∷ p) k b = (same u.at t.at k.0 h.0 ∙ b.0, below p k.1 b.1)
 
 word_terms : {E : Type 0} (P : Presented E) (S : List (Polynomial E)) (p : Polynomial E) → IsPoly P.field (order_over P S).places p → AllAt (IsWord (letters P S)) p
 word_terms P S [] h = tt

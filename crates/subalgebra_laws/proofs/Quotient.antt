@@ -18,7 +18,7 @@ use Rattle.subalgebra_laws.specs.Bases.{IsMonicElement, AreMonicElements, HasCom
 use Rattle.subalgebra_laws.specs.Samples.{sum_xy, sum_times_y, difference_of_squares, quotient, quotient_basis}
 use Rattle.subalgebra_laws.proofs.Plane.{field, plane, plane_laws, term_in, sum_decreasing, sum_times_decreasing}
 use Rattle.subalgebra_laws.proofs.Combinations.{combination_same, combination_congruent, combination_multiple, combination_word}
-use Rattle.subalgebra_laws.proofs.Generated.{generator_sub}
+use Rattle.subalgebra_laws.specs.laws.Members.{generator_sub}
 use Rattle.subalgebra_laws.proofs.Principal.{generator_leads, leads_are_multiples}
 use Rattle.subalgebra_laws.proofs.SampleTools.{EachOf, each_of, each_part, reducible_listed, same_checked, first_homogeneous, first_monic, first_checked, not_generated}
 use Rattle.polynomials.specs.laws.NormalForm.{lead_multiple}

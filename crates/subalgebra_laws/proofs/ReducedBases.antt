@@ -23,7 +23,8 @@ use Rattle.subalgebra_laws.proofs.MonicProducts.{monic_lead}
 use Rattle.subalgebra_laws.proofs.Letters.{word_monic, word_degree, are_letters}
 use Rattle.subalgebra_laws.proofs.Combinations.{combination_congruent, combination_same, combination_zero, combination_plus, combination_multiple, combination_word}
 use Rattle.subalgebra_laws.proofs.Decisions.{closed_decided}
-use Rattle.subalgebra_laws.proofs.Generated.{images_generated, word_sub, generated_leads, sub_zero, sub_constant, generator_sub, generator_poly}
+use Rattle.subalgebra_laws.proofs.Generated.{images_generated, word_sub, generated_leads}
+use Rattle.subalgebra_laws.specs.laws.Members.{sub_zero, sub_constant, generator_sub, generator_poly}
 use Rattle.subalgebra_laws.proofs.Criterion.{leads_generated}
 
 module _ {E : Type 0} (P : Presented E) (H : IsPresentation P) where

@@ -25,7 +25,7 @@ use Rattle.subalgebra_laws.specs.Bases.{IsMonicElement, AreMonicElements, HasCom
 use Rattle.subalgebra_laws.specs.Samples.{square, squares}
 use Rattle.subalgebra_laws.proofs.Letters.{are_letters, letter_laws}
 use Rattle.subalgebra_laws.proofs.Combinations.{combination_same, combination_word}
-use Rattle.subalgebra_laws.proofs.Generated.{generator_sub}
+use Rattle.subalgebra_laws.specs.laws.Members.{generator_sub}
 use Rattle.subalgebra_laws.proofs.SampleTools.{no_leads, each_part, first_homogeneous, first_monic, first_checked}
 
 K : IsField (residues 101)

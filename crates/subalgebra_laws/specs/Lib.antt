@@ -2,3 +2,4 @@ pub mod Words
 pub mod Bases
 pub mod Statements
 pub mod Samples
+pub mod laws

@@ -1,1 +1,4 @@
 pub mod Witnesses
+pub mod Greatest
+pub mod Replacing
+pub mod Fronts

@@ -1,1 +1,3 @@
 pub mod Tracking
+pub mod Expansion
+pub mod laws

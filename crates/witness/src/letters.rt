@@ -1,12 +1,9 @@
 //! The generators and the elements, each with its letter as the witness.
 ghost use Rattle.std.specs.Prelude.{◌≡◌, ℕ, ◌+◌, ◌-◌, ◌≤◌, ◌<◌, ◌^◌, List, [], ◌∷◌, length, get_or, IfOk};
-ghost use Rattle.monomial_order.specs.declared.terms.Term.{Term};
-ghost use Rattle.monomial_order.specs.Monomial.{variable};
-ghost use Rattle.monomial_order.specs.MonomialOrder.{HasSmallDegrees, IsMonomialOrder, MonomialOrder};
-ghost use Rattle.polynomials.specs.Polynomial.{Polynomial, term_of, IsCanonical};
-ghost use Rattle.polynomials.specs.Subalgebra.{IsPresentation};
-ghost use Rattle.poly_core.specs.Presentation.{presented};
-ghost use Rattle.witness.specs.Tracking.{letter_poly, Tracks};
+ghost use Rattle.monomial_order.specs.declared.word_order.WordOrder.{WordOrder};
+ghost use Rattle.polynomials.specs.Polynomial.{Polynomial, degree_of, IsCanonical};
+ghost use Rattle.poly_core.specs.Presentation.{generator_degree, presented, IsValid};
+ghost use Rattle.witness.specs.Tracking.{by_order, letter_poly, HasPlaces, IsCanonicalPair, IsGraded, IsGradedPair, IsWitnessOrder, Tracks};
 
 use crate::Tracked;
 use monomial_order::{Memory, Monomial, Order};
@@ -15,7 +12,7 @@ use std::alloc::Global;
 use word_field::Field;
 
 /// The letter at a place, as a polynomial.
-fn letter<F: Field>(alloc: Global, f: &F, place: usize) -> Result<Poly<F>, Memory>
+pub(crate) fn letter<F: Field>(alloc: Global, f: &F, place: usize) -> Result<Poly<F>, Memory>
     requires { place + 1 < 2 ^ 64 }
     ensures letter { IfOk result (λ r. r ≡ letter_poly (F.ops f.now) place) }
 {
@@ -34,6 +31,12 @@ pub fn generator<F: Field, O: Order>(
     ensures by { IfOk result (λ t. t.by ≡ letter_poly (F.ops p.now.field) (i - 1)) }
     ensures tracks { let P = presented F.ops O.order p.now in
         IfOk result (λ t. (S : List (Polynomial F.Elem)) → Tracks P S t) }
+    ensures canonical { IfOk result (λ t. (w : WordOrder) → IsValid F.ops O.order p.now → HasPlaces i w →
+        IsCanonicalPair (F.ops p.now.field) (O.order p.now.order) (by_order w) t) }
+    ensures graded { let P = presented F.ops O.order p.now in
+        IfOk result (λ t. (S : List (Polynomial F.Elem)) (w : WordOrder) →
+        IsValid F.ops O.order p.now → IsWitnessOrder P S w →
+        IsGradedPair P.field P.order (by_order w) (generator_degree P.order (get_or P.generators (i - 1) [])) t) }
 {
     Ok(Tracked {
         value: p.generators[i - 1].copy(alloc)?,
@@ -54,6 +57,15 @@ pub fn element<F: Field, O: Order>(
     ensures by { IfOk result (λ t. t.by ≡ letter_poly (F.ops p.now.field) (length p.now.generators.items + (i - 1))) }
     ensures tracks { let P = presented F.ops O.order p.now in IfOk result (λ t. (S : List (Polynomial F.Elem)) →
         i ≤ length S → get_or S (i - 1) [] ≡ value.now → Tracks P S t) }
+    ensures canonical { IfOk result (λ t. (w : WordOrder) →
+        IsCanonical (F.ops p.now.field) (O.order p.now.order) value.now →
+        HasPlaces (length p.now.generators.items + i) w →
+        IsCanonicalPair (F.ops p.now.field) (O.order p.now.order) (by_order w) t) }
+    ensures graded { let P = presented F.ops O.order p.now in
+        IfOk result (λ t. (S : List (Polynomial F.Elem)) (w : WordOrder) →
+        IsWitnessOrder P S w → i ≤ length S → get_or S (i - 1) [] ≡ value.now →
+        IsGraded P.field P.order (degree_of P.order value.now) value.now →
+        IsGradedPair P.field P.order (by_order w) (degree_of P.order value.now) t) }
 {
     Ok(Tracked {
         value: value.copy(alloc)?,

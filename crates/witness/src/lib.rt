@@ -2,9 +2,12 @@
 #![tactic(auto)]
 
 mod arithmetic;
+mod expansion;
+pub mod laws;
 mod letters;
 mod tracked;
 
 pub use arithmetic::{product, reduce, scale, sum};
+pub use expansion::expand;
 pub use letters::{element, generator};
 pub use tracked::Tracked;

@@ -1,3 +1,4 @@
 pub mod LowPairs
 pub mod ShortMonomials
 pub mod SmallWords
+pub mod PairedNames

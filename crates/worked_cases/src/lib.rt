@@ -5,6 +5,8 @@
 #[cfg(test)]
 mod chains;
 #[cfg(test)]
+mod expansions;
+#[cfg(test)]
 mod operations;
 #[cfg(test)]
 mod orders;
