@@ -45,10 +45,11 @@ module _ {F E : Type 0} (P : Presented E) where
     pub basis : IsIdealBasis P c b.members.items
 
   -- b has the reduced basis to the degree before that of s, and s has monic members of the ideal of its degree. Their
-  -- leads are increasing, and no multiples of leads of b
+  -- leads are increasing, and no multiples of leads of b. The order has at most 32 places
   pub record IsStepAfter (b : Basis F E) (s : DegreeStep F E) : Type 0 where
     pub before : (c : ℕ) × (s.degree ≡ c + 1) × IsBasisTo c b
     pub small : s.degree ≤ degree_max
+    pub places : P.order.places ≤ 32
     pub leads : HasLeads s.found
     pub members : AreMonicMembers P s.found.members.items
     pub degrees : (g : Polynomial E) → Contains s.found.members.items g → P.order.degree (lead_monomial g) ≡ s.degree

@@ -1,5 +1,5 @@
 -- Reduction by a list of monic polynomials: facts of private functions.
-use Rattle.std.specs.Prelude.{◌≡◌, ◌≢◌, ◌⊎◌, ◌++◌, List, Contains}
+use Rattle.std.specs.Prelude.{◌≡◌, ◌≢◌, ◌++◌, List, Contains}
 use Rattle.word_field.specs.Field.{FieldOps}
 use Rattle.monomial_order.specs.declared.terms.Term.{Term}
 use Rattle.monomial_order.specs.Monomial.{product, Exponents}
@@ -38,15 +38,6 @@ module _ {E : Type 0} (P : Presented E) where
     pub is_term : IsTerm P.field P.order.places term
     pub at : product term.at (lead_monomial g) ≡ lead_monomial p
     pub sum : Same P.field r (p ++ scaled P.field term g)
-
-  -- the first term of p is moved to done: rest and more are what they are then
-  pub record IsLeadSplit (p done rest more : Polynomial E) : Type 0 where
-    pub rest_canonical : IsCanonicalIn rest
-    pub more_canonical : IsCanonicalIn more
-    pub below : IsBelow P.field P.order (lead_monomial p) rest
-    pub sum : Same P.field (rest ++ more) (p ++ done)
-    pub monomials : (m : Exponents) → coefficient P.field more m ≢ P.field.zero →
-        (m ≡ lead_monomial p) ⊎ (coefficient P.field done m ≢ P.field.zero)
 
   -- the canonical remainder of a by G
   pub record IsRemainderIn (G : List (Polynomial E)) (a r : Polynomial E) : Type 0 where

@@ -52,6 +52,7 @@ impl<F: Field> DegreeStep<F> {
     ) -> Result<DegreeStep<F>, Memory>
         requires presentation { IsPresentation (presented F.ops O.order p.now) }
         requires ideal { AreCanonicalGenerators (F.ops p.now.field) (O.order p.now.order) p.now.ideal.items }
+        requires places { (O.order p.now.order).places ≤ 32 }
         requires small { degree ≤ degree_max }
         requires before { (c : ℕ) × (degree ≡ c + 1) × IsBasisTo (presented F.ops O.order p.now) c before.now ×
             HasPairsAbove (O.order p.now.order) before.now.leads.items c pairs.now }

@@ -53,6 +53,7 @@ fn reduces_to_zero<F: Field, O: Order>(
     pair: &CriticalPair,
 ) -> Result<bool, Memory>
     requires presentation { IsPresentation (presented F.ops O.order p.now) }
+    requires places { (O.order p.now.order).places ≤ 32 }
     requires basis { (c : ℕ) × (c ≤ closing_max) × IsBasisTo (presented F.ops O.order p.now) c basis.now }
     requires pair { IsCriticalPair (O.order p.now.order) basis.now.leads.items pair.now }
     ensures yes { IfOk result (λ r. r ≡ true →
@@ -78,6 +79,7 @@ pub(crate) fn all_reduce_to_zero<F: Field, O: Order>(
     pairs: &[CriticalPair],
 ) -> Result<bool, Memory>
     requires presentation { IsPresentation (presented F.ops O.order p.now) }
+    requires places { (O.order p.now.order).places ≤ 32 }
     requires basis { (c : ℕ) × (c ≤ closing_max) × IsBasisTo (presented F.ops O.order p.now) c basis.now }
     requires pairs { (w : CriticalPair) → Contains pairs.now w →
         IsCriticalPair (O.order p.now.order) basis.now.leads.items w }

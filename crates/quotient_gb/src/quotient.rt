@@ -67,6 +67,7 @@ impl<F: Field, O: Order> Quotient<F, O> {
     /// the quotient is known to be closed, only the degree changes.
     pub fn extend_to(&mut self, alloc: Global, p: &Presentation<F, O>, c: u32) -> Result<(), Memory>
         requires presentation { IsPresentation (presented F.ops O.order p.now) }
+        requires places { (O.order p.now.order).places ≤ 32 }
         requires ideal { AreCanonicalGenerators (F.ops p.now.field) (O.order p.now.order) p.now.ideal.items }
         requires quotient { IsQuotientOf (presented F.ops O.order p.now) self.old }
         requires small { c ≤ degree_max }
@@ -108,6 +109,7 @@ impl<F: Field, O: Order> Quotient<F, O> {
     /// Adds the members of each degree up to c at the end.
     fn add_degrees(&mut self, alloc: Global, p: &Presentation<F, O>, c: u32) -> Result<(), Memory>
         requires presentation { IsPresentation (presented F.ops O.order p.now) }
+        requires places { (O.order p.now.order).places ≤ 32 }
         requires ideal { AreCanonicalGenerators (F.ops p.now.field) (O.order p.now.order) p.now.ideal.items }
         requires quotient { IsQuotientOf (presented F.ops O.order p.now) self.old }
         requires small { c ≤ degree_max }
@@ -124,6 +126,7 @@ impl<F: Field, O: Order> Quotient<F, O> {
     /// Adds the members of the next degree at the end.
     fn add_degree(&mut self, alloc: Global, p: &Presentation<F, O>) -> Result<(), Memory>
         requires presentation { IsPresentation (presented F.ops O.order p.now) }
+        requires places { (O.order p.now.order).places ≤ 32 }
         requires ideal { AreCanonicalGenerators (F.ops p.now.field) (O.order p.now.order) p.now.ideal.items }
         requires quotient { IsQuotientOf (presented F.ops O.order p.now) self.old }
         requires small { self.old.degree < degree_max }
@@ -164,6 +167,7 @@ impl<F: Field, O: Order> Quotient<F, O> {
         a: &Poly<F>,
     ) -> Result<Poly<F>, Memory>
         requires presentation { IsPresentation (presented F.ops O.order p.now) }
+        requires places { (O.order p.now.order).places ≤ 32 }
         requires quotient { IsQuotientOf (presented F.ops O.order p.now) self.now }
         requires canonical { IsCanonicalIn (presented F.ops O.order p.now) a.now }
         requires degree { (degree_of (O.order p.now.order) a.now ≤ self.now.degree) ⊎ (self.now.closed ≡ true) }
@@ -199,6 +203,7 @@ impl<F: Field, O: Order> Quotient<F, O> {
     /// first that does not reduce to zero.
     pub fn closed(&mut self, alloc: Global, p: &Presentation<F, O>) -> Result<bool, Memory>
         requires presentation { IsPresentation (presented F.ops O.order p.now) }
+        requires places { (O.order p.now.order).places ≤ 32 }
         requires ideal { AreCanonicalGenerators (F.ops p.now.field) (O.order p.now.order) p.now.ideal.items }
         requires quotient { IsQuotientOf (presented F.ops O.order p.now) self.old }
         requires small { self.old.degree ≤ closing_max }

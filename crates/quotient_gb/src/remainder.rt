@@ -1,72 +1,64 @@
 //! Reduction of a polynomial by monic members of the ideal.
-ghost use Rattle.std.specs.Prelude.{◌≢◌, ◌++◌, [], Contains, IfOk, IfSome, IsNone};
+ghost use Rattle.std.specs.Prelude.{◌≡◌, ◌≤◌, ◌++◌, ◌∷◌, Contains, IfOk, OnOk, IfSome, IsNone};
 ghost use Rattle.monomial_order.specs.Monomial.{Divides};
 ghost use Rattle.polynomials.specs.Polynomial.{lead_monomial};
 ghost use Rattle.poly_core.specs.Presentation.{presented};
 ghost use Rattle.polynomials.specs.Subalgebra.{IsPresentation};
 ghost use Rattle.quotient_gb.specs.Combinations.{HasLeadDivisor};
 ghost use Rattle.quotient_gb.specs.DegreeStep.{HasLeads};
-ghost use Rattle.quotient_gb.specs.Remainder.{IsCanonicalIn, IsReducerIn, AreReducersIn, IsLeadReduction, IsLeadSplit, IsRemainderIn};
+ghost use Rattle.quotient_gb.specs.Remainder.{IsCanonicalIn, IsReducerIn, AreReducersIn, IsLeadReduction, IsRemainderIn};
 
 use crate::basis::Basis;
-use monomial_order::{Memory, Monomial, Order};
+use linked_terms::TermChain;
+use monomial_order::{Memory, Monomial, Order, Term};
 use poly_core::{Poly, Presentation};
 use std::alloc::Global;
 use word_field::Field;
 
-/// What is left of a once a multiple of g has cancelled its lead.
-fn reduce_lead<F: Field, O: Order>(
+/// The chain of the terms of a.
+fn chain_of<F: Field, O: Order>(
     alloc: Global,
     p: &Presentation<F, O>,
     a: &Poly<F>,
-    g: &Poly<F>,
-) -> Result<Poly<F>, Memory>
+) -> Result<TermChain<F>, Memory>
     requires presentation { IsPresentation (presented F.ops O.order p.now) }
+    requires places { (O.order p.now.order).places ≤ 32 }
     requires a { IsCanonicalIn (presented F.ops O.order p.now) a.now }
-    requires some { a.now ≢ [] }
-    requires g { IsReducerIn (presented F.ops O.order p.now) g.now }
-    requires divides { Divides (lead_monomial g.now) (lead_monomial a.now) }
-    ensures { IfOk result (IsLeadReduction (presented F.ops O.order p.now) a.now g.now) }
+    ensures { IfOk result (λ work. work.terms ≡ a.now) }
 {
-    let Some(first) = a.lead() else {
-        unreachable!()
-    };
-    let Some(top) = g.lead() else { unreachable!() };
-    let Some(u) = first.at.quotient(alloc, &top.at)? else {
-        unreachable!()
-    };
-    let c = p.field.neg(first.by);
-    let part = Poly::times_term(alloc, &p.field, &p.order, g, c, &u)?;
-    let sum = Poly::add(alloc, &p.field, &p.order, a, &part)?;
-    Ok(sum)
+    let mut work = TermChain::new(alloc);
+    let one = Monomial::one(alloc);
+    work.reserve(a.terms().len())?;
+    work.add_scaled(&p.field, &p.order, a.terms(), p.field.one(), &one)?;
+    Ok(work)
 }
 
-/// Moves the first term of a to what is done.
-fn split_off_lead<F: Field, O: Order>(
+/// Adds the multiple of g that cancels a term above the chain, without its lead.
+fn cancel<F: Field, O: Order>(
+    work: &mut TermChain<F>,
     alloc: Global,
     p: &Presentation<F, O>,
-    a: &Poly<F>,
-    done: &Poly<F>,
-) -> Result<(Poly<F>, Poly<F>), Memory>
+    term: Term<F::Elem>,
+    g: &Poly<F>,
+) -> Result<(), Memory>
     requires presentation { IsPresentation (presented F.ops O.order p.now) }
-    requires a { IsCanonicalIn (presented F.ops O.order p.now) a.now }
-    requires some { a.now ≢ [] }
-    requires done { IsCanonicalIn (presented F.ops O.order p.now) done.now }
-    ensures { IfOk result (λ (rest, more). IsLeadSplit (presented F.ops O.order p.now) a.now done.now rest more) }
+    requires places { (O.order p.now.order).places ≤ 32 }
+    requires work { IsCanonicalIn (presented F.ops O.order p.now) (term ∷ work.old.terms) }
+    requires g { IsReducerIn (presented F.ops O.order p.now) g.now }
+    requires divides { Divides (lead_monomial g.now) term.at }
+    ensures { OnOk result
+        (IsLeadReduction (presented F.ops O.order p.now) (term ∷ work.old.terms) g.now work.new.terms) }
 {
-    let Some(first) = a.lead() else {
+    let Some((top, tail)) = g.terms().split_first() else {
         unreachable!()
     };
-    let minus = Poly::term(
-        alloc,
-        &p.field,
-        first.at.copy(alloc)?,
-        p.field.neg(first.by),
-    )?;
-    let plus = Poly::term(alloc, &p.field, first.at.copy(alloc)?, first.by)?;
-    let rest = Poly::add(alloc, &p.field, &p.order, a, &minus)?;
-    let more = Poly::add(alloc, &p.field, &p.order, done, &plus)?;
-    Ok((rest, more))
+    let Some(cofactor) = term.at.quotient(alloc, &top.at)? else {
+        unreachable!()
+    };
+    work.reserve(tail.len())?;
+    let c = p.field.neg(term.by);
+    work.add_scaled(&p.field, &p.order, tail, c, &cofactor)?;
+    Ok(())
 }
 
 /// A member of one of the two lists whose lead divides m.
@@ -96,6 +88,7 @@ pub(crate) fn remainder<F: Field, O: Order>(
     a: &Poly<F>,
 ) -> Result<Poly<F>, Memory>
     requires presentation { IsPresentation (presented F.ops O.order p.now) }
+    requires places { (O.order p.now.order).places ≤ 32 }
     requires a { IsCanonicalIn (presented F.ops O.order p.now) a.now }
     requires before { HasLeads before.now }
     requires found { HasLeads found.now }
@@ -104,22 +97,17 @@ pub(crate) fn remainder<F: Field, O: Order>(
     ensures { IfOk result (IsRemainderIn (presented F.ops O.order p.now)
         (before.now.members.items ++ found.now.members.items) a.now) }
 {
-    let mut work = a.copy(alloc)?;
-    let mut done = Poly::zero(alloc);
-    'reduce: while let Some(first) = work.lead() {
-        match find_reducer(before, found, &first.at) {
-            Some(g) => {
-                let next = reduce_lead(alloc, p, &work, g)?;
-                work = next;
-            }
-            None => {
-                let (rest, more) = split_off_lead(alloc, p, &work, &done)?;
-                work = rest;
-                done = more;
-            }
-        }
+    let mut work = chain_of(alloc, p, a)?;
+    let mut done = Vec::new(alloc);
+    done.reserve(work.len())?;
+    'reduce: while let Some(term) = work.pop_lead() {
+        let Some(g) = find_reducer(before, found, &term.at) else {
+            done.push(term)?;
+            continue;
+        };
+        cancel(&mut work, alloc, p, term, g)?;
     }
-    Ok(done)
+    Ok(Poly::from_falling(done))
 }
 
 /// What is left of a when no multiple of a lead of the basis remains.
@@ -130,6 +118,7 @@ pub(crate) fn remainder_by<F: Field, O: Order>(
     a: &Poly<F>,
 ) -> Result<Poly<F>, Memory>
     requires presentation { IsPresentation (presented F.ops O.order p.now) }
+    requires places { (O.order p.now.order).places ≤ 32 }
     requires a { IsCanonicalIn (presented F.ops O.order p.now) a.now }
     requires basis { HasLeads basis.now }
     requires reducers { AreReducersIn (presented F.ops O.order p.now) basis.now.members.items }

@@ -151,6 +151,8 @@ fn normal_forms(rt: HostRuntime) -> Result<(), Fail> {
         // of degrees above that of the quotient
         "101 | x y | 1 1 | lex | x^2 - y^2 | 2 | x^5 + x^3 | x*y^9 | x^2*y^8 | x*y^4 + x*y^2, true, false",
         "101 | x y | 1 1 | lex | x^2, y^3 | 3 | x^2*y^2 + x*y^3 | x*y^2 | x*y^9 | 0, true, false",
+        // x^3 becomes x*y*z and then z^3, which cancels; x^2*y becomes y^2*z, and y^3*z becomes z^4
+        "101 | x y z | 1 1 1 | lex | x^2 - y*z, x*y - z^2 | 4 | y^3*z + x^3 + x^2*y - z^3 | y^2*z | x*z^2 | z^4 + y^2*z, true, false",
     ] {
         judge(row, answer(rt.alloc(), row)?.as_str())?;
     }
@@ -189,6 +191,9 @@ fn closed_quotients(rt: HostRuntime) -> Result<(), Fail> {
         "101 | x y z | 1 1 1 | lex | x^2 - y*z, x*y - z^2 | 2 | open | 4 | x*y, x^2, x*z^2, y^3*z",
         "101 | x y z | 1 1 1 | lex | x^2 - y*z, x*y - z^2 | 3 | open | 4 | x*y, x^2, x*z^2, y^3*z",
         "101 | x y z | 1 1 1 | lex | x^2 - y*z, x*y - z^2 | 4 | closed | 30000 | x*y, x^2, x*z^2, y^3*z",
+        // x^2*z^3 - y^2*z^3 comes in at degree 5, one below twice the degree 3, and x*z^6 - y^4*z^3 at degree 7
+        "101 | x y z | 1 1 1 | lex | x^3 - z^3, x*y^2 - z^3 | 3 | open | 5 | x*y^2, x^3, x^2*z^3",
+        "101 | x y z | 1 1 1 | lex | x^3 - z^3, x*y^2 - z^3 | 5 | open | 7 | x*y^2, x^3, x^2*z^3, x*z^6",
         // the twisted cubic
         "101 | x y z w | 1 1 1 1 | revlex | x*z - y^2, y*w - z^2, x*w - y*z | 2 | closed | 30000 | z^2, y*z, y^2",
         // no ideal

@@ -1,56 +1,50 @@
-use Rattle.std.proofs.Common.{◌++◌, [], refl, sym, ap, subst}
-use Rattle.polynomials.specs.Polynomial.{lead_monomial}
+use Rattle.std.proofs.Common.{◌++◌, ◌∷◌, refl, sym, subst}
 use Rattle.poly_core.specs.Presentation.{presented}
-use Rattle.quotient_gb.specs.Combinations.{HasLeadDivisor}
-use Rattle.quotient_gb.proofs.Places.{some_first}
-use Rattle.quotient_gb.proofs.Reducing.{height_less}
-use Rattle.quotient_gb.proofs.Remainders.{IsReducingIn, start, after_reduction, after_split, finished}
+use Rattle.quotient_gb.specs.Remainder.{IsRemainderIn}
+use Rattle.quotient_gb.proofs.Reducing.{height_less, height_rest}
+use Rattle.quotient_gb.proofs.Remainders.{start, popped, work_is_canonical, after_reduction, after_move, finished}
 use Rattle.quotient_gb.proofs.remainder.remainder.Goals as goal
 
 pub reduce-init : goal.reduce-init
 reduce-init g c =
     let P = presented g.F.Field.ops g.O.Order.order c.args.p.now in
     let G = c.args.before.now.members.items ++ c.args.found.now.members.items in
-    let a = c.args.a.now in
-    subst (IsReducingIn P G a c.in_ok-work.work) (sym c.zero-done.ensures)
-    (subst (λ w. IsReducingIn P G a w []) (sym c.in_ok-work.ensures) (start P c.requires.presentation G c.requires.reducers a c.requires.a))
+    rw (c.in_ok-reserve.ensures.items, c.new-done.ensures.items, c.in_ok-work.ensures) (start P c.requires.presentation G c.requires.reducers c.args.a.now c.requires.a)
 
-pub reduce-smaller-in-Some-find_reducer : goal.reduce-smaller-in-Some-find_reducer
-reduce-smaller-in-Some-find_reducer g c =
-    let H = c.requires.presentation in
-    let work = c.reduce.work in
-    let r = c.in_ok-next-in-Some-find_reducer in
-    height_less (g.F.Field.ops c.args.p.now.field) (g.met.F.Field.laws c.args.p.now.field) (g.O.Order.order c.args.p.now.order) (g.met.O.Order.laws c.args.p.now.order) work r.next
-    (some_first work c.in-Some.first.now c.in-Some.ensures.first.0 c.in-Some.ensures.first.1) r.ensures.canonical r.ensures.below
-
-pub reduce-preserved-in-Some-find_reducer : goal.reduce-preserved-in-Some-find_reducer
-reduce-preserved-in-Some-find_reducer g c =
+pub cancel-requires-clause-work : goal.cancel-requires-clause-work
+cancel-requires-clause-work g c =
     let P = presented g.F.Field.ops g.O.Order.order c.args.p.now in
     let G = c.args.before.now.members.items ++ c.args.found.now.members.items in
-    let work = c.reduce.work in
-    let r = c.in_ok-next-in-Some-find_reducer in
-    after_reduction P c.requires.presentation G c.requires.reducers c.args.a.now work c.reduce.done c.reduce.invariant c.in-Some-find_reducer.g.now r.next
-    (some_first work c.in-Some.first.now c.in-Some.ensures.first.0 c.in-Some.ensures.first.1) c.in-Some-find_reducer.ensures.member r.ensures
+    work_is_canonical P c.requires.presentation G c.requires.reducers c.args.a.now c.reduce.done.items (c.in-Some.term ∷ c.pop_lead.new.self.terms)
+    (rw (popped c.reduce.work c.pop_lead.new.self c.in-Some.term c.in-Some.ensures) at c.reduce.invariant)
+
+pub reduce-smaller-in_default-find_reducer : goal.reduce-smaller-in_default-find_reducer
+reduce-smaller-in_default-find_reducer g c =
+    let P = presented g.F.Field.ops g.O.Order.order c.args.p.now in
+    let G = c.args.before.now.members.items ++ c.args.found.now.members.items in
+    rw (popped c.reduce.work c.pop_lead.new.self c.in-Some.term c.in-Some.ensures) (height_rest (g.F.Field.ops c.args.p.now.field) (g.met.F.Field.laws c.args.p.now.field) (g.O.Order.order c.args.p.now.order) (g.met.O.Order.laws c.args.p.now.order) c.in-Some.term c.pop_lead.new.self.terms
+    (work_is_canonical P c.requires.presentation G c.requires.reducers c.args.a.now c.reduce.done.items (c.in-Some.term ∷ c.pop_lead.new.self.terms) (rw (popped c.reduce.work c.pop_lead.new.self c.in-Some.term c.in-Some.ensures) at c.reduce.invariant)))
+
+pub reduce-preserved-in_default-find_reducer : goal.reduce-preserved-in_default-find_reducer
+reduce-preserved-in_default-find_reducer g c =
+    let P = presented g.F.Field.ops g.O.Order.order c.args.p.now in
+    let G = c.args.before.now.members.items ++ c.args.found.now.members.items in
+    rw c.in_ok-push.ensures.items (after_move P c.requires.presentation G c.requires.reducers c.args.a.now c.reduce.done.items c.in-Some.term c.pop_lead.new.self.terms
+    (rw (popped c.reduce.work c.pop_lead.new.self c.in-Some.term c.in-Some.ensures) at c.reduce.invariant) (c.in_default-find_reducer.ensures.none refl))
 
 pub reduce-smaller : goal.reduce-smaller
 reduce-smaller g c =
-    let work = c.reduce.work in
-    let r = c.in_ok-rest-in-None in
-    height_less (g.F.Field.ops c.args.p.now.field) (g.met.F.Field.laws c.args.p.now.field) (g.O.Order.order c.args.p.now.order) (g.met.O.Order.laws c.args.p.now.order) work r.rest
-    (some_first work c.in-Some.first.now c.in-Some.ensures.first.0 c.in-Some.ensures.first.1) r.ensures.rest_canonical r.ensures.below
+    rw (popped c.reduce.work c.pop_lead.new.self c.in-Some.term c.in-Some.ensures) (height_less (g.F.Field.ops c.args.p.now.field) (g.met.F.Field.laws c.args.p.now.field) (g.O.Order.order c.args.p.now.order) (g.met.O.Order.laws c.args.p.now.order) c.in-Some.term c.pop_lead.new.self.terms c.cancel.new.work.terms c.in_ok-cancel.ensures.canonical c.in_ok-cancel.ensures.below)
 
 pub reduce-preserved : goal.reduce-preserved
 reduce-preserved g c =
     let P = presented g.F.Field.ops g.O.Order.order c.args.p.now in
     let G = c.args.before.now.members.items ++ c.args.found.now.members.items in
-    let work = c.reduce.work in
-    let r = c.in_ok-rest-in-None in
-    after_split P c.requires.presentation G c.requires.reducers c.args.a.now work c.reduce.done c.reduce.invariant r.rest r.more
-    (some_first work c.in-Some.first.now c.in-Some.ensures.first.0 c.in-Some.ensures.first.1)
-    (subst (λ m. HasLeadDivisor G m → ⊥) (sym (ap lead_monomial c.in-Some.ensures.first.1)) (c.in-None.ensures.none refl)) r.ensures
+    after_reduction P c.requires.presentation G c.requires.reducers c.args.a.now c.reduce.done.items c.in-Some.term c.pop_lead.new.self.terms c.in-Some-find_reducer.g.now c.cancel.new.work.terms
+    (rw (popped c.reduce.work c.pop_lead.new.self c.in-Some.term c.in-Some.ensures) at c.reduce.invariant) c.in-Some-find_reducer.ensures.member c.in_ok-cancel.ensures
 
 pub returns : goal.returns
 returns g c =
     let P = presented g.F.Field.ops g.O.Order.order c.args.p.now in
     let G = c.args.before.now.members.items ++ c.args.found.now.members.items in
-    finished P c.requires.presentation G c.requires.reducers c.args.a.now c.reduce.work c.reduce.done c.reduce.invariant (c.in_default.ensures.zero.0 refl)
+    subst (IsRemainderIn P G c.args.a.now) (sym c.from_falling.ensures) (finished P c.requires.presentation G c.requires.reducers c.args.a.now c.reduce.done.items (rw c.in_default.ensures.0 at c.reduce.invariant))

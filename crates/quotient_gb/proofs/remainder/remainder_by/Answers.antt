@@ -11,6 +11,7 @@ remainder-requires g c =
     let G = c.args.basis.now.members.items in
     record {
       presentation = c.requires.presentation;
+      places = c.requires.places;
       a = c.requires.a;
       before = c.requires.basis;
       found = c.new-none.ensures.leads ∙ ap (map lead_monomial) (sym c.new-none.ensures.members);

@@ -11,6 +11,7 @@ use Rattle.quotient_gb.proofs.degree_step.DegreeStep.reduce_and_insert.Goals as 
 pub remainder-requires : goal.remainder-requires
 remainder-requires g c = record {
   presentation = c.requires.presentation;
+  places = c.requires.step.places;
   a = c.requires.canonical;
   before = c.requires.step.before.2.leads;
   found = c.requires.step.leads;

@@ -34,6 +34,7 @@ add-requires-clause-a g c =
 pub remainder-requires : goal.remainder-requires
 remainder-requires g c = record {
   presentation = c.requires.presentation;
+  places = c.requires.step.places;
   a = c.in_ok-tail.ensures.canonical;
   before = c.requires.step.before.2.leads;
   found = c.requires.step.leads;

@@ -19,6 +19,7 @@ degrees-init g c = record {
 pub add_degree-requires : goal.add_degree-requires
 add_degree-requires g c = record {
   presentation = c.requires.presentation;
+  places = c.requires.places;
   ideal = c.requires.ideal;
   quotient = c.degrees.invariant.quotient;
   small = below c.degrees.self.degree c.degrees._d c.args.c c.degrees.invariant.degree c.degrees-test.true c.requires.small;

@@ -11,6 +11,7 @@ all_reduce_to_zero-requires g c =
     let q = subst (IsQuotientOf P) (sym c.self.view_is) c.requires.quotient in
     record {
       presentation = c.requires.presentation;
+      places = c.requires.places;
       basis = (c.self.inside.degree, subst (λ (q : QuotientState g.row.F-Elem.Denot). q.degree ≤ 15000) (sym c.self.view_is) c.requires.small, record { leads = q.leads; basis = q.basis });
       pairs = λ w k. q.pairs.each w (subst (λ ws. Contains ws w) c.as_slice.ensures.value k);
     }

@@ -11,7 +11,7 @@ remainder_by-requires g c =
     let P = presented g.F.Field.ops g.O.Order.order c.args.p.now in
     let H = c.requires.presentation in
     let q = subst (IsQuotientOf P) (sym c.self.view_is) c.requires.quotient in
-    record { presentation = H; a = c.requires.canonical; basis = q.leads; reducers = quotient_reducers P H _ q }
+    record { presentation = H; places = c.requires.places; a = c.requires.canonical; basis = q.leads; reducers = quotient_reducers P H _ q }
 
 pub returns-clause-normal : goal.returns-clause-normal
 returns-clause-normal g c =
