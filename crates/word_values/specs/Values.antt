@@ -1,0 +1,59 @@
+-- The values of words over a list of elements, as a table keeps them.
+use Rattle.std.specs.Prelude.{◌≡◌, ◌≢◌, ℕ, ◌≤◌, ◌⊎◌, List, Option, Some, IsSome, map, Contains}
+use Rattle.monomial_order.specs.Monomial.{Exponents, variable}
+use Rattle.word_laws.specs.Words.{word_order_of, IsSWord}
+use Rattle.polynomials.specs.Polynomial.{Polynomial, coefficient, IsCanonical, IsHomogeneous, lead_monomial}
+use Rattle.polynomials.specs.Subalgebra.{Presented, IsStandard, IsNormalForm}
+use Rattle.subalgebra_laws.specs.Words.{letters, word_value}
+use Rattle.witness.specs.declared.tracked.Tracked.{Tracked}
+
+-- the values of tracked elements
+abbrev pub values_of : {F E : Type 0} → List (Tracked F E) → List (Polynomial E)
+values_of ts = map (λ t. t.value) ts
+
+-- what a table keeps for each word
+abbrev pub Table : Type 0 → Type 0
+Table E = Exponents → Option (Polynomial E)
+
+-- one letter alone
+abbrev pub IsLetter : Exponents → Type 0
+IsLetter w = (i : ℕ) × (w ≡ variable i)
+
+-- a letter, or a word that the table has
+abbrev pub IsReady : {E : Type 0} → Table E → Exponents → Type 0
+IsReady kept w = IsLetter w ⊎ IsSome (kept w)
+
+module _ {E : Type 0} (P : Presented E) where
+  -- a homogeneous polynomial of positive degree with standard monomials
+  pub record IsHomogeneousElement (s : Polynomial E) : Type 0 where
+    pub canonical : IsCanonical P.field P.order s
+    pub homogeneous : IsHomogeneous P.field P.order (P.order.degree (lead_monomial s)) s
+    pub positive : 1 ≤ P.order.degree (lead_monomial s)
+    pub standard : (m : Exponents) → coefficient P.field s m ≢ P.field.zero → IsStandard P m
+
+  abbrev pub AreHomogeneousElements : List (Polynomial E) → Type 0
+  AreHomogeneousElements S = (s : Polynomial E) → Contains S s → IsHomogeneousElement s
+
+  module _ (S : List (Polynomial E)) where
+    abbrev pub word_degree : Exponents → ℕ
+    word_degree w = (word_order_of (letters P S)).degree w
+
+    -- v is the normal form of the value of w, zero or of the degree of w
+    pub record IsWordValue (w : Exponents) (v : Polynomial E) : Type 0 where
+      pub canonical : IsCanonical P.field P.order v
+      pub normal : IsNormalForm P (word_value P S w) v
+      pub graded : (m : Exponents) → coefficient P.field v m ≢ P.field.zero → P.order.degree m ≡ word_degree w
+
+    -- an s-word, and not one letter alone, with its value
+    pub record IsKept (w : Exponents) (v : Polynomial E) : Type 0 where
+      pub word : IsSWord (letters P S) w
+      pub long : ¬ IsLetter w
+      pub value : IsWordValue w v
+
+    -- what the table keeps are values at S
+    abbrev pub AreValues : Table E → Type 0
+    AreValues kept = (w : Exponents) (v : Polynomial E) → kept w ≡ Some v → IsKept w v
+
+    -- of words of degree at most d
+    abbrev pub AreWordsTo : ℕ → Table E → Type 0
+    AreWordsTo d kept = (w : Exponents) (v : Polynomial E) → kept w ≡ Some v → word_degree w ≤ d
