@@ -1,19 +1,26 @@
 -- The values of words over a list of elements, as a table keeps them.
-use Rattle.std.specs.Prelude.{◌≡◌, ◌≢◌, ℕ, ◌≤◌, ◌⊎◌, List, Option, Some, IsSome, map, Contains}
-use Rattle.monomial_order.specs.Monomial.{Exponents, variable}
+use Rattle.std.specs.Prelude.{◌≡◌, ◌≢◌, ℕ, ◌≤◌, ◌<◌, ◌+◌, ◌⊎◌, List, Option, Some, IsSome, map, length, Contains, nat_eq, if◌then◌else◌}
+use Rattle.std.specs.Map.{lookup}
+use lib.Pointwise.{pointwise}
+use Rattle.monomial_order.specs.Monomial.{Exponents, product, variable}
 use Rattle.word_laws.specs.Words.{word_order_of, IsSWord}
 use Rattle.polynomials.specs.Polynomial.{Polynomial, coefficient, IsCanonical, IsHomogeneous, lead_monomial}
 use Rattle.polynomials.specs.Subalgebra.{Presented, IsStandard, IsNormalForm}
 use Rattle.subalgebra_laws.specs.Words.{letters, word_value}
 use Rattle.witness.specs.declared.tracked.Tracked.{Tracked}
+use Rattle.word_values.specs.declared.products.Split.{Split}
 
 -- the values of tracked elements
 abbrev pub values_of : {F E : Type 0} → List (Tracked F E) → List (Polynomial E)
 values_of ts = map (λ t. t.value) ts
 
--- what a table keeps for each word
+-- words, each with what a table keeps for it
 abbrev pub Table : Type 0 → Type 0
-Table E = Exponents → Option (Polynomial E)
+Table E = List (Exponents × Polynomial E)
+
+-- what the table keeps for the word
+abbrev pub value_in : {E : Type 0} → Table E → Exponents → Option (Polynomial E)
+value_in kept w = lookup (pointwise nat_eq w) kept
 
 -- one letter alone
 abbrev pub IsLetter : Exponents → Type 0
@@ -21,7 +28,15 @@ IsLetter w = (i : ℕ) × (w ≡ variable i)
 
 -- a letter, or a word that the table has
 abbrev pub IsReady : {E : Type 0} → Table E → Exponents → Type 0
-IsReady kept w = IsLetter w ⊎ IsSome (kept w)
+IsReady kept w = IsLetter w ⊎ IsSome (value_in kept w)
+
+-- the table n is the table m with v for the word w
+abbrev pub Puts : {E : Type 0} → Table E → Table E → Exponents → Polynomial E → Type 0
+Puts m n w v = (u : Exponents) → value_in n u ≡ (if pointwise nat_eq w u then Some v else value_in m u)
+
+-- the word times the letter
+abbrev pub whole : Split → Exponents
+whole s = product (variable s.letter) s.rest
 
 module _ {E : Type 0} (P : Presented E) where
   -- a homogeneous polynomial of positive degree with standard monomials
@@ -52,8 +67,15 @@ module _ {E : Type 0} (P : Presented E) where
 
     -- what the table keeps are values at S
     abbrev pub AreValues : Table E → Type 0
-    AreValues kept = (w : Exponents) (v : Polynomial E) → kept w ≡ Some v → IsKept w v
+    AreValues kept = (w : Exponents) (v : Polynomial E) → value_in kept w ≡ Some v → IsKept w v
 
     -- of words of degree at most d
     abbrev pub AreWordsTo : ℕ → Table E → Type 0
-    AreWordsTo d kept = (w : Exponents) (v : Polynomial E) → kept w ≡ Some v → word_degree w ≤ d
+    AreWordsTo d kept = (w : Exponents) (v : Polynomial E) → value_in kept w ≡ Some v → word_degree w ≤ d
+
+    -- a letter of w, and w without it
+    pub record IsSplit (w : Exponents) (s : Split) : Type 0 where
+      pub word : IsSWord (letters P S) s.rest
+      pub first : P.order.places ≤ s.letter
+      pub last : s.letter < P.order.places + length S
+      pub whole_is : whole s ≡ w

@@ -2,6 +2,8 @@
 #![tactic(auto)]
 
 pub mod laws;
+mod products;
 mod values;
+mod words;
 
 pub use values::Values;

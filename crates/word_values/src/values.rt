@@ -1,13 +1,16 @@
 //! The values of words, kept from use to use.
-ghost use Rattle.std.specs.Prelude.{◌≡◌, ℕ, ◌≤◌, ◌⊎◌, true, None, IfOk, IsNone, IsSome, IfSome};
+ghost use Rattle.std.specs.Prelude.{◌≡◌, ℕ, ◌≤◌, ◌⊎◌, ◌+◌, ◌<◌, ◌≢◌, [], length, true, IfOk, IsNone, IsSome, IfSome};
 ghost use Rattle.monomial_order.specs.Limits.{exponent_max};
 ghost use Rattle.monomial_order.specs.Monomial.{Exponents};
 ghost use Rattle.word_laws.specs.Words.{IsSWord};
+ghost use Rattle.polynomials.specs.Polynomial.{IsCanonical};
 ghost use Rattle.poly_core.specs.Presentation.{presented, IsValid};
 ghost use Rattle.quotient_gb.specs.Quotient.{IsQuotientOf};
 ghost use Rattle.subalgebra_laws.specs.Words.{letters};
-ghost use Rattle.word_values.specs.Values.{values_of, IsReady, AreHomogeneousElements, IsWordValue, AreValues, AreWordsTo, word_degree};
+ghost use Rattle.word_values.specs.Values.{values_of, IsReady, AreHomogeneousElements, IsWordValue, AreValues, AreWordsTo, word_degree, IsLetter, IsSplit, Puts, whole};
 
+use crate::products::{Split, element, times_letter, value_of_one};
+use crate::words::{single_letter, without};
 use monomial_order::{Memory, Monomial, Order};
 use poly_core::{Poly, Presentation};
 use quotient_gb::Quotient;
@@ -25,21 +28,19 @@ pub struct Values<F: Field> {
 }
 
 impl<F: Field> Model for Values<F> {
-    ghost use Rattle.std.specs.Prelude.{nat_eq};
-    ghost use lib.Pointwise.{pointwise};
-    ghost use Rattle.std.specs.HashMap.{get_by};
+    ghost use Rattle.std.specs.Prelude.{map};
     ghost use Rattle.word_values.specs.Values.{Table};
 
     ghost Value = { Table F.Elem };
 
-    ghost view = { λ t. λ w. get_by (λ k. pointwise nat_eq w k.items) t.kept };
+    ghost view = { λ t. map (λ e. (e.0.items, e.1)) t.kept.entries };
 }
 
 impl<F: Field> Values<F> {
     /// No values. A value is kept if its degree and the least degree of an element are together at most the limit. It
     /// takes no memory.
     pub fn new(alloc: Global, limit: u32) -> Values<F>
-        ensures { (w : Exponents) → result w ≡ None }
+        ensures { result ≡ [] }
     {
         Values {
             kept: HashMap::new(alloc),
@@ -62,7 +63,10 @@ impl<F: Field> Values<F> {
             IfSome result (λ v. IsWordValue P (values_of elements.now) w.now v.now) }
         ensures ready { IsReady self.now w.now → IsSome result }
     {
-        self.kept.get(w.as_slice())
+        match single_letter(w) {
+            Some(letter) => Some(element(p, elements, letter)),
+            None => self.kept.get(w.as_slice()),
+        }
     }
 
     /// Makes the value of a word ready for `get`. If it is one that is not kept, the answer is the value.
@@ -90,10 +94,161 @@ impl<F: Field> Values<F> {
         ensures made { let P = presented F.ops O.order p.now in
             IfOk result (λ r. IfSome r (IsWordValue P (values_of elements.now) w.now)) }
     {
-        let _q = q;
-        let _p = p;
-        let _elements = elements;
-        let _w = w;
-        Ok(Some(Poly::zero(alloc)))
+        if self.get(p, elements, w).is_some() {
+            return Ok(None);
+        }
+        if w.places() == 0 {
+            let one = value_of_one(alloc, p, q, elements)?;
+            return Ok(Some(one));
+        }
+        let split = self.split(alloc, p, elements, w)?;
+        let made = self.prepare(alloc, p, q, elements, &split.rest)?;
+        let value = self.next_value(alloc, p, q, elements, &split, &made)?;
+        self.offer(alloc, p, elements, w, value)
+    }
+
+    /// A letter of a word, and the word without it. If that is ready for any letter, the product is one that costs
+    /// least.
+    fn split<O: Order>(
+        &self,
+        alloc: Global,
+        p: &Presentation<F, O>,
+        elements: &[Tracked<F>],
+        w: &Monomial,
+    ) -> Result<Split, Memory>
+        requires presentation { IsValid F.ops O.order p.now }
+        requires elements { AreHomogeneousElements (presented F.ops O.order p.now) (values_of elements.now) }
+        requires word { IsSWord (letters (presented F.ops O.order p.now) (values_of elements.now)) w.now }
+        requires values { AreValues (presented F.ops O.order p.now) (values_of elements.now) self.now }
+        requires some { w.now ≢ [] }
+        ensures { IfOk result (IsSplit (presented F.ops O.order p.now) (values_of elements.now) w.now) }
+    {
+        let last = w.places() - 1;
+        let rest = without(alloc, w, last)?;
+        let mut least = self.cost(p, elements, last, &rest);
+        let mut split = Split { letter: last, rest };
+        'letters: for letter in p.order.places()..last {
+            if w.exponent(letter) > 0 {
+                let rest = without(alloc, w, letter)?;
+                let cost = self.cost(p, elements, letter, &rest);
+                if cost < least {
+                    least = cost;
+                    split = Split { letter, rest };
+                }
+            }
+        }
+        Ok(split)
+    }
+
+    /// Terms times terms, if the rest is ready.
+    fn cost<O: Order>(
+        &self,
+        p: &Presentation<F, O>,
+        elements: &[Tracked<F>],
+        letter: usize,
+        rest: &Monomial,
+    ) -> usize
+        requires presentation { IsValid F.ops O.order p.now }
+        requires elements { AreHomogeneousElements (presented F.ops O.order p.now) (values_of elements.now) }
+        requires word { IsSWord (letters (presented F.ops O.order p.now) (values_of elements.now)) rest.now }
+        requires values { AreValues (presented F.ops O.order p.now) (values_of elements.now) self.now }
+        requires first { (O.order p.now.order).places ≤ letter }
+        requires last { letter < (O.order p.now.order).places + length elements.now }
+    {
+        match self.get(p, elements, rest) {
+            Some(value) => {
+                let terms = element(p, elements, letter).terms().len();
+                value.terms().len().saturating_mul(terms)
+            }
+            None => usize::MAX,
+        }
+    }
+
+    /// The value of a word, from that of the word without a letter.
+    fn next_value<O: Order>(
+        &self,
+        alloc: Global,
+        p: &Presentation<F, O>,
+        q: &Quotient<F, O>,
+        elements: &[Tracked<F>],
+        split: &Split,
+        made: &Option<Poly<F>>,
+    ) -> Result<Poly<F>, Memory>
+        requires presentation { IsValid F.ops O.order p.now }
+        requires quotient { IsQuotientOf (presented F.ops O.order p.now) q.now }
+        requires elements { AreHomogeneousElements (presented F.ops O.order p.now) (values_of elements.now) }
+        requires word { IsSWord (letters (presented F.ops O.order p.now) (values_of elements.now)) split.now.rest }
+        requires first { (O.order p.now.order).places ≤ split.now.letter }
+        requires last { split.now.letter < (O.order p.now.order).places + length elements.now }
+        requires degree { let P = presented F.ops O.order p.now in
+            (word_degree P (values_of elements.now) (whole split.now) ≤ q.now.degree) ⊎ (q.now.closed ≡ true) }
+        requires small {
+            word_degree (presented F.ops O.order p.now) (values_of elements.now) (whole split.now) ≤ exponent_max }
+        requires values { AreValues (presented F.ops O.order p.now) (values_of elements.now) self.now }
+        requires ready { IsNone made.now → IsReady self.now split.now.rest }
+        requires made { let P = presented F.ops O.order p.now in
+            IfSome made.now (IsWordValue P (values_of elements.now) split.now.rest) }
+        ensures { let P = presented F.ops O.order p.now in
+            IfOk result (IsWordValue P (values_of elements.now) (whole split.now)) }
+    {
+        match made {
+            Some(value) => times_letter(alloc, p, q, elements, split, value),
+            None => {
+                let Some(value) = self.get(p, elements, &split.rest) else {
+                    unreachable!()
+                };
+                times_letter(alloc, p, q, elements, split, value)
+            }
+        }
+    }
+
+    /// Keeps the value of a word, or gives it back.
+    fn offer<O: Order>(
+        &mut self,
+        alloc: Global,
+        p: &Presentation<F, O>,
+        elements: &[Tracked<F>],
+        w: &Monomial,
+        value: Poly<F>,
+    ) -> Result<Option<Poly<F>>, Memory>
+        requires presentation { IsValid F.ops O.order p.now }
+        requires elements { AreHomogeneousElements (presented F.ops O.order p.now) (values_of elements.now) }
+        requires word { IsSWord (letters (presented F.ops O.order p.now) (values_of elements.now)) w.now }
+        requires long { ¬ IsLetter w.now }
+        requires value { IsWordValue (presented F.ops O.order p.now) (values_of elements.now) w.now value }
+        ensures table { (self.new ≡ self.old) ⊎ Puts self.old self.new w.now value }
+        ensures ready { IfOk result (λ r. IsNone r → IsReady self.new w.now) }
+        ensures made { IfOk result (λ r. IfSome r (λ v. v ≡ value)) }
+    {
+        if !self.is_in_reach(p, elements, &value) {
+            return Ok(Some(value));
+        }
+        let key = w.as_slice().to_vec(alloc)?;
+        self.kept.insert(key, value)?;
+        Ok(None)
+    }
+
+    /// Whether the degree of a value and the least degree of an element are together at most the limit.
+    fn is_in_reach<O: Order>(
+        &self,
+        p: &Presentation<F, O>,
+        elements: &[Tracked<F>],
+        value: &Poly<F>,
+    ) -> bool
+        requires presentation { IsValid F.ops O.order p.now }
+        requires elements { AreHomogeneousElements (presented F.ops O.order p.now) (values_of elements.now) }
+        requires value { IsCanonical (F.ops p.now.field) (O.order p.now.order) value.now }
+    {
+        let Some(degree) = Poly::degree(&p.order, value) else {
+            return true;
+        };
+        'elements: for t in elements {
+            if let Some(least) = Poly::degree(&p.order, &t.value) {
+                if degree.saturating_add(least) <= self.limit {
+                    return true;
+                }
+            }
+        }
+        false
     }
 }

@@ -1,0 +1,79 @@
+//! Products of values and elements.
+ghost use Rattle.std.specs.Prelude.{◌≡◌, ◌≤◌, ◌<◌, ◌+◌, ℕ, ◌⊎◌, [], length, get_or, true, IfOk};
+ghost use Rattle.monomial_order.specs.Limits.{exponent_max};
+ghost use Rattle.word_laws.specs.Words.{IsSWord};
+ghost use Rattle.poly_core.specs.Presentation.{presented, IsValid};
+ghost use Rattle.quotient_gb.specs.Quotient.{IsQuotientOf};
+ghost use Rattle.subalgebra_laws.specs.Words.{letters};
+ghost use Rattle.word_values.specs.Values.{values_of, AreHomogeneousElements, IsWordValue, word_degree, whole};
+
+use monomial_order::{Memory, Monomial, Order};
+use poly_core::{Poly, Presentation};
+use quotient_gb::Quotient;
+use std::alloc::Global;
+use witness::Tracked;
+use word_field::Field;
+
+/// A letter, by its place, and a word.
+#[derive(Drop)]
+pub(crate) struct Split {
+    pub letter: usize,
+    pub rest: Monomial,
+}
+
+/// The element of a letter.
+pub(crate) fn element<'a, F: Field, O: Order>(
+    p: &Presentation<F, O>,
+    elements: &'a [Tracked<F>],
+    letter: usize,
+) -> &'a Poly<F>
+    requires first { (O.order p.now.order).places ≤ letter }
+    requires last { letter < (O.order p.now.order).places + length elements.now }
+    ensures { (i : ℕ) → letter ≡ (O.order p.now.order).places + i →
+        result.now ≡ get_or (values_of elements.now) i [] }
+{
+    &elements[letter - p.order.places()].value
+}
+
+/// The value of the word 1.
+pub(crate) fn value_of_one<F: Field, O: Order>(
+    alloc: Global,
+    p: &Presentation<F, O>,
+    q: &Quotient<F, O>,
+    _elements: &[Tracked<F>],
+) -> Result<Poly<F>, Memory>
+    requires presentation { IsValid F.ops O.order p.now }
+    requires quotient { IsQuotientOf (presented F.ops O.order p.now) q.now }
+    ensures { IfOk result (IsWordValue (presented F.ops O.order p.now) (values_of _elements.now) []) }
+{
+    let one = Poly::term(alloc, &p.field, Monomial::one(alloc), p.field.one())?;
+    q.normal_form(alloc, p, &one)
+}
+
+/// The value of a word, from that of the word without a letter.
+pub(crate) fn times_letter<F: Field, O: Order>(
+    alloc: Global,
+    p: &Presentation<F, O>,
+    q: &Quotient<F, O>,
+    elements: &[Tracked<F>],
+    split: &Split,
+    value: &Poly<F>,
+) -> Result<Poly<F>, Memory>
+    requires presentation { IsValid F.ops O.order p.now }
+    requires quotient { IsQuotientOf (presented F.ops O.order p.now) q.now }
+    requires elements { AreHomogeneousElements (presented F.ops O.order p.now) (values_of elements.now) }
+    requires word { IsSWord (letters (presented F.ops O.order p.now) (values_of elements.now)) split.now.rest }
+    requires first { (O.order p.now.order).places ≤ split.now.letter }
+    requires last { split.now.letter < (O.order p.now.order).places + length elements.now }
+    requires degree { let P = presented F.ops O.order p.now in
+        (word_degree P (values_of elements.now) (whole split.now) ≤ q.now.degree) ⊎ (q.now.closed ≡ true) }
+    requires small {
+        word_degree (presented F.ops O.order p.now) (values_of elements.now) (whole split.now) ≤ exponent_max }
+    requires value { IsWordValue (presented F.ops O.order p.now) (values_of elements.now) split.now.rest value.now }
+    ensures { let P = presented F.ops O.order p.now in
+        IfOk result (IsWordValue P (values_of elements.now) (whole split.now)) }
+{
+    let factor = element(p, elements, split.letter);
+    let product = Poly::mul(alloc, &p.field, &p.order, factor, value)?;
+    q.normal_form(alloc, p, &product)
+}
