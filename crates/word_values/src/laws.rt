@@ -12,7 +12,9 @@ pub fn growing<F: Field>()
         AreValues P S kept → AreValues P (S ++ T) kept }
     ensures degrees { (P : Presented F.Elem) (S T : List (Polynomial F.Elem)) (kept : Table F.Elem) (d : ℕ) →
         AreValues P S kept → AreWordsTo P S d kept → AreWordsTo P (S ++ T) d kept }
-{}
+{
+    subalgebra_laws::laws::growing::<F>();
+}
 
 /// No word of degree at most d that is kept has a letter of degree d. So elements of degree d at the end may be
 /// exchanged for others.
@@ -25,4 +27,6 @@ pub fn exchanging<F: Field>()
         IsPresentation P → AreHomogeneousElements P (S ++ U) →
         ((u : Polynomial F.Elem) → Contains U u → P.order.degree (lead_monomial u) ≡ d) →
         AreValues P (S ++ U) kept → AreWordsTo P (S ++ U) d kept → AreWordsTo P (S ++ T) d kept }
-{}
+{
+    subalgebra_laws::laws::growing::<F>();
+}

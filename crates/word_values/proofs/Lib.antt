@@ -1,0 +1,4 @@
+pub mod Letters
+pub mod Multiplying
+pub mod Tables
+pub mod Growing
