@@ -1,23 +1,56 @@
 -- The value of a word from that of the word without a letter.
-use Rattle.std.proofs.Common.{◌≡◌, ◌≢◌, ℕ, ◌+◌, ◌-◌, ◌<◌, ◌≤◌, ◌⊎◌, inl, inr, refl, sym, ◌∙◌, ap, subst, List, [], ◌∷◌, length, get_or, true, ⊎_elim, arith}
+use Rattle.std.proofs.Common.{◌≡◌, ◌≢◌, ℕ, ◌+◌, ◌-◌, ◌<◌, ◌≤◌, ◌⊎◌, inl, inr, refl, sym, ◌∙◌, ap, subst, List, [], ◌∷◌, ◌++◌, length, get_or, true, ⊎_elim, arith}
 use Rattle.std.proofs.lemmas.List.Elements.{Contains-get_or}
 use Rattle.monomial_order.specs.Monomial.{Exponents, product, variable}
 use Rattle.polynomials.specs.Polynomial.{Polynomial, coefficient, Same, times, constant, term_of, IsPoly, IsCanonical, IsDecreasing, IsSmall, IsHomogeneous, AllAt, degree_of, lead_monomial}
 use Rattle.polynomials.specs.Ideal.{Congruent}
 use Rattle.polynomials.specs.Value.{monomial_value}
 use Rattle.polynomials.specs.Subalgebra.{Presented, IsPresentation, IsNormalForm}
-use Rattle.polynomials.specs.laws.Coefficients.{no_coefficient, decreasing_leads}
-use Rattle.polynomials.specs.laws.Congruence.{congruent_same, congruent_trans, congruent_times_left}
+use Rattle.polynomials.specs.laws.Coefficients.{nothing_at, decreasing_leads, single_term}
+use Rattle.polynomials.specs.laws.Congruence.{congruent_same, congruent_refl, congruent_trans, congruent_times_left}
 use Rattle.polynomials.specs.laws.Decreasing.{IsDecreasing_IsPoly}
 use Rattle.polynomials.specs.laws.Degrees.{decreasing_all, graded_times}
-use Rattle.polynomials.specs.laws.NormalForm.{normal_form_degrees}
+use Rattle.polynomials.specs.laws.NormalForm.{normal_form_homogeneous, normal_form_unique}
 use Rattle.polynomials.specs.laws.Same.{times_same_left}
 use Rattle.polynomials.specs.laws.Terms.{small_times}
 use Rattle.polynomials.specs.laws.Value.{monomial_value-product}
-use Rattle.monomial_order.specs.laws.Comparing.{numbers_or_not}
+use Rattle.monomial_order.specs.laws.Comparing.{degree_one}
 use Rattle.subalgebra_laws.specs.Words.{letters, letter_values, word_value}
 use Rattle.word_values.specs.Values.{IsHomogeneousElement, AreHomogeneousElements, IsWordValue, word_degree}
-use Rattle.word_values.proofs.Letters.{product_degree, letter_value, letter_degree}
+use Rattle.monomial_order.specs.laws.Monomial.{weighted_nil}
+use Rattle.word_laws.specs.Words.{lead_degrees}
+use Rattle.word_values.proofs.Letters.{xs, product_degree, letter_value, letter_degree}
+
+-- 1 as a polynomial of the program
+pub one_canonical : {E : Type 0} (P : Presented E) → IsPresentation P → IsCanonical P.field P.order (constant P.field P.field.one)
+one_canonical P H = record {
+  decreasing = (record { term = record { monomial = record { trimmed = tt; within = omega arith }; value = H.field.one_value }; nonzero = H.field.one_not_zero; above = tt }, tt);
+  small = (let z = degree_one P.order H.order in omega arith, tt);
+}
+
+module _ {E : Type 0} (P : Presented E) (H : IsPresentation P) where
+  open P use {field as K, order as O}
+  open H use {field as F, order as L}
+
+  -- the normal form of a homogeneous polynomial, or of zero
+  pub normal_graded : (d : ℕ) (r b : Polynomial E) → IsDecreasing K O r → ((m : Exponents) → coefficient K r m ≢ K.zero → O.degree m ≡ d) → IsNormalForm P r b →
+      (m : Exponents) → coefficient K b m ≢ K.zero → O.degree m ≡ d
+  normal_graded d [] b dr g n m k =
+      absurd (k (normal_form_unique P H [] b [] n
+      (record { poly = tt; inside = congruent_refl K F O.places P.ideal []; standard = λ i z. absurd (z (sym (nothing_at K i))) }) m ∙ sym (nothing_at K m)))
+  normal_graded d (t ∷ p) b dr g n m k =
+      ⊎_elim (λ z. absurd (k (z m ∙ sym (nothing_at K m)))) (λ h. h.each m k)
+      (normal_form_homogeneous P H (t ∷ p) b n d (record { some = (t.at, (decreasing_leads K F O L (t ∷ p) dr (λ i. cc)).nonzero); each = g }))
+
+  -- the value of the word 1 is the normal form of 1
+  pub one_is_value : (S : List (Polynomial E)) (r : Polynomial E) → r ≡ term_of [] K.one ∷ [] → (b : Polynomial E) → IsCanonical K O b → IsNormalForm P r b → IsWordValue P S [] b
+  one_is_value S r e b c n = record {
+    canonical = c;
+    normal = subst (λ a. IsNormalForm P a b) e n;
+    graded = λ m k.
+        normal_graded 0 (constant K K.one) b (one_canonical P H).decreasing (λ i z. ap O.degree (sym (single_term K F [] K.one i z)) ∙ degree_one O L) (subst (λ a. IsNormalForm P a b) e n) m k ∙
+        sym (weighted_nil (xs P S ++ lead_degrees (letters P S)));
+  }
 
 module _ {E : Type 0} (P : Presented E) (H : IsPresentation P) (S : List (Polynomial E)) (hs : AreHomogeneousElements P S) where
   open P use {field as K, order as O}
@@ -60,19 +93,19 @@ module _ {E : Type 0} (P : Presented E) (H : IsPresentation P) (S : List (Polyno
       product_degree_to = by_list r same product_graded
         where
           by_list : (r : Polynomial E) → Same K r (times K s a) → ((m : Exponents) → coefficient K r m ≢ K.zero → O.degree m ≡ word_degree P S w) → IsDecreasing K O r → (c : ℕ) → word_degree P S w ≤ c → degree_of O r ≤ c
-          by_list [] e g d c le = let z = Rattle.monomial_order.specs.laws.Comparing.degree_one O L in omega arith
+          by_list [] e g d c le = let z = degree_one O L in omega arith
           by_list (t ∷ p) e g d c le = let x = g t.at (decreasing_leads K F O L (t ∷ p) d (λ i. cc)).nonzero in omega arith
 
       -- and its normal form is the value
-      pub product_value : (b : Polynomial E) → IsCanonical K O b → IsNormalForm P r b → IsWordValue P S w b
-      product_value b c n = record {
+      pub product_value : IsDecreasing K O r → (b : Polynomial E) → IsCanonical K O b → IsNormalForm P r b → IsWordValue P S w b
+      product_value dr b c n = record {
         canonical = c;
         normal = record {
           poly = n.poly;
           inside = congruent_trans K F O.places P.ideal (word_value P S w) r b congruent n.inside;
           standard = n.standard;
         };
-        graded = normal_form_degrees P H r b n (λ d. d ≡ word_degree P S w) (λ d. numbers_or_not d (word_degree P S w)) product_graded;
+        graded = normal_graded P H (word_degree P S w) r b dr product_graded n;
       }
         where
           congruent : Congruent K O.places P.ideal (word_value P S w) r

@@ -47,7 +47,8 @@ pub(crate) fn value_of_one<F: Field, O: Order>(
     ensures { IfOk result (IsWordValue (presented F.ops O.order p.now) (values_of _elements.now) []) }
 {
     let one = Poly::term(alloc, &p.field, Monomial::one(alloc), p.field.one())?;
-    q.normal_form(alloc, p, &one)
+    let value = q.normal_form(alloc, p, &one)?;
+    Ok(value)
 }
 
 /// The value of a word, from that of the word without a letter.
@@ -75,5 +76,6 @@ pub(crate) fn times_letter<F: Field, O: Order>(
 {
     let factor = element(p, elements, split.letter);
     let product = Poly::mul(alloc, &p.field, &p.order, factor, value)?;
-    q.normal_form(alloc, p, &product)
+    let next = q.normal_form(alloc, p, &product)?;
+    Ok(next)
 }
