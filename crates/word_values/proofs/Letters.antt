@@ -103,3 +103,7 @@ module _ {E : Type 0} (P : Presented E) (S : List (Polynomial E)) where
       (get_or-map (weighted_degree xs) (map lead_monomial S) j [] 0 (let b : length (map lead_monomial S) ≡ length S = length-map S lead_monomial in omega arith) ∙
       (ap (weighted_degree xs) (get_or-map lead_monomial S j [] [] l) ∙
       degree_weighted P.order H.order (lead_monomial (get_or S j [])) (lead_places H (get_or S j []) (hs (get_or S j []) (Contains-get_or S j [] l)))))))
+
+  -- the place of a letter that is an s-word
+  pub single_range : (w : List ℕ) (i : ℕ) → IsSWord (letters P S) w → w ≡ variable i → (P.order.places ≤ i) × (i < P.order.places + length S)
+  single_range w i h e = letter_range w i h (λ z. let a : exponent w i ≡ exponent (variable i) i = ap (λ u. exponent u i) e in let b = exponent_here i in omega arith)

@@ -132,3 +132,12 @@ module _ {E : Type 0} (P : Presented E) (H : IsPresentation P) (S : List (Polyno
         };
         graded = λ m k. h.homogeneous.each m k ∙ sym (letter_degree P S H hs j l);
       }
+
+  -- and so is what a letter stands for
+  pub single_is_value : (w : Exponents) (i : ℕ) (v : Polynomial E) → O.places ≤ i → i < O.places + length S → w ≡ variable i →
+      ((j : ℕ) → i ≡ O.places + j → v ≡ get_or S j []) → IsWordValue P S w v
+  single_is_value w i v f l e at =
+      let j = i - O.places in
+      let k : i ≡ O.places + j = omega arith in
+      subst (λ u. IsWordValue P S u v) (sym e)
+      (subst (λ n. IsWordValue P S (variable n) v) (sym k) (subst (IsWordValue P S (variable (O.places + j))) (sym (at j k)) (letter_is_value j (omega arith))))
