@@ -14,13 +14,7 @@ use Rattle.polynomials.specs.Subalgebra.{Presented, IsPresentation, IsNormalForm
 use Rattle.subalgebra_laws.specs.Words.{letters, word_value}
 use Rattle.subalgebra_laws.specs.Statements.{ValuesStay}
 use Rattle.word_values.specs.Values.{Table, IsLetter, AreHomogeneousElements, IsWordValue, IsKept, AreValues, AreWordsTo, word_degree, value_in}
-use Rattle.word_values.proofs.Letters.{xs, places_x, places_letters, rest_word, letter_range, product_degree, letter_degree}
-
--- the last exponent of a trimmed list
-last_exponent : (u : List ℕ) → IsTrimmed u → u ≢ [] → (i : ℕ) × (suc i ≡ length u) × (1 ≤ exponent u i)
-last_exponent [] h n = absurd (n refl)
-last_exponent (a ∷ []) h n = (0, refl, omega (arith, h))
-last_exponent (a ∷ (b ∷ u)) h n = let r = last_exponent (b ∷ u) h (λ e. cc) in (suc r.0, ap suc r.1, r.2)
+use Rattle.word_values.proofs.Letters.{last_exponent, xs, places_x, places_letters, rest_word, letter_range, product_degree, letter_degree}
 
 module _ {E : Type 0} (P : Presented E) (S T : List (Polynomial E)) where
   word_grows : (w : List ℕ) → IsSWord (letters P S) w → IsSWord (letters P (S ++ T)) w

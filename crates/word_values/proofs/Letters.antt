@@ -30,6 +30,12 @@ pub exponent_here : (i : ℕ) → exponent (variable i) i ≡ 1
 exponent_here zero = refl
 exponent_here (suc i) = exponent_here i
 
+-- the last exponent of a trimmed list
+pub last_exponent : (u : List ℕ) → IsTrimmed u → u ≢ [] → (i : ℕ) × (suc i ≡ length u) × (1 ≤ exponent u i)
+last_exponent [] h n = absurd (n refl)
+last_exponent (a ∷ []) h n = (0, refl, omega (arith, h))
+last_exponent (a ∷ (b ∷ u)) h n = let r = last_exponent (b ∷ u) h (λ e. cc) in (suc r.0, ap suc r.1, r.2)
+
 -- a place before the end counts in the sum of the front
 front_exponent : (w : List ℕ) (n i : ℕ) → i < n → exponent w i ≤ sum (take n w)
 front_exponent [] n i l = omega arith

@@ -1,12 +1,14 @@
 //! Products of values and elements.
-ghost use Rattle.std.specs.Prelude.{◌≡◌, ◌≤◌, ◌<◌, ◌+◌, ℕ, ◌⊎◌, [], length, get_or, true, IfOk};
+ghost use Rattle.std.specs.Prelude.{◌≡◌, ◌≤◌, ◌<◌, ◌+◌, ℕ, ◌⊎◌, ◌≢◌, [], length, get_or, true, IfOk};
 ghost use Rattle.monomial_order.specs.Limits.{exponent_max};
+ghost use Rattle.monomial_order.specs.Monomial.{exponent};
 ghost use Rattle.word_laws.specs.Words.{IsSWord};
 ghost use Rattle.poly_core.specs.Presentation.{presented, IsValid};
 ghost use Rattle.quotient_gb.specs.Quotient.{IsQuotientOf};
 ghost use Rattle.subalgebra_laws.specs.Words.{letters};
-ghost use Rattle.word_values.specs.Values.{values_of, AreHomogeneousElements, IsWordValue, word_degree, whole};
+ghost use Rattle.word_values.specs.Values.{values_of, AreHomogeneousElements, IsWordValue, word_degree, whole, IsSplit};
 
+use crate::words::without;
 use monomial_order::{Memory, Monomial, Order};
 use poly_core::{Poly, Presentation};
 use quotient_gb::Quotient;
@@ -19,6 +21,22 @@ use word_field::Field;
 pub(crate) struct Split {
     pub letter: usize,
     pub rest: Monomial,
+}
+
+/// A word without a letter.
+pub(crate) fn take_off<F: Field, O: Order>(
+    alloc: Global,
+    _p: &Presentation<F, O>,
+    _elements: &[Tracked<F>],
+    w: &Monomial,
+    letter: usize,
+) -> Result<Split, Memory>
+    requires word { IsSWord (letters (presented F.ops O.order _p.now) (values_of _elements.now)) w.now }
+    requires letter { exponent w.now letter ≢ 0 }
+    ensures { IfOk result (IsSplit (presented F.ops O.order _p.now) (values_of _elements.now) w.now) }
+{
+    let rest = without(alloc, w, letter)?;
+    Ok(Split { letter, rest })
 }
 
 /// The element of a letter.

@@ -9,8 +9,8 @@ ghost use Rattle.quotient_gb.specs.Quotient.{IsQuotientOf};
 ghost use Rattle.subalgebra_laws.specs.Words.{letters};
 ghost use Rattle.word_values.specs.Values.{values_of, IsReady, AreHomogeneousElements, IsWordValue, AreValues, AreWordsTo, word_degree, IsLetter, IsSplit, Puts, whole};
 
-use crate::products::{Split, element, times_letter, value_of_one};
-use crate::words::{single_letter, without};
+use crate::products::{Split, element, take_off, times_letter, value_of_one};
+use crate::words::single_letter;
 use monomial_order::{Memory, Monomial, Order};
 use poly_core::{Poly, Presentation};
 use quotient_gb::Quotient;
@@ -124,16 +124,15 @@ impl<F: Field> Values<F> {
         ensures { IfOk result (IsSplit (presented F.ops O.order p.now) (values_of elements.now) w.now) }
     {
         let last = w.places() - 1;
-        let rest = without(alloc, w, last)?;
-        let mut least = self.cost(p, elements, last, &rest);
-        let mut split = Split { letter: last, rest };
+        let mut split = take_off(alloc, p, elements, w, last)?;
+        let mut least = self.cost(p, elements, &split);
         'letters: for letter in p.order.places()..last {
             if w.exponent(letter) > 0 {
-                let rest = without(alloc, w, letter)?;
-                let cost = self.cost(p, elements, letter, &rest);
+                let other = take_off(alloc, p, elements, w, letter)?;
+                let cost = self.cost(p, elements, &other);
                 if cost < least {
                     least = cost;
-                    split = Split { letter, rest };
+                    split = other;
                 }
             }
         }
@@ -145,19 +144,16 @@ impl<F: Field> Values<F> {
         &self,
         p: &Presentation<F, O>,
         elements: &[Tracked<F>],
-        letter: usize,
-        rest: &Monomial,
+        split: &Split,
     ) -> usize
         requires presentation { IsValid F.ops O.order p.now }
         requires elements { AreHomogeneousElements (presented F.ops O.order p.now) (values_of elements.now) }
-        requires word { IsSWord (letters (presented F.ops O.order p.now) (values_of elements.now)) rest.now }
         requires values { AreValues (presented F.ops O.order p.now) (values_of elements.now) self.now }
-        requires first { (O.order p.now.order).places ≤ letter }
-        requires last { letter < (O.order p.now.order).places + length elements.now }
+        requires split { (w : Exponents) × IsSplit (presented F.ops O.order p.now) (values_of elements.now) w split.now }
     {
-        match self.get(p, elements, rest) {
+        match self.get(p, elements, &split.rest) {
             Some(value) => {
-                let terms = element(p, elements, letter).terms().len();
+                let terms = element(p, elements, split.letter).terms().len();
                 value.terms().len().saturating_mul(terms)
             }
             None => usize::MAX,
