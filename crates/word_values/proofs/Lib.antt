@@ -2,3 +2,4 @@ pub mod Letters
 pub mod Multiplying
 pub mod Tables
 pub mod Growing
+pub mod Putting

@@ -20,6 +20,10 @@ pub some_found : {V : Type 0} (r : Option (Bor V)) (o : Option V) → option_cop
 some_found None o e h = subst IsSome (sym e) h
 some_found (Some b) o e h = refl
 
+pub some_back : {V : Type 0} (r : Option (Bor V)) (o : Option V) → option_copied r ≡ o → IsSome r → IsSome o
+some_back None o e h = let z : false ≡ true = h in cc
+some_back (Some b) o e h = subst IsSome e refl
+
 -- the table after a value is put in it
 module _ {K : Type 0} (f : K → List ℕ) where
   abbrev pub same_key : K → K → Bool

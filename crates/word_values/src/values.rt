@@ -1,5 +1,5 @@
 //! The values of words, kept from use to use.
-ghost use Rattle.std.specs.Prelude.{◌≡◌, ℕ, ◌≤◌, ◌⊎◌, ◌+◌, ◌<◌, ◌≢◌, [], length, true, IfOk, IsNone, IsSome, IfSome};
+ghost use Rattle.std.specs.Prelude.{◌≡◌, ℕ, ◌≤◌, ◌⊎◌, ◌↔◌, ◌+◌, ◌<◌, ◌≢◌, [], length, true, IfOk, IsNone, IsSome, IfSome};
 ghost use Rattle.monomial_order.specs.Limits.{exponent_max};
 ghost use Rattle.monomial_order.specs.Monomial.{Exponents};
 ghost use Rattle.word_laws.specs.Words.{IsSWord};
@@ -61,7 +61,7 @@ impl<F: Field> Values<F> {
         requires values { AreValues (presented F.ops O.order p.now) (values_of elements.now) self.now }
         ensures value { let P = presented F.ops O.order p.now in
             IfSome result (λ v. IsWordValue P (values_of elements.now) w.now v.now) }
-        ensures ready { IsReady self.now w.now → IsSome result }
+        ensures ready { IsSome result ↔ IsReady self.now w.now }
     {
         match single_letter(w) {
             Some(letter) => Some(element(p, elements, letter)),

@@ -1,4 +1,4 @@
-use Rattle.std.proofs.Common.{◌≡◌, ◌≢◌, ◌≤◌, ◌<◌, ◌∙◌, refl, sym, ap, subst, ⊎_elim, length, arith, true, Some}
+use Rattle.std.proofs.Common.{◌≡◌, ◌≢◌, ◌≤◌, ◌<◌, ◌∙◌, refl, sym, ap, subst, ⊎_elim, inl, inr, length, arith, true, Some}
 use Rattle.std.specs.Prelude.{nat_eq, map}
 use lib.Pointwise.{pointwise}
 use Rattle.std.specs.HashMap.{get_by}
@@ -7,7 +7,7 @@ use Rattle.poly_core.specs.Presentation.{presented}
 use Rattle.word_values.specs.Values.{values_of, IsReady, IsLetter, IsWordValue, value_in}
 use Rattle.word_values.proofs.Letters.{single_range}
 use Rattle.word_values.proofs.Multiplying.{single_is_value}
-use Rattle.word_values.proofs.Tables.{lookup_map, found_value, some_found}
+use Rattle.word_values.proofs.Tables.{lookup_map, found_value, some_found, some_back}
 use Rattle.word_values.proofs.values.Values.get.Goals as goal
 
 pub element-requires-clause-first : goal.element-requires-clause-first
@@ -40,9 +40,14 @@ returns-in-None-clause-value g c =
     (IsWordValue P S c.args.w.now)
     (λ v e. (c.requires.values c.args.w.now v e).value)
 
+pub returns-in-Some-clause-ready : goal.returns-in-Some-clause-ready
+returns-in-Some-clause-ready g c = (λ s. inl (c.in-Some.letter, c.in-Some.ensures.letter), λ r. refl)
+
 pub returns-in-None-clause-ready : goal.returns-in-None-clause-ready
 returns-in-None-clause-ready g c =
     let at = lookup_map (λ k. k.items) (pointwise nat_eq c.args.w.now) c.self.inside.kept.entries in
     let same = ap (λ m. get_by (λ k. pointwise nat_eq m k.items) c.self.inside.kept) c.as_slice.ensures.same in
-    ⊎_elim (λ l. absurd (c.in-None.ensures.none refl l))
-    (λ s. some_found c.get.result (value_in c.args.self.now c.args.w.now) (c.get.ensures.value ∙ (same ∙ (sym at ∙ ap (λ t. value_in t c.args.w.now) c.self.view_is))) s)
+    let value = c.get.ensures.value ∙ (same ∙ (sym at ∙ ap (λ t. value_in t c.args.w.now) c.self.view_is)) in (
+      λ s. inr (some_back c.get.result (value_in c.args.self.now c.args.w.now) value s),
+      ⊎_elim (λ l. absurd (c.in-None.ensures.none refl l)) (λ s. some_found c.get.result (value_in c.args.self.now c.args.w.now) value s),
+    )
