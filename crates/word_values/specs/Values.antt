@@ -1,5 +1,5 @@
 -- The values of words over a list of elements, as a table keeps them.
-use Rattle.std.specs.Prelude.{◌≡◌, ◌≢◌, ℕ, ◌≤◌, ◌<◌, ◌+◌, ◌⊎◌, List, Option, Some, IsSome, map, length, Contains, nat_eq, if◌then◌else◌}
+use Rattle.std.specs.Prelude.{◌≡◌, ◌≢◌, ℕ, ◌≤◌, ◌<◌, ◌+◌, ◌⊎◌, List, [], ◌∷◌, Option, Some, IsSome, map, length, Contains, nat_eq, if◌then◌else◌}
 use Rattle.std.specs.Map.{lookup}
 use lib.Pointwise.{pointwise}
 use Rattle.monomial_order.specs.Monomial.{Exponents, product, variable}
@@ -9,6 +9,7 @@ use Rattle.polynomials.specs.Subalgebra.{Presented, IsStandard, IsNormalForm}
 use Rattle.subalgebra_laws.specs.Words.{letters, word_value}
 use Rattle.witness.specs.declared.tracked.Tracked.{Tracked}
 use Rattle.word_values.specs.declared.products.Split.{Split}
+use Rattle.word_values.specs.declared.paths.Step.{Step}
 
 -- the values of tracked elements
 abbrev pub values_of : {F E : Type 0} → List (Tracked F E) → List (Polynomial E)
@@ -79,3 +80,15 @@ module _ {E : Type 0} (P : Presented E) where
       pub first : P.order.places ≤ s.letter
       pub last : s.letter < P.order.places + length S
       pub whole_is : whole s ≡ w
+
+    -- w is an s-word, and not one letter alone, and is split
+    pub record IsStep (w : Exponents) (t : Step) : Type 0 where
+      pub here : t.word ≡ w
+      pub word : IsSWord (letters P S) w
+      pub long : ¬ IsLetter w
+      pub split : IsSplit w t.split
+
+    -- each word of the path is split, from w down to v
+    abbrev pub IsPath : Exponents → List Step → Exponents → Type 0
+    IsPath w [] v = w ≡ v
+    IsPath w (t ∷ ts) v = IsStep w t × IsPath t.split.rest ts v

@@ -2,6 +2,7 @@
 #![tactic(auto)]
 
 pub mod laws;
+mod paths;
 mod products;
 mod values;
 mod words;

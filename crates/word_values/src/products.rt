@@ -1,5 +1,5 @@
 //! Products of values and elements.
-ghost use Rattle.std.specs.Prelude.{◌≡◌, ◌≤◌, ◌<◌, ◌+◌, ℕ, ◌⊎◌, ◌≢◌, [], length, get_or, true, IfOk};
+ghost use Rattle.std.specs.Prelude.{◌≡◌, ◌≤◌, ◌<◌, ◌+◌, ℕ, ◌⊎◌, ◌≢◌, [], length, get_or, true, IfOk, IfSome, IsNone};
 ghost use Rattle.monomial_order.specs.Limits.{exponent_max};
 ghost use Rattle.monomial_order.specs.Monomial.{exponent};
 ghost use Rattle.word_laws.specs.Words.{IsSWord};
@@ -67,6 +67,27 @@ pub(crate) fn value_of_one<F: Field, O: Order>(
     let one = Poly::term(alloc, &p.field, Monomial::one(alloc), p.field.one())?;
     let value = q.normal_form(alloc, p, &one)?;
     Ok(value)
+}
+
+/// The value of the word 1, and nothing for another word.
+pub(crate) fn value_of_start<F: Field, O: Order>(
+    alloc: Global,
+    p: &Presentation<F, O>,
+    q: &Quotient<F, O>,
+    elements: &[Tracked<F>],
+    start: &Monomial,
+) -> Result<Option<Poly<F>>, Memory>
+    requires presentation { IsValid F.ops O.order p.now }
+    requires quotient { IsQuotientOf (presented F.ops O.order p.now) q.now }
+    ensures made { let P = presented F.ops O.order p.now in
+        IfOk result (λ r. IfSome r (IsWordValue P (values_of elements.now) start.now)) }
+    ensures none { IfOk result (λ r. IsNone r → start.now ≢ []) }
+{
+    if start.places() > 0 {
+        return Ok(None);
+    }
+    let one = value_of_one(alloc, p, q, elements)?;
+    Ok(Some(one))
 }
 
 /// The value of a word, from that of the word without a letter.

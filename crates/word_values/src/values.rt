@@ -7,9 +7,10 @@ ghost use Rattle.polynomials.specs.Polynomial.{IsCanonical};
 ghost use Rattle.poly_core.specs.Presentation.{presented, IsValid};
 ghost use Rattle.quotient_gb.specs.Quotient.{IsQuotientOf};
 ghost use Rattle.subalgebra_laws.specs.Words.{letters};
-ghost use Rattle.word_values.specs.Values.{values_of, IsReady, AreHomogeneousElements, IsWordValue, AreValues, AreWordsTo, word_degree, IsLetter, IsSplit, Puts, whole};
+ghost use Rattle.word_values.specs.Values.{values_of, IsReady, AreHomogeneousElements, IsWordValue, AreValues, AreWordsTo, word_degree, IsLetter, IsPath, IsSplit, Puts, whole};
 
-use crate::products::{Split, element, take_off, times_letter, value_of_one};
+use crate::paths::{Path, Step};
+use crate::products::{Split, element, take_off, times_letter, value_of_start};
 use crate::words::single_letter;
 use monomial_order::{Memory, Monomial, Order};
 use poly_core::{Poly, Presentation};
@@ -94,17 +95,75 @@ impl<F: Field> Values<F> {
         ensures made { let P = presented F.ops O.order p.now in
             IfOk result (λ r. IfSome r (IsWordValue P (values_of elements.now) w.now)) }
     {
-        if self.get(p, elements, w).is_some() {
-            return Ok(None);
+        let path = self.path(alloc, p, elements, w)?;
+        let made = value_of_start(alloc, p, q, elements, &path.start)?;
+        self.make_path(alloc, p, q, elements, w, path, made)
+    }
+
+    /// The words that are to be made before the value of a word is known, from a word that is ready, or from 1.
+    fn path<O: Order>(
+        &self,
+        alloc: Global,
+        p: &Presentation<F, O>,
+        elements: &[Tracked<F>],
+        w: &Monomial,
+    ) -> Result<Path, Memory>
+        requires presentation { IsValid F.ops O.order p.now }
+        requires elements { AreHomogeneousElements (presented F.ops O.order p.now) (values_of elements.now) }
+        requires word { IsSWord (letters (presented F.ops O.order p.now) (values_of elements.now)) w.now }
+        requires values { AreValues (presented F.ops O.order p.now) (values_of elements.now) self.now }
+        ensures path { let P = presented F.ops O.order p.now in
+            IfOk result (λ r. IsPath P (values_of elements.now) w.now r.steps.items r.start) }
+        ensures start { IfOk result (λ r. (r.start ≡ []) ⊎ IsReady self.now r.start) }
+    {
+        let mut steps = Vec::new(alloc);
+        let mut start = w.copy(alloc)?;
+        'letters: while start.places() > 0 && self.get(p, elements, &start).is_none() {
+            let split = self.split(alloc, p, elements, &start)?;
+            let rest = split.rest.copy(alloc)?;
+            steps.push(Step { word: start, split })?;
+            start = rest;
         }
-        if w.places() == 0 {
-            let one = value_of_one(alloc, p, q, elements)?;
-            return Ok(Some(one));
+        Ok(Path { steps, start })
+    }
+
+    /// Makes the words of a path.
+    fn make_path<O: Order>(
+        &mut self,
+        alloc: Global,
+        p: &Presentation<F, O>,
+        q: &Quotient<F, O>,
+        elements: &[Tracked<F>],
+        w: &Monomial,
+        path: Path,
+        start: Option<Poly<F>>,
+    ) -> Result<Option<Poly<F>>, Memory>
+        requires presentation { IsValid F.ops O.order p.now }
+        requires quotient { IsQuotientOf (presented F.ops O.order p.now) q.now }
+        requires elements { AreHomogeneousElements (presented F.ops O.order p.now) (values_of elements.now) }
+        requires degree { let P = presented F.ops O.order p.now in
+            (word_degree P (values_of elements.now) w.now ≤ q.now.degree) ⊎ (q.now.closed ≡ true) }
+        requires small { word_degree (presented F.ops O.order p.now) (values_of elements.now) w.now ≤ exponent_max }
+        requires values { AreValues (presented F.ops O.order p.now) (values_of elements.now) self.old }
+        requires path { IsPath (presented F.ops O.order p.now) (values_of elements.now) w.now path.steps.items path.start }
+        requires ready { IsNone start → IsReady self.old path.start }
+        requires made { let P = presented F.ops O.order p.now in
+            IfSome start (IsWordValue P (values_of elements.now) path.start) }
+        ensures values { AreValues (presented F.ops O.order p.now) (values_of elements.now) self.new }
+        ensures degrees { let P = presented F.ops O.order p.now in let S = values_of elements.now in (d : ℕ) →
+            AreWordsTo P S d self.old → word_degree P S w.now ≤ d → AreWordsTo P S d self.new }
+        ensures stays { (v : Exponents) → IsReady self.old v → IsReady self.new v }
+        ensures ready { IfOk result (λ r. IsNone r → IsReady self.new w.now) }
+        ensures made { let P = presented F.ops O.order p.now in
+            IfOk result (λ r. IfSome r (IsWordValue P (values_of elements.now) w.now)) }
+    {
+        let mut steps = path.steps;
+        let mut made = start;
+        'steps: while let Some(step) = steps.pop() {
+            let value = self.next_value(alloc, p, q, elements, &step.split, &made)?;
+            made = self.offer(alloc, p, elements, &step.word, value)?;
         }
-        let split = self.split(alloc, p, elements, w)?;
-        let made = self.prepare(alloc, p, q, elements, &split.rest)?;
-        let value = self.next_value(alloc, p, q, elements, &split, &made)?;
-        self.offer(alloc, p, elements, w, value)
+        Ok(made)
     }
 
     /// A letter of a word, and the word without it. If that is ready for any letter, the product is one that costs
