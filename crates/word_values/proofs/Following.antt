@@ -1,11 +1,9 @@
 -- Paths from a word down to one that is ready.
-use Rattle.std.proofs.Common.{◌≡◌, ◌≢◌, ℕ, ◌+◌, ◌≤◌, ◌<◌, ◌⊎◌, inl, inr, refl, sym, ◌∙◌, ap, subst, List, [], ◌∷◌, ◌++◌, Option, Some, None, arith}
+use Rattle.std.proofs.Common.{◌≡◌, ℕ, ◌≤◌, refl, sym, ap, subst, List, [], ◌∷◌, ◌++◌, Option, Some, None, arith}
 use Rattle.std.specs.Prelude.{IsNone, IfSome}
 use Rattle.monomial_order.specs.Monomial.{Exponents}
-use Rattle.word_laws.specs.Words.{IsSWord}
 use Rattle.polynomials.specs.Polynomial.{Polynomial}
 use Rattle.polynomials.specs.Subalgebra.{Presented}
-use Rattle.subalgebra_laws.specs.Words.{letters}
 use Rattle.word_values.specs.declared.paths.Step.{Step}
 use Rattle.word_values.specs.Values.{Table, IsReady, IsWordValue, IsStep, IsPath, AreValues, AreWordsTo, word_degree, whole}
 use Rattle.word_values.proofs.Putting.{Offers, rest_degree, offered_values, offered_degrees, offered_stays}

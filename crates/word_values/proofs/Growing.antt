@@ -1,20 +1,20 @@
 -- What a table keeps, as elements come to the end of a list or are exchanged there.
-use Rattle.std.proofs.Common.{◌≡◌, ◌≢◌, ℕ, zero, suc, ◌+◌, ◌-◌, ◌<◌, ◌≤◌, ◌⊎◌, refl, sym, ◌∙◌, ap, subst, List, [], ◌∷◌, ◌++◌, length, length-append, append_assoc, take, get_or, ⊎_elim, arith, Some}
-use Rattle.std.specs.Prelude.{map, sum, Contains}
-use Rattle.std.proofs.lemmas.List.{length-map, map-append, get_or-append-add}
+use Rattle.std.proofs.Common.{◌≡◌, ◌≢◌, ℕ, ◌+◌, ◌-◌, ◌<◌, ◌≤◌, sym, ◌∙◌, ap, subst, List, [], ◌++◌, length, length-append, append_assoc, get_or, ⊎_elim, arith, Some}
+use Rattle.std.specs.Prelude.{map, Contains}
+use Rattle.std.proofs.lemmas.List.{map-append, get_or-append-add}
 use Rattle.std.proofs.lemmas.List.Elements.{Contains-get_or}
-use Rattle.monomial_order.specs.Monomial.{Exponents, exponent, product, variable, IsMonomial, IsTrimmed, weighted_degree}
+use Rattle.monomial_order.specs.Monomial.{exponent, product, variable, weighted_degree}
 use Rattle.monomial_order.specs.laws.Cofactors.{cofactor}
 use Rattle.monomial_order.specs.laws.Comparing.{le_or_not}
 use Rattle.monomial_order.specs.laws.Monomial.{variable_divides, variable_trimmed, product-one}
-use Rattle.word_laws.specs.Words.{word_order_of, lead_degrees, IsSWord}
+use Rattle.word_laws.specs.Words.{lead_degrees, IsSWord}
 use Rattle.word_laws.specs.laws.Images.{weighted_front}
 use Rattle.polynomials.specs.Polynomial.{Polynomial, lead_monomial}
 use Rattle.polynomials.specs.Subalgebra.{Presented, IsPresentation, IsNormalForm}
-use Rattle.subalgebra_laws.specs.Words.{letters, word_value}
+use Rattle.subalgebra_laws.specs.Words.{letters}
 use Rattle.subalgebra_laws.specs.Statements.{ValuesStay}
-use Rattle.word_values.specs.Values.{Table, IsLetter, AreHomogeneousElements, IsWordValue, IsKept, AreValues, AreWordsTo, word_degree, value_in}
-use Rattle.word_values.proofs.Letters.{last_exponent, xs, places_x, places_letters, rest_word, letter_range, product_degree, letter_degree}
+use Rattle.word_values.specs.Values.{Table, AreHomogeneousElements, AreValues, AreWordsTo, word_degree, value_in}
+use Rattle.word_values.specs.laws.Letters.{last_exponent, xs, places_letters, rest_word, letter_range, product_degree, letter_degree}
 
 module _ {E : Type 0} (P : Presented E) (S T : List (Polynomial E)) where
   word_grows : (w : List ℕ) → IsSWord (letters P S) w → IsSWord (letters P (S ++ T)) w

@@ -1,4 +1,3 @@
-pub mod Letters
 pub mod Multiplying
 pub mod Tables
 pub mod Growing

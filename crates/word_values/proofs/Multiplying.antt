@@ -1,10 +1,9 @@
 -- The value of a word from that of the word without a letter.
-use Rattle.std.proofs.Common.{◌≡◌, ◌≢◌, ℕ, ◌+◌, ◌-◌, ◌<◌, ◌≤◌, ◌⊎◌, inl, inr, refl, sym, ◌∙◌, ap, subst, List, [], ◌∷◌, ◌++◌, length, get_or, true, ⊎_elim, arith}
+use Rattle.std.proofs.Common.{◌≡◌, ◌≢◌, ℕ, ◌+◌, ◌-◌, ◌<◌, ◌≤◌, sym, ◌∙◌, ap, subst, List, [], ◌∷◌, ◌++◌, length, get_or, ⊎_elim, arith}
 use Rattle.std.proofs.lemmas.List.Elements.{Contains-get_or}
 use Rattle.monomial_order.specs.Monomial.{Exponents, product, variable}
-use Rattle.polynomials.specs.Polynomial.{Polynomial, coefficient, Same, times, constant, term_of, IsPoly, IsCanonical, IsDecreasing, IsSmall, IsHomogeneous, AllAt, degree_of, lead_monomial}
+use Rattle.polynomials.specs.Polynomial.{Polynomial, coefficient, Same, times, constant, term_of, IsPoly, IsCanonical, IsDecreasing, IsSmall, degree_of, lead_monomial}
 use Rattle.polynomials.specs.Ideal.{Congruent}
-use Rattle.polynomials.specs.Value.{monomial_value}
 use Rattle.polynomials.specs.Subalgebra.{Presented, IsPresentation, IsNormalForm}
 use Rattle.polynomials.specs.laws.Coefficients.{nothing_at, decreasing_leads, single_term}
 use Rattle.polynomials.specs.laws.Congruence.{congruent_same, congruent_refl, congruent_trans, congruent_times_left}
@@ -19,7 +18,7 @@ use Rattle.subalgebra_laws.specs.Words.{letters, letter_values, word_value}
 use Rattle.word_values.specs.Values.{IsHomogeneousElement, AreHomogeneousElements, IsWordValue, word_degree}
 use Rattle.monomial_order.specs.laws.Monomial.{weighted_nil}
 use Rattle.word_laws.specs.Words.{lead_degrees}
-use Rattle.word_values.proofs.Letters.{xs, product_degree, letter_value, letter_degree}
+use Rattle.word_values.specs.laws.Letters.{xs, product_degree, letter_value, letter_degree}
 
 -- 1 as a polynomial of the program
 pub one_canonical : {E : Type 0} (P : Presented E) → IsPresentation P → IsCanonical P.field P.order (constant P.field P.field.one)

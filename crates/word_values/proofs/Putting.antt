@@ -1,10 +1,10 @@
 -- A table after the value of a word is put in it.
-use Rattle.std.proofs.Common.{◌≡◌, ◌≢◌, ℕ, zero, suc, ◌+◌, ◌≤◌, ◌<◌, ◌⊎◌, inl, inr, refl, sym, ◌∙◌, ap, subst, List, [], ◌∷◌, Bool, true, false, cond, ⊎_elim, Option, Some, None, arith}
+use Rattle.std.proofs.Common.{◌≡◌, ℕ, zero, suc, ◌≤◌, ◌<◌, ◌⊎◌, inl, inr, refl, sym, ◌∙◌, ap, subst, List, Bool, true, false, cond, ⊎_elim, Some, arith}
 use Rattle.std.specs.Prelude.{IsSome, nat_eq, sum}
 use Rattle.std.proofs.lemmas.Bool.{cases_Bool, cond-true, cond-false}
 use Rattle.std.proofs.lemmas.List.Sums.{sum_by-cons}
 use lib.Pointwise.{pointwise, bytes_decides}
-use Rattle.monomial_order.specs.Monomial.{Exponents, product, variable}
+use Rattle.monomial_order.specs.Monomial.{Exponents, variable}
 use Rattle.monomial_order.specs.laws.Orders.{sum-product}
 use Rattle.word_laws.specs.Words.{IsSWord}
 use Rattle.polynomials.specs.Polynomial.{Polynomial}
@@ -12,7 +12,7 @@ use Rattle.polynomials.specs.Subalgebra.{Presented}
 use Rattle.subalgebra_laws.specs.Words.{letters}
 use Rattle.word_values.specs.declared.products.Split.{Split}
 use Rattle.word_values.specs.Values.{Table, IsLetter, IsReady, IsWordValue, IsKept, IsSplit, AreValues, AreWordsTo, Puts, value_in, whole, word_degree}
-use Rattle.word_values.proofs.Letters.{product_degree}
+use Rattle.word_values.specs.laws.Letters.{product_degree}
 
 some_injective : {A : Type 0} (x y : A) → Some x ≡ Some y → x ≡ y
 some_injective x y e = cc

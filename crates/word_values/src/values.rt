@@ -237,8 +237,7 @@ impl<F: Field> Values<F> {
         requires last { split.now.letter < (O.order p.now.order).places + length elements.now }
         requires degree { let P = presented F.ops O.order p.now in
             (word_degree P (values_of elements.now) (whole split.now) ≤ q.now.degree) ⊎ (q.now.closed ≡ true) }
-        requires small {
-            word_degree (presented F.ops O.order p.now) (values_of elements.now) (whole split.now) ≤ exponent_max }
+        requires small { word_degree (presented F.ops O.order p.now) (values_of elements.now) (whole split.now) ≤ exponent_max }
         requires values { AreValues (presented F.ops O.order p.now) (values_of elements.now) self.now }
         requires ready { IsNone made.now → IsReady self.now split.now.rest }
         requires made { let P = presented F.ops O.order p.now in

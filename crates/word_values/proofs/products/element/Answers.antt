@@ -1,6 +1,5 @@
-use Rattle.std.proofs.Common.{◌≡◌, ℕ, ◌-◌, ◌+◌, ◌∙◌, sym, ap, [], arith, get_or}
+use Rattle.std.proofs.Common.{◌≡◌, ◌-◌, ◌∙◌, sym, ap, [], arith, get_or}
 use Rattle.std.proofs.lemmas.List.{get_or-map}
-use Rattle.word_values.specs.Values.{values_of}
 use Rattle.word_values.proofs.products.element.Goals as goal
 
 pub returns : goal.returns

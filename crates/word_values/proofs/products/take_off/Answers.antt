@@ -1,8 +1,6 @@
-use Rattle.std.proofs.Common.{◌≡◌, ◌∙◌, sym, ap, length, arith}
-use Rattle.std.proofs.lemmas.List.{length-map}
 use Rattle.poly_core.specs.Presentation.{presented}
 use Rattle.word_values.specs.Values.{values_of}
-use Rattle.word_values.proofs.Letters.{rest_word, letter_range}
+use Rattle.word_values.specs.laws.Letters.{rest_word, letter_range}
 use Rattle.word_values.proofs.products.take_off.Goals as goal
 
 pub returns : goal.returns

@@ -1,9 +1,9 @@
-use Rattle.std.proofs.Common.{◌≡◌, ◌≤◌, ◌<◌, ◌⊎◌, ℕ, ◌-◌, ◌+◌, ◌∙◌, sym, ap, subst, [], inl, inr, ⊎_elim, length, arith, get_or}
+use Rattle.std.proofs.Common.{◌≡◌, ◌≤◌, ◌<◌, ◌-◌, ◌+◌, sym, subst, inl, inr, ⊎_elim, length, arith}
 use Rattle.std.proofs.lemmas.List.{length-map}
 use Rattle.monomial_order.specs.Monomial.{product, variable}
-use Rattle.polynomials.specs.Polynomial.{Polynomial, coefficient, Same, times, IsCanonical, IsSmall}
+use Rattle.polynomials.specs.Polynomial.{Same, times, IsCanonical, IsSmall}
 use Rattle.poly_core.specs.Presentation.{presented}
-use Rattle.word_values.specs.Values.{values_of, IsWordValue, word_degree, whole}
+use Rattle.word_values.specs.Values.{values_of, IsWordValue, word_degree}
 use Rattle.word_values.proofs.Multiplying.{element_is, product_small, product_degree_to, product_value}
 use Rattle.word_values.proofs.products.times_letter.Goals as goal
 

@@ -1,11 +1,11 @@
-use Rattle.std.proofs.Common.{◌≡◌, ◌≢◌, ◌≤◌, ◌<◌, ◌∙◌, refl, sym, ap, subst, ⊎_elim, inl, inr, length, arith, true, Some}
-use Rattle.std.specs.Prelude.{nat_eq, map}
+use Rattle.std.proofs.Common.{◌∙◌, refl, sym, ap, ⊎_elim, inl, inr, arith}
+use Rattle.std.specs.Prelude.{nat_eq}
 use lib.Pointwise.{pointwise}
 use Rattle.std.specs.HashMap.{get_by}
 use Rattle.std.proofs.lemmas.List.{length-map}
 use Rattle.poly_core.specs.Presentation.{presented}
-use Rattle.word_values.specs.Values.{values_of, IsReady, IsLetter, IsWordValue, value_in}
-use Rattle.word_values.proofs.Letters.{single_range}
+use Rattle.word_values.specs.Values.{values_of, IsWordValue, value_in}
+use Rattle.word_values.specs.laws.Letters.{single_range}
 use Rattle.word_values.proofs.Multiplying.{single_is_value}
 use Rattle.word_values.proofs.Tables.{lookup_map, found_value, some_found, some_back}
 use Rattle.word_values.proofs.values.Values.get.Goals as goal

@@ -1,9 +1,8 @@
-use Rattle.std.proofs.Common.{◌≡◌, ◌≤◌, ◌⊎◌, ◌∙◌, refl, sym, ap, subst, inl, inr, ⊎_elim, true, ◌∷◌, [], ◌++◌, length, arith}
+use Rattle.std.proofs.Common.{◌≤◌, subst, inl, inr, ⊎_elim, arith}
 use Rattle.std.proofs.lemmas.List.{length-map}
 use Rattle.poly_core.specs.Presentation.{presented}
-use Rattle.word_values.specs.Values.{values_of, IsWordValue, word_degree, whole}
+use Rattle.word_values.specs.Values.{values_of, IsWordValue, word_degree}
 use Rattle.word_values.proofs.Following.{next_of, next_values, next_degrees, next_stays, reach_next}
-use Rattle.word_values.proofs.Putting.{Offers}
 use Rattle.word_values.proofs.values.Values.make_path.Goals as goal
 
 pub next_value-requires-clause-word : goal.next_value-requires-clause-word

@@ -1,4 +1,4 @@
-use Rattle.std.proofs.Common.{◌≡◌, ◌<◌, ◌∙◌, refl, sym, ap, subst, inl, true, false, ◌∷◌, [], ◌++◌, arith}
+use Rattle.std.proofs.Common.{◌≡◌, ◌∙◌, refl, sym, ap, subst, inl, true, false, ◌∷◌, [], ◌++◌, arith}
 use Rattle.std.specs.Prelude.{sum, not}
 use Rattle.word_laws.specs.Words.{IsSWord}
 use Rattle.subalgebra_laws.specs.Words.{letters}
@@ -28,6 +28,6 @@ letters-preserved g c =
       split = c.in_ok-split.ensures;
     } in (
       subst (λ ts. IsPath P S c.args.w.now ts c.in_ok-rest.rest) (sym c.in_ok-push.ensures.items)
-      (subst (IsPath P S c.args.w.now (c.letters.steps.items ++ t ∷ [])) (sym c.in_ok-rest.ensures.same) (path_push P S c.args.w.now c.letters.steps.items t c.letters.start c.letters.invariant.0 step)),
+          (subst (IsPath P S c.args.w.now (c.letters.steps.items ++ t ∷ [])) (sym c.in_ok-rest.ensures.same) (path_push P S c.args.w.now c.letters.steps.items t c.letters.start c.letters.invariant.0 step)),
       subst (IsSWord (letters P S)) (sym c.in_ok-rest.ensures.same) c.in_ok-split.ensures.word,
     )

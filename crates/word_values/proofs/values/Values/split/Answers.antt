@@ -1,6 +1,6 @@
-use Rattle.std.proofs.Common.{◌≡◌, ℕ, suc, ◌-◌, ◌∙◌, sym, ap, subst, arith, length}
+use Rattle.std.proofs.Common.{◌≡◌, ◌-◌, ap, arith}
 use Rattle.monomial_order.specs.Monomial.{exponent}
-use Rattle.word_values.proofs.Letters.{last_exponent}
+use Rattle.word_values.specs.laws.Letters.{last_exponent}
 use Rattle.word_values.proofs.values.Values.split.Goals as goal
 
 pub take_off-requires-clause-letter : goal.take_off-requires-clause-letter

@@ -1,13 +1,13 @@
 -- Letters of words over a list of elements.
-use Rattle.std.proofs.Common.{◌≡◌, ◌≢◌, ℕ, zero, suc, ◌+◌, ◌*◌, ◌<◌, ◌≤◌, ◌⊎◌, refl, sym, ◌∙◌, ap, subst, List, [], ◌∷◌, ◌++◌, length, length-append, take, get_or, ⊎_elim, arith}
-use Rattle.std.specs.Prelude.{map, sum, Contains}
+use Rattle.std.proofs.Common.{◌≡◌, ◌≢◌, ℕ, zero, suc, ◌+◌, ◌*◌, ◌<◌, ◌≤◌, refl, sym, ◌∙◌, ap, List, [], ◌∷◌, ◌++◌, length, length-append, take, get_or, ⊎_elim, arith}
+use Rattle.std.specs.Prelude.{map, sum}
 use Rattle.std.proofs.lemmas.List.{length-map, get_or-append-add, get_or-map}
 use Rattle.std.proofs.lemmas.List.Elements.{Contains-get_or}
 use Rattle.std.proofs.lemmas.List.Sums.{sum_by-cons}
-use Rattle.monomial_order.specs.Monomial.{Exponents, exponent, product, variable, IsMonomial, IsTrimmed, weighted_degree}
+use Rattle.monomial_order.specs.Monomial.{exponent, product, variable, IsMonomial, IsTrimmed, weighted_degree}
 use Rattle.monomial_order.specs.laws.Cofactors.{length-product_right}
 use Rattle.monomial_order.specs.laws.Comparing.{le_or_not}
-use Rattle.monomial_order.specs.laws.Monomial.{weighted_nil, exponent-product, exponent_past, variable_length}
+use Rattle.monomial_order.specs.laws.Monomial.{weighted_nil, exponent-product, exponent_past, variable_monomial, IsMonomial-product}
 use Rattle.monomial_order.specs.laws.Orders.{weighted_degree-product, take-product, sum-product}
 use Rattle.word_laws.specs.Words.{word_order_of, variables, lead_degrees, IsSWord}
 use Rattle.word_laws.specs.laws.Images.{length-variables, degree_weighted}
@@ -15,9 +15,8 @@ use Rattle.polynomials.specs.Polynomial.{Polynomial, coefficient, Same, term_of,
 use Rattle.polynomials.specs.Subalgebra.{Presented, IsPresentation}
 use Rattle.polynomials.specs.laws.Coefficients.{value_variable, found_monomial, decreasing_leads}
 use Rattle.polynomials.specs.laws.Decreasing.{IsDecreasing_IsPoly}
-use Rattle.polynomials.specs.Value.{monomial_value}
 use Rattle.subalgebra_laws.specs.Words.{letters, letter_values, word_value}
-use Rattle.word_values.specs.Values.{IsLetter, IsHomogeneousElement, AreHomogeneousElements, word_degree}
+use Rattle.word_values.specs.Values.{IsHomogeneousElement, AreHomogeneousElements, word_degree}
 
 -- the weight of a letter alone
 weighted_variable : (ws : List ℕ) (j : ℕ) → j < length ws → weighted_degree ws (variable j) ≡ get_or ws j 0
@@ -113,3 +112,25 @@ module _ {E : Type 0} (P : Presented E) (S : List (Polynomial E)) where
   -- the place of a letter that is an s-word
   pub single_range : (w : List ℕ) (i : ℕ) → IsSWord (letters P S) w → w ≡ variable i → (P.order.places ≤ i) × (i < P.order.places + length S)
   single_range w i h e = letter_range w i h (λ z. let a : exponent w i ≡ exponent (variable i) i = ap (λ u. exponent u i) e in let b = exponent_here i in omega arith)
+
+no_x_variable : (n j : ℕ) → sum (take n (variable (n + j))) ≡ 0
+no_x_variable zero j = refl
+no_x_variable (suc n) j =
+    ap (λ k. sum (take (suc n) (variable k))) (let e : suc n + j ≡ suc (n + j) = omega arith in e) ∙
+    (sum_by-cons (λ (y : ℕ). y) 0 (take n (variable (n + j))) ∙ (let r = no_x_variable n j in omega arith))
+
+module _ {E : Type 0} (P : Presented E) (S : List (Polynomial E)) where
+  -- a letter is an s-word, and an s-word times a letter is one
+  pub letter_word : (j : ℕ) → j < length S → IsSWord (letters P S) (variable (P.order.places + j))
+  letter_word j l = (
+    variable_monomial (word_order_of (letters P S)).places (P.order.places + j) (let p = places_letters P S in omega arith),
+    ap (λ n. sum (take n (variable (P.order.places + j)))) (places_x P S) ∙ no_x_variable P.order.places j,
+  )
+
+  pub longer_word : (j : ℕ) (v : List ℕ) → j < length S → IsSWord (letters P S) v → IsSWord (letters P S) (product (variable (P.order.places + j)) v)
+  longer_word j v l h =
+      let k = letter_word j l in (
+        IsMonomial-product (word_order_of (letters P S)).places (variable (P.order.places + j)) v k.0 h.0,
+        ap sum (take-product (length (xs P S)) (variable (P.order.places + j)) v) ∙
+            (sum-product (take (length (xs P S)) (variable (P.order.places + j))) (take (length (xs P S)) v) ∙ (let a = h.1 in let b = k.1 in omega arith)),
+      )
