@@ -1,0 +1,6 @@
+use Rattle.poly_core.specs.Presentation.{presented}
+use Rattle.word_values.specs.Values.{values_of, IsSplit}
+use Rattle.word_values.proofs.values.Values.split.Given as goal
+
+abbrev pub invariant-letters : goal.invariant-letters
+invariant-letters g l = IsSplit (presented g.F.Field.ops g.O.Order.order l.p) (values_of l.elements) l.w l.split
