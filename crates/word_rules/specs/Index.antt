@@ -39,13 +39,34 @@ pub record IsPaired (p : PairIndex) (i : ℕ) (w : Exponents) : Type 0 where
   pub has_b : exponent w b ≢ 0
   pub listed : Contains (pair_bucket p a b) i
 
--- the left side of the rule at an index
-abbrev pub left_at : List WordRule → ℕ → Exponents
-left_at rules i = slice_index_or (map (λ r. r.left) rules) i []
+abbrev pub lefts_of : List WordRule → List Exponents
+lefts_of rules = map (λ r. r.left) rules
 
--- Each rule is in the bucket of each of its letters, and in one of two letters. Buckets may have further indexes.
-pub record IsIndexed (t : Table) : Type 0 where
-  pub letters : (r : WordRule) → Contains t.rules.items r → HasLetters r
-  pub by_letter : (i a : ℕ) → i < length t.rules.items → exponent (left_at t.rules.items i) a ≢ 0 →
-      Contains (bucket t.by_letter a) i
-  pub by_pair : (i : ℕ) → i < length t.rules.items → IsPaired t.by_pair i (left_at t.rules.items i)
+abbrev pub letter_lists : List WordRule → List (List ℕ)
+letter_lists rules = map (λ r. r.letters.items) rules
+
+-- the member at an index
+abbrev pub list_at : List (List ℕ) → ℕ → List ℕ
+list_at lists i = slice_index_or lists i []
+
+-- Each of the left sides has its letters in the other list. Its index is in the bucket of each of its letters, and in
+-- that of two letters. Buckets may have further indexes.
+pub record IsIndexFor (lefts : List Exponents) (letters : List (List ℕ)) (by_letter : Buckets) (by_pair : PairIndex) :
+    Type 0 where
+  pub letters_are : (i : ℕ) → i < length lefts → AreLettersOf (list_at lefts i) (list_at letters i)
+  pub listed : (i a : ℕ) → i < length lefts → exponent (list_at lefts i) a ≢ 0 → Contains (bucket by_letter a) i
+  pub paired : (i : ℕ) → i < length lefts → IsPaired by_pair i (list_at lefts i)
+
+abbrev pub IsIndexed : Table → Type 0
+IsIndexed t = IsIndexFor (lefts_of t.rules.items) (letter_lists t.rules.items) t.by_letter t.by_pair
+
+-- no bucket loses an index
+abbrev pub KeepsIndexes : Buckets → Buckets → Type 0
+KeepsIndexes old new = (key i : ℕ) → Contains (bucket old key) i → Contains (bucket new key) i
+
+abbrev pub KeepsPairs : PairIndex → PairIndex → Type 0
+KeepsPairs old new = (a b i : ℕ) → Contains (pair_bucket old a b) i → Contains (pair_bucket new a b) i
+
+-- the index is in the bucket of two of the letters
+abbrev pub HasPair : PairIndex → List ℕ → ℕ → Type 0
+HasPair p letters i = (a : ℕ) × Contains letters a × (b : ℕ) × Contains letters b × Contains (pair_bucket p a b) i

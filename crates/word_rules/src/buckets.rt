@@ -1,6 +1,6 @@
 //! Lists of rule indexes, by key.
-ghost use Rattle.std.specs.Prelude.{◌≡◌, ◌<◌, ◌+◌, ◌^◌, ℕ, [], length, Contains, OnOk};
-ghost use Rattle.word_rules.specs.Index.{bucket};
+ghost use Rattle.std.specs.Prelude.{◌≡◌, ◌<◌, ℕ, [], length, Contains, OnOk};
+ghost use Rattle.word_rules.specs.Index.{bucket, KeepsIndexes};
 
 use monomial_order::Memory;
 use std::alloc::Global;
@@ -31,7 +31,6 @@ impl Buckets {
 
     /// Makes lists to the key.
     fn reach(&mut self, alloc: Global, key: usize) -> Result<(), Memory>
-        requires { key + 1 < 2 ^ 64 }
         ensures same { (k : ℕ) → bucket self.new k ≡ bucket self.old k }
         ensures ok { OnOk result (key < length self.new.lists.items) }
     {
@@ -43,12 +42,27 @@ impl Buckets {
 
     /// Puts an index into the list of a key. No index is taken out, even if memory runs out.
     pub(crate) fn push(&mut self, alloc: Global, key: usize, index: usize) -> Result<(), Memory>
-        requires { key + 1 < 2 ^ 64 }
-        ensures keeps { (k i : ℕ) → Contains (bucket self.old k) i → Contains (bucket self.new k) i }
+        ensures keeps { KeepsIndexes self.old self.new }
         ensures ok { OnOk result (Contains (bucket self.new key) index) }
     {
         self.reach(alloc, key)?;
         self.lists[key].push(index)?;
+        Ok(())
+    }
+
+    /// Puts an index into the lists of some keys. No index is taken out, even if memory runs out.
+    pub(crate) fn push_each(
+        &mut self,
+        alloc: Global,
+        keys: &[usize],
+        index: usize,
+    ) -> Result<(), Memory>
+        ensures keeps { KeepsIndexes self.old self.new }
+        ensures ok { OnOk result ((key : ℕ) → Contains keys.now key → Contains (bucket self.new key) index) }
+    {
+        'keys: for key in keys {
+            self.push(alloc, *key, index)?;
+        }
         Ok(())
     }
 }

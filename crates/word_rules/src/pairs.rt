@@ -1,6 +1,6 @@
 //! Lists of rule indexes, by two letters.
-ghost use Rattle.std.specs.Prelude.{◌≡◌, ◌<◌, ◌+◌, ◌^◌, ℕ, [], length, Contains, OnOk};
-ghost use Rattle.word_rules.specs.Index.{pair_bucket};
+ghost use Rattle.std.specs.Prelude.{◌≡◌, ◌<◌, ℕ, [], length, Contains, OnOk};
+ghost use Rattle.word_rules.specs.Index.{pair_bucket, KeepsPairs};
 
 use crate::buckets::Buckets;
 use monomial_order::Memory;
@@ -23,7 +23,6 @@ impl PairIndex {
 
     /// Makes rows to the letter.
     fn reach(&mut self, alloc: Global, a: usize) -> Result<(), Memory>
-        requires { a + 1 < 2 ^ 64 }
         ensures same { (k b : ℕ) → pair_bucket self.new k b ≡ pair_bucket self.old k b }
         ensures ok { OnOk result (a < length self.new.rows.items) }
     {
@@ -41,12 +40,11 @@ impl PairIndex {
         b: usize,
         index: usize,
     ) -> Result<(), Memory>
-        requires a { a + 1 < 2 ^ 64 }
-        requires b { b + 1 < 2 ^ 64 }
-        ensures keeps { (k l i : ℕ) → Contains (pair_bucket self.old k l) i → Contains (pair_bucket self.new k l) i }
+        ensures keeps { KeepsPairs self.old self.new }
         ensures ok { OnOk result (Contains (pair_bucket self.new a b) index) }
     {
         self.reach(alloc, a)?;
-        self.rows[a].push(alloc, b, index)
+        self.rows[a].push(alloc, b, index)?;
+        Ok(())
     }
 }

@@ -76,14 +76,14 @@ impl RuleTable {
         // If memory runs out, nothing changes.
         ensures unchanged { OnErr result (self.new ≡ self.old) }
     {
-        unreachable!()
+        self.table.push(alloc, left, right)
     }
 
     /// Takes out the rules from index n on. It takes no memory.
     pub fn truncate(&mut self, n: usize)
         ensures { self.new ≡ take n self.old }
     {
-        self.table.rules.truncate(n);
+        self.table.truncate(n);
     }
 
     /// Replaces the right side of a rule. It takes no memory.
@@ -91,6 +91,6 @@ impl RuleTable {
         requires { i < length self.old }
         ensures { self.new ≡ set self.old i (record { left = (rule_at self.old i).left; right = right }) }
     {
-        self.table.rules[i].right = right;
+        self.table.set_right(i, right);
     }
 }

@@ -1,6 +1,6 @@
 //! Rules with the letters of their left sides.
 ghost use Rattle.std.specs.Prelude.{◌≡◌, ◌≢◌, ◌↔◌, ◌≤◌, ◌<◌, ◌+◌, ◌^◌, ℕ, [], length, Contains, IfOk, IsTrue};
-ghost use Rattle.monomial_order.specs.Monomial.{Divides};
+ghost use Rattle.monomial_order.specs.Monomial.{exponent, Divides};
 ghost use Rattle.word_rules.specs.Index.{rule_of, AreLettersOf, HasLetters};
 
 use monomial_order::{Memory, Monomial};
@@ -14,9 +14,17 @@ pub(crate) struct WordRule {
     pub(crate) letters: Vec<usize>,
 }
 
+/// The exponent of a letter in the word with these exponents.
+pub(crate) fn exponent_in(word: &[u16], letter: usize) -> u16
+    ensures { result ≡ exponent word.now letter }
+{
+    if letter < word.len() { word[letter] } else { 0 }
+}
+
 /// The letters of a word, rising.
 fn letters_of(alloc: Global, word: &Monomial) -> Result<Vec<usize>, Memory>
-    ensures { IfOk result (λ v. AreLettersOf word.now v.items) }
+    ensures letters { IfOk result (λ v. AreLettersOf word.now v.items) }
+    ensures some { IfOk result (λ v. word.now ≢ [] → v.items ≢ []) }
 {
     let exponents = word.as_slice();
     let mut letters = Vec::new(alloc);
@@ -29,7 +37,7 @@ fn letters_of(alloc: Global, word: &Monomial) -> Result<Vec<usize>, Memory>
 }
 
 /// The two last letters, or the only one twice.
-fn last_two(letters: &[usize]) -> (usize, usize)
+pub(crate) fn last_two(letters: &[usize]) -> (usize, usize)
     requires { letters.now ≢ [] }
     ensures last { Contains letters.now result.0 }
     ensures next { Contains letters.now result.1 }
@@ -51,6 +59,7 @@ impl WordRule {
         ensures left { IfOk result (λ r. r.left ≡ left) }
         ensures right { IfOk result (λ r. r.right ≡ right) }
         ensures letters { IfOk result HasLetters }
+        ensures some { IfOk result (λ r. left ≢ [] → r.letters.items ≢ []) }
     {
         let letters = letters_of(alloc, &left)?;
         Ok(WordRule {
@@ -66,7 +75,7 @@ impl WordRule {
         ensures { IsTrue result ↔ Divides self.now.left word.now }
     {
         'letters: for letter in self.letters.as_slice() {
-            if *letter >= word.len() || word[*letter] < self.left.exponent(*letter) {
+            if exponent_in(word, *letter) < self.left.exponent(*letter) {
                 return false;
             }
         }

@@ -1,0 +1,4 @@
+pub mod Listing
+pub mod Grown
+pub mod Letters
+pub mod Indexes
