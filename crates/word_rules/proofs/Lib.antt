@@ -2,3 +2,4 @@ pub mod Listing
 pub mod Grown
 pub mod Letters
 pub mod Indexes
+pub mod Lefts

@@ -3,7 +3,7 @@ use Rattle.std.specs.Prelude.{◌≡◌, ◌≢◌, ◌⊎◌, ℕ, ◌≤◌, �
 use Rattle.monomial_order.specs.Limits.{exponent_max}
 use Rattle.monomial_order.specs.Monomial.{Exponents, IsMonomial, AreCoprime}
 use Rattle.monomial_order.specs.MonomialOrder.{MonomialOrder}
-use Rattle.word_rewriting.specs.Rewriting.{WordOrZero, RewriteRule, IsCriticalPair, IsNormalForm}
+use Rattle.word_rewriting.specs.Rewriting.{WordOrZero, RewriteRule, RewritesBy, IsCriticalPair, IsNormalForm}
 use Rattle.word_rewriting.specs.laws.Confluence.{IsDecreasingRule}
 
 abbrev pub no_rule : RewriteRule
@@ -28,6 +28,12 @@ pub record AreSharing (R : List RewriteRule) (j : ℕ) (indexes : List ℕ) : Ty
   pub share : (i : ℕ) → Contains indexes i → ¬ AreCoprime (rule_at R i).left (rule_at R j).left
   pub all : (i : ℕ) → i < j → AreCoprime (rule_at R i).left (rule_at R j).left ⊎ Contains indexes i
   pub once : AllPairs (λ i k. i ≢ k) indexes
+
+-- the rule rewrites w to something of which u is a normal form
+pub record IsFormAfter (R : List RewriteRule) (r : RewriteRule) (w : Exponents) (u : WordOrZero) : Type 0 where
+  pub result : WordOrZero
+  pub by : RewritesBy r w result
+  pub form : IsNormalForm R result u
 
 -- u and v are normal forms of the two members of the critical pair of r and s
 pub record ArePairForms (R : List RewriteRule) (r s : RewriteRule) (u v : WordOrZero) : Type 0 where

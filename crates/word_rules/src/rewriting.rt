@@ -1,15 +1,80 @@
 //! Normal forms of words and of critical pairs.
 ghost use Rattle.std.specs.Prelude.{◌≡◌, ◌<◌, ◌≤◌, length, IfOk, Some};
 ghost use Rattle.monomial_order.specs.Limits.{exponent_max};
-ghost use Rattle.monomial_order.specs.Monomial.{least_common_multiple, weighted_degree};
-ghost use Rattle.word_rewriting.specs.Rewriting.{IsNormalForm};
-ghost use Rattle.word_rules.specs.Rules.{rule_at, AreDecreasing, ArePairForms, IsSmallWord};
+ghost use Rattle.monomial_order.specs.Monomial.{least_common_multiple, weighted_degree, Divides};
+ghost use Rattle.word_rewriting.specs.Rewriting.{IsNormalForm, RewritesBy};
+ghost use Rattle.word_rewriting.specs.laws.Confluence.{IsBelow};
+ghost use Rattle.word_rules.specs.Rules.{rule_at, AreDecreasing, ArePairForms, IsFormAfter, IsSmallWord};
 
 use crate::RuleTable;
 use monomial_order::{Memory, Monomial, Order};
 use std::alloc::Global;
 
 impl RuleTable {
+    /// What a rule rewrites a multiple of its left side to; None is zero.
+    fn step<O: Order>(
+        &self,
+        alloc: Global,
+        o: &O,
+        i: usize,
+        word: &Monomial,
+    ) -> Result<Option<Monomial>, Memory>
+        requires decreasing { AreDecreasing (O.order o.now) self.now }
+        requires inside { i < length self.now }
+        requires divides { Divides (rule_at self.now i).left word.now }
+        requires word { IsSmallWord (O.order o.now) word.now }
+        ensures by { IfOk result (RewritesBy (rule_at self.now i) word.now) }
+        ensures below { IfOk result (IsBelow (O.order o.now) word.now) }
+    {
+        let Some(cofactor) = word.quotient(alloc, self.left(i))? else {
+            unreachable!()
+        };
+        match self.right(i) {
+            None => Ok(None),
+            Some(right) => Ok(Some(cofactor.times(alloc, right)?)),
+        }
+    }
+
+    /// A normal form of a word.
+    fn finish<O: Order>(
+        &self,
+        alloc: Global,
+        o: &O,
+        mut word: Monomial,
+    ) -> Result<Option<Monomial>, Memory>
+        requires decreasing { AreDecreasing (O.order o.now) self.now }
+        requires word { IsSmallWord (O.order o.now) word }
+        ensures { IfOk result (IsNormalForm self.now (Some word)) }
+    {
+        'rewrite: while let Some(i) = self.find_left_divisor(&word) {
+            match self.step(alloc, o, i, &word)? {
+                Some(next) => word = next,
+                None => return Ok(None),
+            }
+        }
+        Ok(Some(word))
+    }
+
+    /// A normal form of what a rule rewrites a multiple of its left side to.
+    fn form_after<O: Order>(
+        &self,
+        alloc: Global,
+        o: &O,
+        i: usize,
+        word: &Monomial,
+    ) -> Result<Option<Monomial>, Memory>
+        requires decreasing { AreDecreasing (O.order o.now) self.now }
+        requires inside { i < length self.now }
+        requires divides { Divides (rule_at self.now i).left word.now }
+        requires word { IsSmallWord (O.order o.now) word.now }
+        ensures { IfOk result (IsFormAfter self.now (rule_at self.now i) word.now) }
+    {
+        match self.step(alloc, o, i, word)? {
+            Some(next) => self.finish(alloc, o, next),
+            None => Ok(None),
+        }
+    }
+
     /// A normal form of a word; None is zero. The order is read by nothing: in it the rules rewrite to smaller words,
     /// so the steps end and every exponent fits.
     pub fn rewrite<O: Order>(
@@ -22,7 +87,8 @@ impl RuleTable {
         requires word { IsSmallWord (O.order o.now) word.now }
         ensures { IfOk result (IsNormalForm self.now (Some word.now)) }
     {
-        unreachable!()
+        let word = word.copy(alloc)?;
+        self.finish(alloc, o, word)
     }
 
     /// The least common multiple of two left sides.
@@ -62,6 +128,9 @@ impl RuleTable {
             (least_common_multiple (rule_at self.now i).left (rule_at self.now j).left) }
         ensures { IfOk result (λ (u, v). ArePairForms self.now (rule_at self.now i) (rule_at self.now j) u v) }
     {
-        unreachable!()
+        let multiple = self.lcm(alloc, i, j)?;
+        let first = self.form_after(alloc, o, i, &multiple)?;
+        let second = self.form_after(alloc, o, j, &multiple)?;
+        Ok((first, second))
     }
 }

@@ -2,7 +2,7 @@
 ghost use Rattle.std.specs.Prelude.{◌≡◌, ◌≢◌, ◌↔◌, ◌<◌, ℕ, length, Contains, IsNone, IsTrue, IfSome};
 ghost use Rattle.monomial_order.specs.Monomial.{exponent, Divides};
 ghost use Rattle.word_rewriting.specs.Rewriting.{HasLeftDivisor};
-ghost use Rattle.word_rules.specs.Index.{bucket, lefts_of, list_at, pair_bucket, IsIndexed};
+ghost use Rattle.word_rules.specs.Index.{bucket, lefts_of, list_at, rules_of, IsIndexed};
 ghost use Rattle.word_rules.specs.Rules.{rule_at};
 
 use crate::RuleTable;
@@ -12,6 +12,15 @@ use crate::word_rule::exponent_in;
 use monomial_order::Monomial;
 
 impl Table {
+    /// Whether the index is one of a rule, and its left side divides the word.
+    fn rule_divides(&self, i: usize, word: &[u16]) -> bool
+        requires { IsIndexed self.now }
+        ensures { IsTrue result ↔ ((i < length self.now.rules.items)
+            × Divides (list_at (lefts_of self.now.rules.items) i) word.now) }
+    {
+        i < self.rules.len() && self.rules[i].divides(word)
+    }
+
     /// The first of these indexes that is one of a rule whose left side divides the word.
     fn find_among(&self, indexes: &[usize], word: &[u16]) -> Option<usize>
         requires { IsIndexed self.now }
@@ -21,7 +30,7 @@ impl Table {
             → ¬ Divides (list_at (lefts_of self.now.rules.items) i) word.now }
     {
         'indexes: for i in indexes {
-            if *i < self.rules.len() && self.rules[*i].divides(word) {
+            if self.rule_divides(*i, word) {
                 return Some(*i);
             }
         }
@@ -38,9 +47,9 @@ impl Table {
     {
         'letters: for b in 0..row.lists.len() {
             if exponent_in(word, b) > 0 {
-                let found = self.find_among(row.get(b), word);
-                if found.is_some() {
-                    return found;
+                match self.find_among(row.get(b), word) {
+                    Some(i) => return Some(i),
+                    None => {}
                 }
             }
         }
@@ -51,15 +60,15 @@ impl Table {
     pub(crate) fn find(&self, word: &[u16]) -> Option<usize>
         requires { IsIndexed self.now }
         ensures inside { IfSome result (λ i. i < length self.now.rules.items) }
-        ensures divides { IfSome result (λ i. Divides (list_at (lefts_of self.now.rules.items) i) word.now) }
+        ensures divides { IfSome result (λ i. Divides (rule_at (rules_of self.now.rules.items) i).left word.now) }
         ensures none { IsNone result → (i : ℕ) → i < length self.now.rules.items
-            → ¬ Divides (list_at (lefts_of self.now.rules.items) i) word.now }
+            → ¬ Divides (rule_at (rules_of self.now.rules.items) i).left word.now }
     {
         'letters: for a in 0..self.by_pair.rows.len() {
             if exponent_in(word, a) > 0 {
-                let found = self.find_in_row(&self.by_pair.rows[a], word);
-                if found.is_some() {
-                    return found;
+                match self.find_in_row(&self.by_pair.rows[a], word) {
+                    Some(i) => return Some(i),
+                    None => {}
                 }
             }
         }
