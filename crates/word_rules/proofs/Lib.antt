@@ -3,3 +3,4 @@ pub mod Grown
 pub mod Letters
 pub mod Indexes
 pub mod Lefts
+pub mod Steps
