@@ -4,3 +4,4 @@ pub mod Letters
 pub mod Indexes
 pub mod Lefts
 pub mod Steps
+pub mod Shared

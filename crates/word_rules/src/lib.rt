@@ -7,6 +7,7 @@
 #![tactic(auto)]
 
 mod buckets;
+mod marks;
 mod pairs;
 mod rewriting;
 mod rule_table;
