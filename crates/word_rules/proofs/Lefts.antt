@@ -1,5 +1,5 @@
 -- Left sides of the rules of a table.
-use Rattle.std.proofs.Common.{◌≡◌, ◌≢◌, ℕ, zero, suc, ◌+◌, ◌≤◌, ◌<◌, refl, sym, ◌∙◌, ap, subst, List, [], ◌∷◌, length, arith, get_or, ◌⊎◌, inl, inr, ⊎_elim}
+use Rattle.std.proofs.Common.{◌≡◌, ◌≢◌, ℕ, zero, suc, ◌≤◌, ◌<◌, refl, sym, ◌∙◌, subst, List, [], ◌∷◌, length, arith, get_or, ⊎_elim}
 use Rattle.std.specs.Prelude.{Contains, map}
 use Rattle.std.proofs.lemmas.List.{get_or_default, get_or_past, length-map}
 use Rattle.monomial_order.specs.Monomial.{Exponents, exponent, Divides}
@@ -10,7 +10,7 @@ use Rattle.word_rules.specs.declared.word_rule.WordRule.{WordRule}
 use Rattle.word_rules.specs.declared.buckets.Buckets.{Buckets}
 use Rattle.word_rules.specs.declared.pairs.PairIndex.{PairIndex}
 use Rattle.word_rules.specs.declared.table.Table.{Table}
-use Rattle.word_rules.specs.Index.{AreLettersOf, HasLetters, IsIndexFor, IsIndexed, lefts_of, letter_lists, bucket, list_at, pair_bucket, rules_of}
+use Rattle.word_rules.specs.Index.{AreLettersOf, HasLetters, IsIndexed, lefts_of, letter_lists, bucket, list_at, pair_bucket, rules_of}
 use Rattle.word_rules.specs.Rules.{no_rule, rule_at}
 use Rattle.word_rules.proofs.Listing.{at_read}
 

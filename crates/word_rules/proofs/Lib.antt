@@ -5,3 +5,4 @@ pub mod Indexes
 pub mod Lefts
 pub mod Steps
 pub mod Shared
+pub mod Sums

@@ -1,5 +1,5 @@
 -- Values of the members of a list, by index.
-use Rattle.std.proofs.Common.{◌≡◌, ◌≢◌, ℕ, zero, suc, ◌<◌, refl, sym, ◌∙◌, ap, subst, List, [], ◌∷◌, ◌++◌, length, arith, get_or, set, ◌⊎◌, ⊎_elim}
+use Rattle.std.proofs.Common.{◌≡◌, ◌≢◌, ℕ, zero, suc, ◌<◌, refl, sym, ◌∙◌, ap, subst, List, [], ◌∷◌, ◌++◌, length, arith, get_or, set, ⊎_elim}
 use Rattle.std.specs.Prelude.{map}
 use Rattle.monomial_order.specs.laws.Comparing.{numbers_or_not}
 

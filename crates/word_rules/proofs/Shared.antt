@@ -1,12 +1,11 @@
 -- Rules that share a letter.
-use Rattle.std.proofs.Common.{◌≡◌, ◌≢◌, ℕ, ◌+◌, ◌≤◌, ◌<◌, Bool, true, false, refl, sym, ◌∙◌, ap, subst, List, [], ◌∷◌, ◌++◌, length, arith, get_or, set, below_more, ◌⊎◌, inl, inr, ⊎_elim}
+use Rattle.std.proofs.Common.{◌≡◌, ◌≢◌, ℕ, ◌+◌, ◌≤◌, ◌<◌, true, false, refl, sym, ◌∙◌, ap, subst, List, [], ◌∷◌, ◌++◌, length, arith, get_or, set, below_more, ◌⊎◌, inl, inr, ⊎_elim}
 use Rattle.std.specs.Prelude.{Contains, AllPairs}
 use Rattle.std.proofs.lemmas.List.{get_or_append_left, get_or_push, length_push, get_or_default, get_or-set_same, get_or-set_other}
 use Rattle.monomial_order.specs.Monomial.{Exponents, exponent, AreCoprime}
 use Rattle.monomial_order.specs.laws.Comparing.{numbers_or_not}
-use Rattle.monomial_order.specs.laws.Lists.{contains_at, contains_either, contains_here, contains_left, contains_none, contains_right, find_member}
+use Rattle.monomial_order.specs.laws.Lists.{contains_at, contains_either, contains_here, contains_left, contains_right, find_member}
 use Rattle.word_rules.specs.declared.marks.Marks.{Marks}
-use Rattle.word_rules.specs.declared.table.Table.{Table}
 use Rattle.word_rules.specs.declared.buckets.Buckets.{Buckets}
 use Rattle.word_rules.specs.declared.pairs.PairIndex.{PairIndex}
 use Rattle.word_rules.specs.declared.word_rule.WordRule.{WordRule}

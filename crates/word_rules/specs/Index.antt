@@ -1,5 +1,5 @@
 -- The index of a table of rules.
-use Rattle.std.specs.Prelude.{◌≡◌, ◌≢◌, ◌↔◌, ℕ, ◌<◌, List, [], length, map, slice_index_or, Contains}
+use Rattle.std.specs.Prelude.{◌≢◌, ◌↔◌, ℕ, ◌<◌, List, [], length, map, slice_index_or, Contains}
 use Rattle.monomial_order.specs.Monomial.{Exponents, exponent}
 use Rattle.word_rewriting.specs.Rewriting.{RewriteRule}
 use Rattle.word_rules.specs.declared.word_rule.WordRule.{WordRule}

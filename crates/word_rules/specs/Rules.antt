@@ -1,5 +1,5 @@
 -- What calls of a table of rules need and promise.
-use Rattle.std.specs.Prelude.{◌≡◌, ◌≢◌, ◌⊎◌, ℕ, ◌≤◌, ◌<◌, List, [], slice_index_or, Contains, AllPairs, None}
+use Rattle.std.specs.Prelude.{◌≢◌, ◌⊎◌, ℕ, ◌≤◌, ◌<◌, List, [], slice_index_or, Contains, AllPairs, None}
 use Rattle.monomial_order.specs.Limits.{exponent_max}
 use Rattle.monomial_order.specs.Monomial.{Exponents, IsMonomial, AreCoprime}
 use Rattle.monomial_order.specs.MonomialOrder.{MonomialOrder}

@@ -1,5 +1,5 @@
 -- Rules that share a letter, letter by letter.
-use Rattle.std.specs.Prelude.{◌≡◌, ◌≢◌, ◌⊎◌, ◌↔◌, ℕ, ◌<◌, List, length, true, false, slice_index_or, Contains, AllPairs}
+use Rattle.std.specs.Prelude.{◌≡◌, ◌≢◌, ◌⊎◌, ℕ, ◌<◌, List, length, true, false, slice_index_or, Contains, AllPairs}
 use Rattle.monomial_order.specs.Monomial.{Exponents, exponent}
 use Rattle.word_rules.specs.declared.marks.Marks.{Marks}
 use Rattle.word_rules.specs.Index.{list_at}

@@ -7,6 +7,7 @@
 #![tactic(auto)]
 
 mod buckets;
+mod degrees;
 mod marks;
 mod pairs;
 mod rewriting;

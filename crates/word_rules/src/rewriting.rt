@@ -1,7 +1,6 @@
 //! Normal forms of words and of critical pairs.
-ghost use Rattle.std.specs.Prelude.{◌≡◌, ◌<◌, ◌≤◌, length, IfOk, Some};
-ghost use Rattle.monomial_order.specs.Limits.{exponent_max};
-ghost use Rattle.monomial_order.specs.Monomial.{least_common_multiple, weighted_degree, Divides};
+ghost use Rattle.std.specs.Prelude.{◌≡◌, ◌<◌, length, IfOk, Some};
+ghost use Rattle.monomial_order.specs.Monomial.{least_common_multiple, Divides};
 ghost use Rattle.word_rewriting.specs.Rewriting.{IsNormalForm, RewritesBy};
 ghost use Rattle.word_rewriting.specs.laws.Confluence.{IsBelow};
 ghost use Rattle.word_rules.specs.Rules.{rule_at, AreDecreasing, ArePairForms, IsFormAfter, IsSmallWord};
@@ -99,18 +98,6 @@ impl RuleTable {
             m ≡ least_common_multiple (rule_at self.now i).left (rule_at self.now j).left) }
     {
         self.left(i).lcm(alloc, self.left(j))
-    }
-
-    /// The degree of the least common multiple of two left sides, by the degrees of the letters. It takes no memory.
-    pub fn lcm_degree(&self, degrees: &[u32], i: usize, j: usize) -> u32
-        requires first { i < length self.now }
-        requires second { j < length self.now }
-        requires small { weighted_degree degrees.now
-            (least_common_multiple (rule_at self.now i).left (rule_at self.now j).left) ≤ exponent_max }
-        ensures { result ≡ weighted_degree degrees.now
-            (least_common_multiple (rule_at self.now i).left (rule_at self.now j).left) }
-    {
-        unreachable!()
     }
 
     /// Normal forms of both members of the critical pair of two rules; None is zero.

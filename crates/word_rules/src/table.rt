@@ -47,7 +47,12 @@ impl Table {
     }
 
     /// Puts a rule at the end.
-    pub(crate) fn push(&mut self, alloc: Global, left: Monomial, right: Option<Monomial>) -> Result<(), Memory>
+    pub(crate) fn push(
+        &mut self,
+        alloc: Global,
+        left: Monomial,
+        right: Option<Monomial>,
+    ) -> Result<(), Memory>
         requires indexed { IsIndexed self.old }
         requires left { left ≢ [] }
         ensures indexed { IsIndexed self.new }

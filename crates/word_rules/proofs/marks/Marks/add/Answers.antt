@@ -1,4 +1,4 @@
-use Rattle.std.proofs.Common.{◌≡◌, true, false, get_or, length, refl, sym, ◌∙◌}
+use Rattle.std.proofs.Common.{true, false, refl, sym, ◌∙◌}
 use Rattle.std.proofs.lemmas.List.{get_or_read, length-set}
 use Rattle.word_rules.proofs.Shared.{marked}
 use Rattle.word_rules.proofs.marks.Marks.add.Goals as goal

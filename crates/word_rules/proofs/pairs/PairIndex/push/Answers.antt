@@ -1,4 +1,4 @@
-use Rattle.std.proofs.Common.{[], get_or, sym, subst}
+use Rattle.std.proofs.Common.{sym, subst}
 use Rattle.std.specs.Prelude.{Contains}
 use Rattle.word_rules.proofs.Grown.{row_has, row_kept}
 use Rattle.word_rules.proofs.pairs.PairIndex.push.Goals as goal

@@ -1,4 +1,4 @@
-use Rattle.std.proofs.Common.{◌≡◌, refl, subst, Some, None, IfOk}
+use Rattle.std.proofs.Common.{subst, Some, None}
 use Rattle.monomial_order.specs.laws.Rank.{rank_falls}
 use Rattle.word_rewriting.specs.Rewriting.{RewritesBy, stays}
 use Rattle.word_rewriting.specs.laws.Confluence.{IsBelow}

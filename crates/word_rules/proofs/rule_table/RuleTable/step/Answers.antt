@@ -2,7 +2,7 @@ use Rattle.std.proofs.Common.{◌≡◌, refl, sym, ◌∙◌, ap, subst, Some}
 use Rattle.std.specs.Prelude.{IfSome}
 use Rattle.monomial_order.specs.Monomial.{product, IsTrimmed}
 use Rattle.monomial_order.specs.laws.Monomial.{product_comm}
-use Rattle.word_rewriting.specs.Rewriting.{RewritesBy, multiple}
+use Rattle.word_rewriting.specs.Rewriting.{multiple}
 use Rattle.word_rules.specs.Rules.{rule_at}
 use Rattle.word_rules.proofs.Steps.{below, result_fits, rewrites_multiple_to}
 use Rattle.word_rules.proofs.rule_table.RuleTable.step.Goals as goal

@@ -1,4 +1,4 @@
-use Rattle.std.proofs.Common.{◌≡◌, ◌≤◌, length, refl, sym, subst, below_more, rules, arith}
+use Rattle.std.proofs.Common.{◌≡◌, length, refl, sym, subst, below_more, rules, arith}
 use Rattle.std.specs.Prelude.{Contains}
 use Rattle.word_rules.proofs.Lefts.{bucket_within}
 use Rattle.word_rules.proofs.table.Table.find_in_row.Goals as goal
@@ -6,8 +6,8 @@ use Rattle.word_rules.proofs.table.Table.find_in_row.Goals.{then-exponent_in-gt0
 
 pub letters-preserved : goal.letters-preserved
 letters-preserved c = below_more _ _ c.letters.invariant (elim c.if-exponent_in-gt0.branch [
-    then-exponent_in-gt0+in-None w ↦ λ i e k. w.in-None.ensures.none refl i (subst (λ xs. Contains xs i) (sym w.get.ensures) k)
-    | else-exponent_in-gt0 w ↦ λ i e. absurd (e (let z = w.if-exponent_in-gt0.false in let q = c.exponent_in.ensures in omega arith))
+  | then-exponent_in-gt0+in-None w ↦ λ i e k. w.in-None.ensures.none refl i (subst (λ xs. Contains xs i) (sym w.get.ensures) k)
+  | else-exponent_in-gt0 w ↦ λ i e. absurd (e (let z = w.if-exponent_in-gt0.false in let q = c.exponent_in.ensures in omega arith))
 ])
 
 pub returns-clause-none : goal.returns-clause-none

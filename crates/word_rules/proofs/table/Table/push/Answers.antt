@@ -15,8 +15,8 @@ returns-clause-indexed c =
     let i : c.len-i.result ≡ length u.rules.items = n ∙ ap length (sym same) in
     let value = c.as_slice.ensures.value in
     let listed : (a : ℕ) → Contains r.letters.items a → Contains (bucket u.by_letter a) (length u.rules.items) = λ a h.
-        subst (Contains (bucket u.by_letter a)) i (c.in_ok-push_index.ensures.listed a (subst (λ ls. Contains ls a) (sym value) h)) in
+    subst (Contains (bucket u.by_letter a)) i (c.in_ok-push_index.ensures.listed a (subst (λ ls. Contains ls a) (sym value) h)) in
     let paired : HasPair u.by_pair r.letters.items (length u.rules.items) =
-        subst (HasPair u.by_pair r.letters.items) i (subst (λ ls. HasPair u.by_pair ls c.len-i.result) value c.in_ok-push_index.ensures.paired) in
+    subst (HasPair u.by_pair r.letters.items) i (subst (λ ls. HasPair u.by_pair ls c.len-i.result) value c.in_ok-push_index.ensures.paired) in
     subst (λ rs. IsIndexFor (lefts_of rs) (letter_lists rs) u.by_letter u.by_pair) (sym c.push_reserved.ensures.items)
     (table_pushed u r kept c.in_ok-rule.ensures.letters listed paired)

@@ -1,4 +1,4 @@
-use Rattle.std.proofs.Common.{◌≡◌, ◌<◌, length, rules, arith}
+use Rattle.std.proofs.Common.{◌≡◌, length, rules, arith}
 use Rattle.word_rules.proofs.Lefts.{read_letters}
 use Rattle.word_rules.proofs.table.Table.rule_divides.Goals as goal
 

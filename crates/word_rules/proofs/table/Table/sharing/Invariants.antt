@@ -1,4 +1,3 @@
-use Rattle.std.proofs.Common.{ℕ, ◌<◌, length, get_or}
 use Rattle.word_rules.specs.Index.{lefts_of}
 use Rattle.word_rules.proofs.Shared.{AreSharedSoFar}
 use Rattle.word_rules.proofs.table.Table.sharing.Given as goal
