@@ -25,6 +25,7 @@ pub mod rows;
 mod shelves;
 #[cfg(test)]
 mod stops;
+mod tables;
 #[cfg(test)]
 mod texts;
 #[cfg(test)]
