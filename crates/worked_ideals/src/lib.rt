@@ -1,13 +1,7 @@
-//! Cases of ideals and of words, worked out by hand, as rows of text. The crate has tests alone.
+//! Tests of ideals and of bases of monomials: cases that were worked out by hand, as rows of text.
 #![tactic(auto)]
 
 #[cfg(test)]
 mod bases;
 #[cfg(test)]
 mod quotients;
-#[cfg(test)]
-mod walk;
-#[cfg(test)]
-mod words;
-#[cfg(test)]
-mod zeros;

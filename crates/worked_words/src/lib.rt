@@ -1,0 +1,11 @@
+//! Tests of words and of tables of rules: cases that were worked out by hand, as rows of text.
+#![tactic(auto)]
+
+#[cfg(test)]
+mod tables;
+#[cfg(test)]
+mod walk;
+#[cfg(test)]
+mod words;
+#[cfg(test)]
+mod zeros;
