@@ -1,6 +1,5 @@
 pub mod CanonicalReading
 pub mod Fronts
-pub mod GrammarFaultRead
 pub mod GrammarFaultReads
 pub mod GrammarRead
 pub mod GrammarReads
