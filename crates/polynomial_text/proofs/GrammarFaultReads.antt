@@ -23,10 +23,9 @@ use Rattle.polynomial_text.specs.Grammar.{AreBlanks}
 use Rattle.polynomial_text.specs.GrammarFaults.{IsLongNumber, IsBase, IsFrontFactor, IsFactorFault, no_factor, long_number, unknown_name, no_exponent, long_exponent, high_degree, no_end, IsProductFault, in_factor, in_later_factor, IsSumFault, in_term, in_later_term, IsUnsigned, IsLineFault}
 use Rattle.polynomial_text.specs.laws.CanonicalFactors.{name_begins}
 use Rattle.polynomial_text.specs.laws.CanonicalParts.{Begins, lack_from, begins_append, begins_stops, front_all, behind_all, digit_in_name, name_no_blank, blank_no_sign, letter_no_digit, is_star}
-use Rattle.polynomial_text.specs.laws.Fronts.{parts_split}
+use Rattle.polynomial_text.specs.laws.Fronts.{parts_split, terms_behind, terms_split, sign_left_out, no_sign}
 use Rattle.polynomial_text.specs.laws.Names.{name_bytes, place_found}
 use Rattle.polynomial_text.proofs.GrammarReads.{begins_digit, blank_then, raised_at, star_apart, name_form, factor_begins, factor_derived, with_derived, spaced_lacks, product_lacks, term_derived, next_parts}
-use Rattle.polynomial_text.proofs.LineParts.{terms_behind, terms_split, sign_left_out, no_sign}
 use Rattle.polynomial_text.proofs.LinePlaces.{no_place}
 
 -- ---- numbers

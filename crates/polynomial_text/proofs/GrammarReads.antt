@@ -22,9 +22,8 @@ use Rattle.polynomial_text.specs.GrammarFaults.{EndsExponent, EndsFactor}
 use Rattle.polynomial_text.specs.laws.CanonicalFactors.{factor_digits, factor_name, name_begins}
 use Rattle.polynomial_text.specs.laws.CanonicalParts.{Begins, Lack, all_append, behind_blanks, lack_from, lack_append, begins_append, stops_from, begins_stops, behind_all, digit_in_name, name_no_blank, blank_no_sign, blank_no_star, blank_no_name, blank_no_digit, is_star, differs, number_digits, parts_none, parts_signed}
 use Rattle.polynomial_text.specs.laws.Names.{name_bytes, place_found}
-use Rattle.polynomial_text.proofs.Fronts.{front_passes}
-use Rattle.polynomial_text.proofs.GrammarRead.{front_behind, blanks_behind}
-use Rattle.polynomial_text.proofs.LineParts.{sign_left_out, no_sign}
+use Rattle.polynomial_text.specs.laws.Fronts.{sign_left_out, no_sign, front_passes}
+use Rattle.polynomial_text.specs.laws.GrammarRead.{front_behind, blanks_behind}
 
 -- ---- numbers and exponents
 

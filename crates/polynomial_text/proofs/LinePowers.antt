@@ -1,9 +1,9 @@
 -- Powers of a variable, and the degrees of products with them.
-use Rattle.std.proofs.Common.{◌≡◌, ℕ, zero, suc, ◌+◌, ◌*◌, ◌<◌, ◌≤◌, true, leb, List, [], ◌∷◌, ◌++◌, take, replicate, ◌-◌, false, refl, sym, ap, ◌∙◌, arith, Result, Ok, Err}
+use Rattle.std.proofs.Common.{◌≡◌, ℕ, zero, suc, ◌+◌, ◌*◌, ◌<◌, ◌≤◌, true, leb, List, [], ◌∷◌, ◌++◌, take, replicate, ◌-◌, refl, sym, ap, ◌∙◌, arith, Result, Ok, Err}
 use Rattle.std.specs.Result.{IfOk}
-use Rattle.std.proofs.lemmas.Bool.{leb-true, le-leb, lt-leb}
+use Rattle.std.proofs.lemmas.Bool.{leb-true, le-leb}
 use Rattle.monomial_order.specs.Monomial.{exponent, product, variable, IsTrimmed, IsMonomial}
-use Rattle.monomial_order.specs.laws.Monomial.{product-one, IsMonomial-product, product_fits}
+use Rattle.monomial_order.specs.laws.Monomial.{product-one, IsMonomial-product}
 use Rattle.monomial_order.specs.MonomialOrder.{MonomialOrder, IsMonomialOrder}
 use Rattle.monomial_order.specs.laws.Cofactors.{same_exponents}
 use Rattle.polynomials.specs.laws.ReducedBasis.{degree_one}

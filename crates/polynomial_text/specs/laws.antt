@@ -3,6 +3,7 @@ pub mod CanonicalParts
 pub mod CanonicalPoly
 pub mod CanonicalTerms
 pub mod Fronts
+pub mod GrammarRead
 pub mod Names
 pub mod Powers
 pub mod ReadTerms

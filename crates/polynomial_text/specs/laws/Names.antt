@@ -23,7 +23,7 @@ named_is (Some name) word h = ap Some ((bytes_eq-Decides name word).0 h)
 pub named_itself : (word : List ℕ) → is_named (Some word) word ≡ true
 named_itself word = (bytes_eq-Decides word word).1 refl
 
-is_some : (found : Option (List ℕ)) (word : List ℕ) → found ≡ Some word → IsSome found
+pub is_some : (found : Option (List ℕ)) (word : List ℕ) → found ≡ Some word → IsSome found
 is_some found word e = rw e refl
 
 module _ (places : ℕ) (names : Names) (D : AreDifferent places names) where

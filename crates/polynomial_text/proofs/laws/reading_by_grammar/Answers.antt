@@ -1,6 +1,6 @@
 use Rattle.std.proofs.Common.{subst}
 use Rattle.polynomial_text.proofs.GrammarFaultReads.{fault_stops}
-use Rattle.polynomial_text.proofs.GrammarRead.{IsLineResult, line_result}
+use Rattle.polynomial_text.specs.laws.GrammarRead.{IsLineResult, line_result}
 use Rattle.polynomial_text.proofs.GrammarReads.{line_derived}
 use Rattle.polynomial_text.proofs.laws.reading_by_grammar.Goals as goal
 

@@ -21,10 +21,8 @@ use Rattle.polynomial_text.specs.PolyLine.{number_at, exponent_at, power, place_
 use Rattle.polynomial_text.specs.Grammar.{AreBlanks, IsNumber, IsExponent, sign_byte, IsConstant, IsPower, IsSpacedFactor, IsNextProduct, IsProduct, one_factor, factors, IsTermOf, IsSum, one_term, terms, IsLine}
 use Rattle.polynomial_text.specs.GrammarFaults.{IsLongNumber, EndsExponent, EndsFactor, IsBase, IsFrontFactor, IsFactorFault, no_factor, long_number, unknown_name, no_exponent, long_exponent, high_degree, no_end, IsProductFault, in_factor, in_later_factor, IsSumFault, in_term, in_later_term, IsUnsigned, IsLineFault}
 use Rattle.polynomial_text.specs.laws.CanonicalParts.{all_append}
-use Rattle.polynomial_text.specs.laws.Fronts.{behind_stops, parts_split}
+use Rattle.polynomial_text.specs.laws.Fronts.{behind_stops, parts_split, terms_split, sign_left_out, no_sign, front_passes}
 use Rattle.polynomial_text.specs.laws.Names.{named_is, named_itself, letter_in_name, place_below}
-use Rattle.polynomial_text.proofs.Fronts.{front_passes}
-use Rattle.polynomial_text.proofs.LineParts.{terms_split, sign_left_out, no_sign}
 
 -- ---- fronts
 
