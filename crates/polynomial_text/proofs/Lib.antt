@@ -1,7 +1,6 @@
 pub mod CanonicalReading
 pub mod Fronts
 pub mod GrammarFaultReads
-pub mod GrammarReads
 pub mod LineAlong
 pub mod LineDigits
 pub mod LineParts

@@ -4,6 +4,7 @@ pub mod CanonicalPoly
 pub mod CanonicalTerms
 pub mod Fronts
 pub mod GrammarRead
+pub mod GrammarReads
 pub mod Names
 pub mod Powers
 pub mod ReadTerms

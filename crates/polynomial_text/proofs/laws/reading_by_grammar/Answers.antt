@@ -1,7 +1,7 @@
 use Rattle.std.proofs.Common.{subst}
 use Rattle.polynomial_text.proofs.GrammarFaultReads.{fault_stops}
 use Rattle.polynomial_text.specs.laws.GrammarRead.{IsLineResult, line_result}
-use Rattle.polynomial_text.proofs.GrammarReads.{line_derived}
+use Rattle.polynomial_text.specs.laws.GrammarReads.{line_derived}
 use Rattle.polynomial_text.proofs.laws.reading_by_grammar.Goals as goal
 
 pub returns-clause-terms : goal.returns-clause-terms
