@@ -18,7 +18,8 @@ use Rattle.polynomial_text.specs.Canonical.{AreDifferent}
 use Rattle.polynomial_text.specs.Grammar.{AreBlanks, IsSum, one_term, terms}
 use Rattle.polynomial_text.specs.laws.CanonicalParts.{Begins, begins_append, differs, name_no_blank}
 use Rattle.polynomial_text.specs.laws.GrammarReads.{line_derived, sum_in_line}
-use Rattle.polynomial_text.specs.laws.CanonicalTerms.{IsTextOfTerm, blanks_before, blanks_after, text_of_term, degree_one}
+use Rattle.polynomial_text.specs.laws.CanonicalTerms.{IsTextOfTerm, blanks_before, blanks_after, text_of_term}
+use Rattle.polynomials.specs.laws.ReducedBasis.{degree_one}
 
 begins_join : (x : List ℕ) (xs : List (List ℕ)) → Begins is_name_byte x → Begins is_name_byte (join (codes " + ") (x ∷ xs))
 begins_join x [] h = h
@@ -61,7 +62,7 @@ module _ {E : Type 0} (K : FieldOps E) (F : IsField K) (few : K.size ≤ 2 ^ 32)
   zero_text = text_of_term K F few O L names D (term_of [] K.zero) (record {
     term = record { monomial = record { trimmed = tt; within = omega arith }; value = F.zero_value };
     named = λ i ne. absurd (ne refl);
-    small = let d : O.degree [] ≡ 0 = degree_one K O L in omega arith;
+    small = let d : O.degree [] ≡ 0 = degree_one O L in omega arith;
   })
 
   zero_is : poly_text K names (term_of [] K.zero ∷ []) ≡ codes "0"

@@ -7,7 +7,7 @@ use Rattle.word_field.specs.Field.{FieldOps, IsField, IsValue}
 use Rattle.word_field.specs.laws.Field.{one-times}
 use Rattle.monomial_order.specs.declared.terms.Term.{Term}
 use Rattle.monomial_order.specs.Monomial.{product, exponent, IsTrimmed}
-use Rattle.monomial_order.specs.laws.Monomial.{product_assoc, product-one, exponent_past}
+use Rattle.monomial_order.specs.laws.Monomial.{product_assoc, product-one, exponent_past, trimmed_tail}
 use Rattle.monomial_order.specs.MonomialOrder.{MonomialOrder, IsMonomialOrder}
 use Rattle.poly_core.specs.declared.place_names.Names.{Names}
 use Rattle.poly_core.specs.Names.{name_at, name_of, is_name_byte, IsNamed}
@@ -45,10 +45,6 @@ power-product i e (f ∷ m) = step i
     step zero = ap (λ n. n ∷ (f ∷ m)) (add-zero (suc e))
     step (suc i) = ap (λ z. 0 ∷ z) (step i)
 
-trimmed_rest : (e : ℕ) (m : List ℕ) → IsTrimmed (e ∷ m) → IsTrimmed m
-trimmed_rest e [] h = tt
-trimmed_rest e (f ∷ m) h = h
-
 module _ {E : Type 0} (K : FieldOps E) where
   -- the powers from a place on
   abbrev pub powers : ℕ → List ℕ → Polynomial E
@@ -66,7 +62,7 @@ module _ {E : Type 0} (K : FieldOps E) where
   product_powers F k c i (zero ∷ (f ∷ m)) v h = product_powers F k c (suc i) (f ∷ m) v h ∙ ap (λ n. term_of (product k n) c) (sym (shifted-zero i f m))
   product_powers F k c i (suc e ∷ m) v h =
       ap (λ a. product_of (term_of (product k (power i (suc e))) a) (powers (suc i) m)) (F.times_one c ∙ v)
-      ∙ product_powers F (product k (power i (suc e))) c (suc i) m v (trimmed_rest (suc e) m h)
+      ∙ product_powers F (product k (power i (suc e))) c (suc i) m v (trimmed_tail (suc e) m h)
       ∙ ap (λ n. term_of n c) (product_assoc k (power i (suc e)) (shifted (suc i) m) ∙ ap (product k) (power-product i e m))
 
 module _ {E : Type 0} (K : FieldOps E) (O : MonomialOrder) (L : IsMonomialOrder O) where
@@ -74,9 +70,6 @@ module _ {E : Type 0} (K : FieldOps E) (O : MonomialOrder) (L : IsMonomialOrder 
   pub degree_grows : (t : Term E) (fs : Polynomial E) → O.degree t.at ≤ O.degree (product_of K t fs).at
   degree_grows t [] = omega arith
   degree_grows t (f ∷ fs) = omega (arith, L.degree_product t.at f.at, degree_grows (term_times K t f) fs)
-
-  pub degree_one : O.degree [] ≡ 0
-  degree_one = let d : O.degree [] ≡ O.degree [] + O.degree [] = L.degree_product [] [] in omega arith
 
 -- ---- products
 

@@ -1,9 +1,9 @@
 -- What a line is read as is derived from it by the grammar, and the fault with which reading stops is its first fault.
-use Rattle.std.proofs.Common.{◌≡◌, ℕ, zero, suc, ◌<◌, ◌≤◌, Bool, true, false, cond, not, ◌||◌, eqb, List, [], ◌∷◌, ◌++◌, length, Option, Some, None, Result, Ok, Err, nat_le, refl, sym, ap, subst, ◌∙◌, append_assoc, append-nil, inl, inr, ⊎_elim, arith}
+use Rattle.std.proofs.Common.{◌≡◌, ℕ, zero, suc, ◌<◌, ◌≤◌, Bool, true, false, cond, not, ◌||◌, eqb, List, [], ◌∷◌, ◌++◌, length, Option, Some, None, Result, Ok, Err, nat_le, refl, sym, ap, subst, ◌∙◌, append_assoc, append-nil, inl, inr, arith}
 use Rattle.std.specs.Prelude.{◌⊎◌}
 use Rattle.std.specs.List.{list_all, slice_split}
 use Rattle.std.specs.Str.Parse.{digits_value}
-use Rattle.std.proofs.lemmas.Bool.{leb-true, leb-false, eqb-true, and_parts, not-false, cases_eq, false_from_ne_true, true≢false}
+use Rattle.std.proofs.lemmas.Bool.{leb-true, leb-false, eqb-true, and_parts, not-false, false_from_ne_true, true≢false}
 use Rattle.std.proofs.lemmas.List.{length-append}
 use Rattle.word_field.specs.Field.{FieldOps}
 use Rattle.monomial_order.specs.declared.terms.Term.{Term}
@@ -12,17 +12,17 @@ use Rattle.monomial_order.specs.Monomial.{product}
 use Rattle.monomial_order.specs.MonomialOrder.{MonomialOrder}
 use Rattle.polynomials.specs.Polynomial.{Polynomial, term_of, term_times}
 use Rattle.poly_core.specs.declared.place_names.Names.{Names}
-use Rattle.poly_core.specs.Names.{name_at, is_letter, is_name_byte, has_name_form}
+use Rattle.poly_core.specs.Names.{is_letter, is_name_byte, has_name_form}
 use Rattle.polynomial_text.specs.declared.line_fault.LineKind.{LineKind}
 use Rattle.polynomial_text.specs.declared.line_fault.LineKind.TheVariants.{PolySyntax, NumberTooLong, DegreeTooLarge}
 use Rattle.polynomial_text.specs.Results.{◌>>=◌, along, each}
 use Rattle.polynomial_text.specs.Bytes.{is_blank, is_digit, is_sign, front, behind, Stops}
-use Rattle.polynomial_text.specs.PolyLine.{number_at, exponent_at, power, place_of, is_named, power_at, factor_at, with_factor, sign, term_at, behind_sign, signed_parts, terms_of}
+use Rattle.polynomial_text.specs.PolyLine.{number_at, exponent_at, power, place_of, power_at, factor_at, with_factor, sign, term_at, behind_sign, signed_parts, terms_of}
 use Rattle.polynomial_text.specs.Grammar.{AreBlanks, IsNumber, IsExponent, sign_byte, IsConstant, IsPower, IsSpacedFactor, IsNextProduct, IsProduct, one_factor, factors, IsTermOf, IsSum, one_term, terms, IsLine}
 use Rattle.polynomial_text.specs.GrammarFaults.{IsLongNumber, EndsExponent, EndsFactor, IsBase, IsFrontFactor, IsFactorFault, no_factor, long_number, unknown_name, no_exponent, long_exponent, high_degree, no_end, IsProductFault, in_factor, in_later_factor, IsSumFault, in_term, in_later_term, IsUnsigned, IsLineFault}
 use Rattle.polynomial_text.specs.laws.CanonicalParts.{all_append}
 use Rattle.polynomial_text.specs.laws.Fronts.{behind_stops, parts_split, terms_split, sign_left_out, no_sign, front_passes}
-use Rattle.polynomial_text.specs.laws.Names.{named_is, named_itself, letter_in_name, place_below}
+use Rattle.polynomial_text.specs.laws.Names.{IsPlaceResult, place_result, letter_in_name}
 
 -- ---- fronts
 
@@ -198,29 +198,6 @@ exponent_result bytes stop = by_rest (behind is_blank bytes) refl
 
 -- ---- names
 
-place_is_named : (names : Names) (n i : ℕ) (word : List ℕ) → place_of names n word ≡ Some i → name_at names i ≡ Some word
-unfolding place_of
-place_is_named names zero i word e = absurd cc
-place_is_named names (suc n) i word e =
-    elim (is_named (name_at names n) word) as (λ t. is_named (name_at names n) word ≡ t → cond t (Some n) (place_of names n word) ≡ Some i → name_at names i ≡ Some word) [
-      | true ↦ λ t h. let same : n ≡ i = cc in subst (λ (k : ℕ). name_at names k ≡ Some word) same (named_is (name_at names n) word t)
-      | false ↦ λ t h. place_is_named names n i word h
-    ] refl e
-
-never_named : (names : Names) (n : ℕ) (word : List ℕ) → place_of names n word ≡ None → (i : ℕ) → i < n → name_at names i ≡ Some word → ⊥
-unfolding place_of
-never_named names zero word e i lt at = omega arith
-never_named names (suc n) word e i lt at =
-    elim (is_named (name_at names n) word) as (λ t. is_named (name_at names n) word ≡ t → cond t (Some n) (place_of names n word) ≡ None → ⊥) [
-      | true ↦ λ t h. absurd cc
-      | false ↦ λ t h. ⊎_elim
-          (λ same.
-          let here : is_named (name_at names n) word ≡ true = ap (λ (k : ℕ). is_named (name_at names k) word) (sym same) ∙ ap (λ r. is_named r word) at ∙ named_itself word in
-          true≢false (sym here ∙ t))
-          (λ other. never_named names n word h i (omega arith) at)
-          (cases_eq i n)
-    ] refl e
-
 letter_form : (b : ℕ) (bytes : List ℕ) → is_letter b ≡ true → has_name_form (front is_name_byte (b ∷ bytes)) ≡ true
 unfolding front
 letter_form b bytes h = rw (letter_in_name b h, h) (front_passes is_name_byte bytes)
@@ -269,25 +246,25 @@ module _ {E : Type 0} (K : FieldOps E) (O : MonomialOrder) (names : Names) where
 
   power_result : (bytes : List ℕ) → has_name_form (front is_name_byte bytes) ≡ true → IsFactorResult bytes (power_at K O names bytes)
   unfolding power_at
-  power_result bytes form = by_place (place_of names O.places (front is_name_byte bytes)) refl
+  power_result bytes form = by_place (place_of names O.places (name_front bytes)) refl (place_result names O.places (name_front bytes))
     where
-      by_exponent : (i : ℕ) → place_of names O.places (name_front bytes) ≡ Some i → (r : Result (ℕ × List ℕ) LineKind) → IsExponentResult (behind is_name_byte bytes) r → IsFactorResult bytes (r >>= λ e. Ok (term_of (power i e.0) K.one, e.1))
-      by_exponent i is (Ok e) r = read_behind (name_front bytes) (front_behind is_name_byte bytes)
+      by_exponent : (i : ℕ) → IsPlaceResult names O.places (name_front bytes) (Some i) → (r : Result (ℕ × List ℕ) LineKind) → IsExponentResult (behind is_name_byte bytes) r → IsFactorResult bytes (r >>= λ e. Ok (term_of (power i e.0) K.one, e.1))
+      by_exponent i found (Ok e) r = read_behind (name_front bytes) (front_behind is_name_byte bytes)
           (λ token back q. (
-            inr (record { name = name_front bytes; behind = token; place = i; exponent = e.0; is = refl; inside = place_below O.places names (name_front bytes) i (sym is); named = place_is_named names O.places i (name_front bytes) is; raised = q.0; means = refl }),
+            inr (record { name = name_front bytes; behind = token; place = i; exponent = e.0; is = refl; inside = found.0; named = found.1; raised = q.0; means = refl }),
             q.1,
           )) r
-      by_exponent i is (Err kind) f = λ t part at.
+      by_exponent i found (Err kind) f = λ t part at.
           let base : List ℕ = name_front bytes ++ (f.between ++ (94 ∷ f.after)) in
           let regroup : bytes ≡ base ++ f.rest =
           front_then is_name_byte bytes _ f.is ∙ ap (λ (l : List ℕ). name_front bytes ++ l) (sym (append_assoc f.between (94 ∷ f.after) f.rest)) ∙ sym (append_assoc (name_front bytes) (f.between ++ (94 ∷ f.after)) f.rest) in
           base_fault t part at.before base f.rest kind (at.is ∙ ap (λ (l : List ℕ). at.before ++ l) regroup) at.blank
-          (record { name = name_front bytes; between = f.between; after = f.after; place = i; is = refl; blank_between = f.blank_between; blank_after = f.blank_after; inside = place_below O.places names (name_front bytes) i (sym is); named = place_is_named names O.places i (name_front bytes) is })
+          (record { name = name_front bytes; between = f.between; after = f.after; place = i; is = refl; blank_between = f.blank_between; blank_after = f.blank_after; inside = found.0; named = found.1 })
           f.stop f.fault
 
-      by_place : (r : Option ℕ) → place_of names O.places (name_front bytes) ≡ r → IsFactorResult bytes (power_at K O names bytes)
-      by_place None is = rw is (λ t part at. unknown_name t part at.before (name_front bytes) (behind is_name_byte bytes) (at.is ∙ ap (λ (l : List ℕ). at.before ++ l) (front_behind is_name_byte bytes)) at.blank form (behind_stops is_name_byte bytes) (never_named names O.places (name_front bytes) is))
-      by_place (Some i) is = rw is (by_exponent i is (exponent_at (behind is_name_byte bytes)) (exponent_result (behind is_name_byte bytes) (behind_stops is_name_byte bytes)))
+      by_place : (r : Option ℕ) → place_of names O.places (name_front bytes) ≡ r → IsPlaceResult names O.places (name_front bytes) r → IsFactorResult bytes (power_at K O names bytes)
+      by_place None is never = rw is (λ t part at. unknown_name t part at.before (name_front bytes) (behind is_name_byte bytes) (at.is ∙ ap (λ (l : List ℕ). at.before ++ l) (front_behind is_name_byte bytes)) at.blank form (behind_stops is_name_byte bytes) never)
+      by_place (Some i) is found = rw is (by_exponent i found (exponent_at (behind is_name_byte bytes)) (exponent_result (behind is_name_byte bytes) (behind_stops is_name_byte bytes)))
 
   factor_result : (bytes : List ℕ) → IsFactorResult bytes (factor_at K O names bytes)
   unfolding factor_at
