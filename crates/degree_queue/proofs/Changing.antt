@@ -68,9 +68,6 @@ module _ {T : Type 0} (nodes new : List (Node T)) (heads : List Ends) (free new_
   total i =
       omega (arith, counts i, changes.balance i, times-append i (listed new new_heads) (path_of new new_free), times-append i (listed nodes heads) old_q, ap (times i) new_free_path)
 
-  IsOwn : Ends → Type 0
-  IsOwn ends = IsList new ends (path_of new ends)
-
   pub IsPartition-changed : IsPartition new (set heads d new_ends) new_free
   IsPartition-changed = record {
     lists = lists;

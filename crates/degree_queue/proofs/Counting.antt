@@ -88,12 +88,6 @@ IsApart-left n p q apart = record {
   within = λ i counted. apart.within i (omega (arith, times-append i p q));
 }
 
-pub IsApart-right : (n : ℕ) (p q : List ℕ) → IsApart n (p ++ q) → IsApart n q
-IsApart-right n p q apart = record {
-  once = λ i. omega (arith, apart.once i, times-append i p q);
-  within = λ i counted. apart.within i (omega (arith, times-append i p q));
-}
-
 -- what moves from one list to another is in neither twice
 pub IsApart-moved : (n : ℕ) (p q : List ℕ) (k : ℕ) → k < length p → IsApart n (p ++ q) → IsApart n (q ++ slice_index p k ∷ [])
 IsApart-moved n p q k inside apart = record {

@@ -81,6 +81,3 @@ module _ {T : Type 0} where
     prev = λ i none. joins.other_prev i (λ same. off_list i p k none k_in (same ∙ b_is));
     items = joins.items;
   }
-
-  pub ChangesLinks-none : (nodes : List (Node T)) (p : List ℕ) → ChangesLinks p nodes nodes
-  ChangesLinks-none nodes p = record { long = refl; next = λ i none. refl; prev = λ i none. refl; items = λ i. refl }

@@ -185,11 +185,6 @@ module _ (O : MonomialOrder) (L : IsMonomialOrder O) where
         }))
         adds
 
-    pub above_bound : (last x : List ℕ) (ks : List (List ℕ)) → IsMinimalSoFar O ms bound last ks → IsLeastAbove O ms last x → bound < O.degree x →
-        (m : List ℕ) → Contains ms m → O.degree m ≤ bound → IsGenerated ks m
-    above_bound last x ks h n lt m c le =
-        ⊎_elim (λ l. absurd (n.least m c l (L.degree_first m x (omega arith)))) (λ l. h.generated m c l) (less_or_not (O.compare last m))
-
   count_step : (p q : Bool) (x y : ℕ) → (p ≡ true → q ≡ true) → x ≤ y → cond p (suc x) x ≤ cond q (suc y) y
   count_step true true x y h l = omega arith
   count_step true false x y h l = absurd (let e : false ≡ true = h refl in cc)

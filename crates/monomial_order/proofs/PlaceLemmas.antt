@@ -51,12 +51,6 @@ longer_does_not_divide m n h l d =
     let e = d (length m - 1) in
     last (omega arith)
 
-pub divides_is : (m n : List ℕ) → length m ≤ length n → ((k : ℕ) → k < length m → get_or m k 0 ≤ get_or n k 0) → Divides m n
-divides_is m n l h i = ⊎_elim (λ b. h i b) (λ p. past i p) (below_or_not i (length m))
-  where
-    past : (i : ℕ) → length m ≤ i → exponent m i ≤ exponent n i
-    past i p = let z = exponent_past m i p in omega arith
-
 -- a list that ends before its zeros is trimmed
 pub trimmed_by_last : (m : List ℕ) → ((k : ℕ) → length m ≡ suc k → exponent m k ≢ 0) → IsTrimmed m
 trimmed_by_last [] h = tt

@@ -66,24 +66,6 @@ module _ {E : Type 0} (K : FieldOps E) (F : IsField K) (O : MonomialOrder) (L : 
       subst (λ x. IsPowerOf K O p x s) (let n : suc e ≡ e + 1 = omega arith in n)
       record { canonical = k; same = λ m. is m ∙ times_same K F p p r (power K p e) (λ n. refl) h.same m }
 
-  pub more_powers : (p : Polynomial E) (rs : List (Polynomial E)) (r : Polynomial E) (qs : List (Polynomial E)) → ArePowers K O p rs → IsPowerOf K O p (length rs + 2) r →
-      qs ≡ rs ++ (r ∷ []) → ArePowers K O p qs
-  more_powers p rs r qs h k e = subst (ArePowers K O p) (sym e) (λ i l.
-      subst (λ n. IsPowerOf K O p n (get_or (rs ++ (r ∷ [])) i [])) (let n : 0 + i + 2 ≡ i + 2 = omega arith in n)
-      (go 0 rs (λ j m. subst (λ n. IsPowerOf K O p n (get_or rs j [])) (let n : j + 2 ≡ 0 + j + 2 = omega arith in n) (h j m))
-      (subst (λ n. IsPowerOf K O p n r) (let n : length rs + 2 ≡ 0 + length rs + 2 = omega arith in n) k) i l))
-    where
-      go : (j : ℕ) (xs : List (Polynomial E)) → ((i : ℕ) → i < length xs → IsPowerOf K O p (j + i + 2) (get_or xs i [])) → IsPowerOf K O p (j + length xs + 2) r →
-          (i : ℕ) → i < length (xs ++ (r ∷ [])) → IsPowerOf K O p (j + i + 2) (get_or (xs ++ (r ∷ [])) i [])
-      go j [] a b zero l = b
-      go j [] a b (suc i) l = absurd (omega arith)
-      go j (x ∷ xs) a b zero l = a zero (omega arith)
-      go j (x ∷ xs) a b (suc i) l =
-          subst (λ n. IsPowerOf K O p n (get_or (xs ++ (r ∷ [])) i [])) (let n : j + 1 + i + 2 ≡ j + suc i + 2 = omega arith in n)
-          (go (j + 1) xs
-          (λ v w. subst (λ n. IsPowerOf K O p n (get_or xs v [])) (let n : j + suc v + 2 ≡ j + 1 + v + 2 = omega arith in n) (a (suc v) (omega arith)))
-          (subst (λ n. IsPowerOf K O p n r) (let n : j + length (x ∷ xs) + 2 ≡ j + 1 + length xs + 2 = omega arith in n) b) i (omega arith))
-
 -- r is c times the value of a monomial
 pub record IsPartial {E : Type 0} (K : FieldOps E) (O : MonomialOrder) (c : E) (m : List ℕ) (fs : List (Polynomial E)) (r : Polynomial E) : Type 0 where
   pub canonical : IsCanonical K O r

@@ -199,16 +199,6 @@ module _ {E : Type 0} (K : FieldOps E) (F : IsField K) (O : MonomialOrder) (L : 
     sum = λ m. ap (λ x. coefficient K (x ++ r) m) (sym (append-nil p)) ∙ h.sum m;
   }
 
-  pub merge_start : (a b : Polynomial E) → IsCanonical K O a → IsCanonical K O b → IsMerging K O a b a b []
-  merge_start a b h k = record {
-    first = subst (IsDecreasing K O) (sym (append-nil a)) h.decreasing;
-    second = subst (IsDecreasing K O) (sym (append-nil b)) k.decreasing;
-    small_first = h.small;
-    small_second = k.small;
-    small = tt;
-    sum = λ m. ap (λ x. coefficient K x m) (append-nil (a ++ b));
-  }
-
 -- the end of a list, reversed
 pub reverse_last : {A : Type 0} (xs : List A) (x : A) → reverse (xs ++ (x ∷ [])) ≡ x ∷ reverse xs
 reverse_last xs x = reverse-append xs (x ∷ [])

@@ -1,6 +1,6 @@
 -- The longest front of bytes that pass, and what is behind it.
 use Rattle.std.proofs.Common.{◌≡◌, ℕ, suc, ◌+◌, ◌-◌, ◌≤◌, Bool, true, false, not, cond, ltb, List, [], ◌∷◌, length, take, drop, Some, None, refl, sym, ap, ◌∙◌, arith}
-use Rattle.std.specs.List.{position, position_or_len, list_all}
+use Rattle.std.specs.List.{position, position_or_len}
 use Rattle.std.proofs.lemmas.Bool.{ltb-false}
 use Rattle.std.proofs.lemmas.List.{take_rest, take_all, drop_all}
 use Rattle.polynomial_text.specs.Bytes.{front, behind}
@@ -53,12 +53,3 @@ module _ (test : ℕ → Bool) where
 
   pub behind_all : (bytes : List ℕ) → None ≡ position (λ b. not (test b)) bytes → [] ≡ behind test bytes
   behind_all bytes h = sym (drop_all (end bytes) bytes (found_nowhere (λ b. not (test b)) bytes (sym h))) ∙ drop_behind bytes
-
-  pub front_passes : (bytes : List ℕ) → list_all test (front test bytes) ≡ true
-  unfolding front
-  front_passes [] = refl
-  front_passes (b ∷ bytes) =
-      elim (test b) as (λ t. test b ≡ t → list_all test (cond t (b ∷ front test bytes) []) ≡ true) [
-        | true ↦ λ e. rw e (front_passes bytes)
-        | false ↦ λ e. refl
-      ] refl

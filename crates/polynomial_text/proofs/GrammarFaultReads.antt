@@ -21,12 +21,10 @@ use Rattle.polynomial_text.specs.Canonical.{AreDifferent}
 use Rattle.polynomial_text.specs.PolyLine.{number_at, exponent_at, place_of, power_at, factor_at, with_factor, sign, term_at, behind_sign, signed_parts, terms_of}
 use Rattle.polynomial_text.specs.Grammar.{AreBlanks}
 use Rattle.polynomial_text.specs.GrammarFaults.{IsLongNumber, IsBase, IsFrontFactor, IsFactorFault, no_factor, long_number, unknown_name, no_exponent, long_exponent, high_degree, no_end, IsProductFault, in_factor, in_later_factor, IsSumFault, in_term, in_later_term, IsUnsigned, IsLineFault}
-use Rattle.polynomial_text.specs.laws.CanonicalFactors.{name_begins}
 use Rattle.polynomial_text.specs.laws.CanonicalParts.{Begins, lack_from, begins_append, begins_stops, front_all, behind_all, digit_in_name, name_no_blank, blank_no_sign, letter_no_digit, is_star}
-use Rattle.polynomial_text.specs.laws.Fronts.{parts_split}
+use Rattle.polynomial_text.specs.laws.Fronts.{parts_split, terms_behind, terms_split, sign_left_out, no_sign}
 use Rattle.polynomial_text.specs.laws.Names.{name_bytes, place_found}
-use Rattle.polynomial_text.proofs.GrammarReads.{begins_digit, blank_then, raised_at, star_apart, name_form, factor_begins, factor_derived, with_derived, spaced_lacks, product_lacks, term_derived, next_parts}
-use Rattle.polynomial_text.proofs.LineParts.{terms_behind, terms_split, sign_left_out, no_sign}
+use Rattle.polynomial_text.specs.laws.GrammarReads.{name_begins, begins_digit, blank_then, raised_at, star_apart, sign_apart, name_form, factor_begins, factor_derived, with_derived, spaced_lacks, product_lacks, term_derived, next_parts}
 use Rattle.polynomial_text.proofs.LinePlaces.{no_place}
 
 -- ---- numbers
@@ -89,7 +87,7 @@ module _ {E : Type 0} (K : FieldOps E) (O : MonomialOrder) (names : Names) (D : 
       rw (front_all is_name_byte name tail all stop, place, behind_all is_name_byte name tail all stop, e) refl
 
   name_shows : (name rest : List ℕ) → has_name_form name ≡ true → Stops is_blank (name ++ rest)
-  name_shows name rest form = begins_stops is_name_byte is_blank name_no_blank (name ++ rest) (begins_append is_name_byte name rest (name_begins K O names name form))
+  name_shows name rest form = begins_stops is_name_byte is_blank name_no_blank (name ++ rest) (begins_append is_name_byte name rest (name_begins name form))
 
   -- the exponent behind a name and `^` is not read
   base_stopped : (t : Term E) (bytes before base rest : List ℕ) (kind : LineKind) → bytes ≡ before ++ (base ++ rest) → AreBlanks before → IsBase K O names base → Stops is_blank rest → number_at rest ≡ Err kind → with_factor K O names t bytes ≡ Err kind
@@ -155,7 +153,7 @@ module _ {E : Type 0} (K : FieldOps E) (O : MonomialOrder) (names : Names) (D : 
   sum_fault minus bytes kind (in_term _ _ _ h) = rw (terms_split minus bytes, term_fault minus (front (λ b. not (is_sign b)) bytes) kind h) refl
   sum_fault minus bytes kind (in_later_term _ next _ part rest t _ is h later) =
       let parts : signed_parts minus bytes ≡ (minus, part) ∷ signed_parts next rest =
-      ap (signed_parts minus) is ∙ next_parts K O names D minus next part rest (product_lacks K O names D (term_of [] (sign K O names minus)) t part h) in
+      ap (signed_parts minus) is ∙ next_parts K O names D minus next part rest (product_lacks K O names D is_sign sign_apart refl (term_of [] (sign K O names minus)) t part h) in
       rw (parts, term_derived K O names D minus part t h, sum_fault next rest kind later) refl
 
   unsigned : (line : List ℕ) → IsUnsigned K O names line → behind_sign (signed_parts false line) ≡ signed_parts false line

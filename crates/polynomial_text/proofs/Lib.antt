@@ -1,9 +1,6 @@
 pub mod CanonicalReading
 pub mod Fronts
-pub mod GrammarFaultRead
 pub mod GrammarFaultReads
-pub mod GrammarRead
-pub mod GrammarReads
 pub mod LineAlong
 pub mod LineDigits
 pub mod LineParts

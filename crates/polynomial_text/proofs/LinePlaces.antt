@@ -15,8 +15,8 @@ use Rattle.poly_core.specs.Names.{name_at}
 use Rattle.poly_core.specs.declared.place_names.Names.{Names}
 use Rattle.poly_core.specs.declared.place_names.Names.TheVariants.{Numbered, Paired}
 use Rattle.polynomial_text.specs.Canonical.{AreDifferent}
-use Rattle.polynomial_text.specs.laws.Names.{named_is, place_found, name_is_text, one_index}
-use Rattle.polynomial_text.specs.PolyLine.{place_of, is_named}
+use Rattle.polynomial_text.specs.laws.Names.{IsPlaceResult, place_result, place_found, name_is_text, one_index}
+use Rattle.polynomial_text.specs.PolyLine.{place_of}
 use Rattle.polynomial_text.proofs.LineDigits.{own}
 
 -- ---- the place that a name has
@@ -25,13 +25,11 @@ pub place_is : (n : ℕ) (names : Names) (word : List ℕ) (i : ℕ) → AreDiff
 place_is n names word i different lt at = sym (place_found n names different n i word lt (omega arith) at)
 
 pub no_place : (n : ℕ) (names : Names) (word : List ℕ) → ((i : ℕ) → i < n → name_at names i ≡ Some word → ⊥) → None ≡ place_of names n word
-unfolding place_of
-no_place zero names word never = refl
-no_place (suc n) names word never =
-    elim (is_named (name_at names n) word) as (λ t. is_named (name_at names n) word ≡ t → None ≡ cond t (Some n) (place_of names n word)) [
-      | true ↦ λ e. absurd (never n (omega arith) (named_is (name_at names n) word e))
-      | false ↦ λ e. no_place n names word (λ i lt at. never i (omega arith) at)
-    ] refl
+no_place n names word never = by (place_of names n word) (place_result names n word)
+  where
+    by : (r : Option ℕ) → IsPlaceResult names n word r → None ≡ r
+    by None h = refl
+    by (Some i) h = absurd (never i h.0 h.1)
 
 -- ---- names of a table
 

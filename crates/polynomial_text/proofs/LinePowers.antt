@@ -1,9 +1,9 @@
 -- Powers of a variable, and the degrees of products with them.
-use Rattle.std.proofs.Common.{◌≡◌, ℕ, zero, suc, ◌+◌, ◌*◌, ◌<◌, ◌≤◌, true, leb, List, [], ◌∷◌, ◌++◌, take, replicate, ◌-◌, false, refl, sym, ap, ◌∙◌, arith, Result, Ok, Err}
+use Rattle.std.proofs.Common.{◌≡◌, ℕ, zero, suc, ◌+◌, ◌*◌, ◌<◌, ◌≤◌, true, leb, List, [], ◌∷◌, ◌++◌, take, replicate, ◌-◌, refl, sym, ap, ◌∙◌, arith, Result, Ok, Err}
 use Rattle.std.specs.Result.{IfOk}
-use Rattle.std.proofs.lemmas.Bool.{leb-true, le-leb, lt-leb}
+use Rattle.std.proofs.lemmas.Bool.{leb-true, le-leb}
 use Rattle.monomial_order.specs.Monomial.{exponent, product, variable, IsTrimmed, IsMonomial}
-use Rattle.monomial_order.specs.laws.Monomial.{product-one, IsMonomial-product, product_fits}
+use Rattle.monomial_order.specs.laws.Monomial.{product-one, IsMonomial-product}
 use Rattle.monomial_order.specs.MonomialOrder.{MonomialOrder, IsMonomialOrder}
 use Rattle.monomial_order.specs.laws.Cofactors.{same_exponents}
 use Rattle.polynomials.specs.laws.ReducedBasis.{degree_one}
@@ -54,17 +54,11 @@ module _ (O : MonomialOrder) (L : IsMonomialOrder O) where
       grows e zero h = absurd (omega arith)
       grows e (suc d) h = omega arith
 
-  pub too_high : (m : List ℕ) (i e : ℕ) → i < O.places → degree_max < e → false ≡ leb (O.degree (product m (power i e))) degree_max
-  too_high m i e lt high = let h = at_least m i e lt in sym (lt-leb _ _ (omega arith))
-
   pub small_product : (m : List ℕ) (i e : ℕ) → IsMonomial O.places m → i < O.places → leb (O.degree (product m (power i e))) degree_max ≡ true → IsSmallMonomial O (product m (power i e))
   small_product m i e hm lt small = record {
     monomial = IsMonomial-product O.places m (power i e) hm (power_monomial O.places i e lt);
     small = leb-true _ _ small;
   }
-
-  pub power_fits : (m : List ℕ) (i e : ℕ) → IsMonomial O.places m → i < O.places → leb (O.degree (product m (power i e))) degree_max ≡ true → (j : ℕ) → exponent m j + exponent (power i e) j ≤ 65535
-  power_fits m i e hm lt small = let low : O.degree (product m (power i e)) ≤ degree_max = leb-true _ _ small in product_fits O L m (power i e) hm (power_monomial O.places i e lt) (omega arith)
 
   pub exponent_low : (m : List ℕ) (i e : ℕ) → i < O.places → leb (O.degree (product m (power i e))) degree_max ≡ true → e ≤ degree_max
   exponent_low m i e lt small = let low : O.degree (product m (power i e)) ≤ degree_max = leb-true _ _ small in let h = at_least m i e lt in omega arith

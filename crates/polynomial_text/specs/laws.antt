@@ -3,6 +3,8 @@ pub mod CanonicalParts
 pub mod CanonicalPoly
 pub mod CanonicalTerms
 pub mod Fronts
+pub mod GrammarRead
+pub mod GrammarReads
 pub mod Names
 pub mod Powers
 pub mod ReadTerms

@@ -1,7 +1,7 @@
 -- What is judged on a sum of terms is so for the polynomial that is the sum.
 use Rattle.std.proofs.Common.{◌≡◌, ◌≢◌, ◌⊎◌, inl, inr, ℕ, ◌≤◌, Bool, true, false, not, cond, eqb, List, [], ◌∷◌, map, filter, Ok, Err, refl, sym, ap, subst, ◌∙◌, arith, eq-eqb}
 use Rattle.std.specs.List.{list_all, list_any, AllByRecursion}
-use Rattle.std.proofs.lemmas.Bool.{and_parts, or_parts, eqb-true, false_from_ne_true, not-true, not_from_false, true≢false}
+use Rattle.std.proofs.lemmas.Bool.{and_parts, or_parts, eqb-true, false_from_ne_true, true_from_ne_false, not-true, not_from_false, true≢false}
 use Rattle.word_field.specs.Field.{FieldOps, IsField}
 use Rattle.word_field.specs.laws.Field.{word_unique}
 use Rattle.polynomials.specs.laws.Ring.{coefficient_value}
@@ -9,7 +9,7 @@ use Rattle.monomial_order.specs.declared.terms.Term.{Term}
 use Rattle.monomial_order.specs.MonomialOrder.{MonomialOrder, IsMonomialOrder}
 use Rattle.polynomials.specs.Polynomial.{Polynomial, coefficient, Same, AllAt, IsCanonical, IsDecreasing, IsDegree, IsHomogeneous, IsZeroOrHomogeneous}
 use Rattle.polynomials.specs.laws.Decreasing.{coefficient_first}
-use Rattle.polynomials.specs.laws.Degrees.{all_found}
+use Rattle.polynomials.specs.laws.Degrees.{all_found, decreasing_all}
 use Rattle.poly_core.specs.Presentation.{IsCanonicalGenerator}
 use Rattle.monomial_order.specs.Limits.{degree_max}
 use Rattle.polynomial_text.specs.Degrees.{IsLow}
@@ -107,19 +107,19 @@ module _ {E : Type 0} (K : FieldOps E) (F : IsField K) (O : MonomialOrder) (L : 
     pub judged_mixed : (constant : TextKind) → IsCanonical K O p → (IsZeroOrHomogeneous K O p → ⊥) → judged K O constant sum ≡ Err NotHomogeneous
     unfolding judged
     judged_mixed constant canonical mixed =
-        let other : is_one_degree (degrees K O sum) ≡ false =
-        elim (is_one_degree (degrees K O sum)) as (λ b. is_one_degree (degrees K O sum) ≡ b → b ≡ false) [ true ↦ λ e. absurd (mixed (is_homogeneous canonical e)) | false ↦ λ e. refl ] refl in
-        rw other refl
+        rw (false_from_ne_true (is_one_degree (degrees K O sum)) (λ e. mixed (is_homogeneous canonical e))) refl
 
-    judged_ok : (constant : TextKind) → is_one_degree (degrees K O sum) ≡ true → AllByRecursion (λ e. e ≢ 0) (degrees K O sum) → judged K O constant sum ≡ Ok sum
-    unfolding judged
-    judged_ok constant one positive = rw (one, none_zero (degrees K O sum) positive) refl
+    -- a generator passes
+    pub judged_generator : (constant : TextKind) → IsCanonicalGenerator K O p → judged K O constant sum ≡ Ok sum
+    unfolding judged coefficient
+    judged_generator constant g = by g.homogeneous
+      where
+        passes : IsZeroOrHomogeneous K O p → ((m : List ℕ) → coefficient K sum m ≢ K.zero → O.degree m ≢ 0) → judged K O constant sum ≡ Ok sum
+        passes same positive = rw (one_degree same, none_zero (degrees K O sum) (of_each (λ e. e ≢ 0) positive)) refl
 
-    pub judged_zero : (constant : TextKind) → p ≡ [] → judged K O constant sum ≡ Ok sum
-    unfolding coefficient
-    judged_zero constant zero =
-        let none : (m : List ℕ) → coefficient K p m ≡ K.zero = λ m. ap (λ (r : Polynomial E). coefficient K r m) zero in
-        judged_ok constant (one_degree (inl none)) (of_each (λ e. e ≢ 0) (λ m c. absurd (in_poly m c (none m))))
+        by : (p ≡ []) ⊎ ((d : ℕ) × (1 ≤ d) × (d ≤ degree_max) × IsHomogeneous K O d p) → judged K O constant sum ≡ Ok sum
+        by (inl zero) = let none : Same K p [] = λ m. ap (λ (r : Polynomial E). coefficient K r m) zero in passes (inl none) (λ m c. absurd (in_poly m c (none m)))
+        by (inr (d, low, high, same)) = passes (inr (d, same)) (λ m c z. let at = same.each m (in_poly m c) in omega (arith, at, low, z))
 
     -- each monomial of a homogeneous polynomial has its greatest degree
     has_degree : (d : ℕ) → IsZeroOrHomogeneous K O p → IsDegree K O d p → (m : List ℕ) → coefficient K p m ≢ K.zero → O.degree m ≡ d
@@ -127,18 +127,11 @@ module _ {E : Type 0} (K : FieldOps E) (F : IsField K) (O : MonomialOrder) (L : 
     has_degree d (inl none) greatest m c = absurd (c (none m))
     has_degree d (inr (e, same)) greatest m c = same.each m c ∙ sym (same.each greatest.some.0 greatest.some.1) ∙ greatest.some.2
 
-    pub judged_positive : (constant : TextKind) (d : ℕ) → IsZeroOrHomogeneous K O p → IsDegree K O d p → d ≢ 0 → judged K O constant sum ≡ Ok sum
-    judged_positive constant d same greatest positive =
-        judged_ok constant (one_degree same) (of_each (λ e. e ≢ 0) (λ m c z. positive (sym (has_degree d same greatest m (in_poly m c)) ∙ z)))
-
     pub judged_constant : (constant : TextKind) (d : ℕ) → IsZeroOrHomogeneous K O p → IsDegree K O d p → d ≡ 0 → judged K O constant sum ≡ Err constant
     unfolding judged
     judged_constant constant d same greatest zero =
         let there : list_any (λ e. eqb e 0) (degrees K O sum) ≡ true =
-        elim (list_any (λ e. eqb e 0) (degrees K O sum)) as (λ b. list_any (λ e. eqb e 0) (degrees K O sum) ≡ b → b ≡ true) [
-          | true ↦ λ e. refl
-          | false ↦ λ e. absurd (every (λ k. k ≢ 0) (zero_none (degrees K O sum) e) greatest.some.0 (in_sum greatest.some.0 greatest.some.1) (greatest.some.2 ∙ zero))
-        ] refl in
+        true_from_ne_false _ (λ e. every (λ k. k ≢ 0) (zero_none (degrees K O sum) e) greatest.some.0 (in_sum greatest.some.0 greatest.some.1) (greatest.some.2 ∙ zero)) in
         rw (one_degree same, there) refl
 
     -- ---- what passes
@@ -168,16 +161,13 @@ module _ {E : Type 0} (K : FieldOps E) (F : IsField K) (O : MonomialOrder) (L : 
 
   pub positive_generator : (d : ℕ) → IsLow O p → IsZeroOrHomogeneous K O p → IsDegree K O d p → d ≢ 0 → IsCanonicalGenerator K O p
   positive_generator d low same greatest positive =
-      let top : O.degree greatest.some.0 ≤ degree_max = all_found K F O L (λ m. O.degree m ≤ degree_max) p low greatest.some.0 greatest.some.1 in
-      record {
-        canonical = canonical;
-        homogeneous = inr (
-          d,
-          omega (arith, positive),
-          omega (arith, top, greatest.some.2),
-          record {
-            some = (greatest.some.0, greatest.some.1);
-            each = has_degree K F O L p p (λ m. refl) d same greatest;
-          },
-        );
-      }
+      let each = of_each K F O L p (λ e. e ≢ 0) (λ m c z. positive (sym (has_degree K F O L p p (λ m. refl) d same greatest m c) ∙ z)) in
+      passed_generator K F O L p p (λ m. refl) canonical low (one_degree K F O L p p (λ m. refl) same) (none_zero (degrees K O p) each)
+
+  pub generator_low : IsCanonicalGenerator K O p → IsLow O p
+  unfolding coefficient
+  generator_low g = decreasing_all K F O L (λ m. O.degree m ≤ degree_max) p canonical.decreasing (λ m c. by g.homogeneous m c)
+    where
+      by : (p ≡ []) ⊎ ((d : ℕ) × (1 ≤ d) × (d ≤ degree_max) × IsHomogeneous K O d p) → (m : List ℕ) → coefficient K p m ≢ K.zero → O.degree m ≤ degree_max
+      by (inl zero) m c = absurd (c (ap (λ (r : Polynomial E). coefficient K r m) zero))
+      by (inr (d, low, high, same)) m c = let at = same.each m c in omega (arith, at, high)

@@ -1,5 +1,5 @@
 -- Where a reading that knows the prime sizes alone differs from one that knows all sizes.
-use Rattle.std.proofs.Common.{◌≡◌, ℕ, Bool, true, false, cond, ◌⊎◌, inl, inr, List, [], ◌∷◌, Option, Some, None, Result, Ok, Err, refl, sym, ap, ◌∙◌}
+use Rattle.std.proofs.Common.{◌≡◌, ℕ, Bool, true, false, cond, ◌⊎◌, inl, inr, ⊎_elim, List, [], ◌∷◌, Option, Some, None, Result, Ok, Err, refl, sym, ap, ◌∙◌}
 use Rattle.std.specs.Prelude.{codes}
 use Rattle.word_field.specs.Residues.{is_listed}
 use Rattle.ext_field.specs.PairField.{is_pair_size}
@@ -11,7 +11,7 @@ use Rattle.presentation_text.specs.Heading.{◌>>=◌, behind_key, only, size, i
 use Rattle.presentation_text.specs.Kinds.{Fault, or_fault}
 use Rattle.presentation_text.specs.Lines.{tokens, content, end_line}
 use Rattle.presentation_text.specs.Numbers.{number_of}
-use Rattle.presentation_text.specs.Reading.{Line, at_line, next, head, reading_of, reading_with}
+use Rattle.presentation_text.specs.Reading.{Line, AnyReading, at_line, next, head, reading_of, reading_with}
 use Rattle.presentation_text.proofs.FieldKinds.{no_pair_size}
 use Rattle.presentation_text.proofs.NextLines.{next_err}
 
@@ -113,3 +113,7 @@ module _ (text : List ℕ) where
 
   pub readings_differ : Differs text
   readings_differ = by_header (next (end_line text) header_line (content text)) refl
+
+  -- with all sizes known, the text has the same reading
+  pub read_more : (a : AnyReading) → reading_with is_listed text ≡ Ok a → reading_with is_size text ≡ Ok a
+  read_more a e = ⊎_elim (λ same. sym same ∙ e) (λ differs. absurd (let no = differs.2 in cc)) readings_differ

@@ -1,14 +1,11 @@
 -- A heading that was read is one of a presentation.
-use Rattle.std.proofs.Common.{◌≡◌, ℕ, true, false, Bool, cond, List, [], ◌∷◌, length, Some, None, Result, Ok, Err, refl, sym, subst, ◌∙◌}
+use Rattle.std.proofs.Common.{◌≡◌, ℕ, true, false, Bool, cond, List, length, Some, None, Ok, refl, sym, subst}
 use Rattle.std.specs.Prelude.{codes}
-use Rattle.word_field.specs.Residues.{is_listed}
 use Rattle.monomial_order.specs.MonomialOrder.{IsMonomialOrder}
 use Rattle.monomial_order.specs.laws.Orders.{between_from_all}
 use Rattle.monomial_order.specs.laws.Ties.{weight_laws}
 use Rattle.poly_core.specs.Names.{IsNameList}
 use Rattle.polynomial_text.specs.laws.Steps.{step_ok, same_ok}
-use Rattle.polynomial_text.specs.declared.line_fault.LineFault.TheVariants as line_faults
-use Rattle.presentation_text.specs.declared.text_kind.TextKind.{TextKind}
 use Rattle.presentation_text.specs.declared.text_kind.TextKind.TheVariants.{FieldUnknown}
 use Rattle.presentation_text.specs.Numbers.{number_of}
 use Rattle.presentation_text.specs.Lines.{tokens}
@@ -16,7 +13,7 @@ use Rattle.presentation_text.specs.Heading.{◌>>=◌, behind_key, only, size, i
 use Rattle.presentation_text.specs.Reading.{Line, Head, order_of_head, next, head}
 use Rattle.presentation_text.specs.Presenting.{IsHeading}
 use Rattle.presentation_text.proofs.HeadFacts.{vars_read}
-use Rattle.presentation_text.proofs.NextLines.{next_was, next_ok, next_err}
+use Rattle.presentation_text.proofs.NextLines.{next_was}
 use Rattle.presentation_text.proofs.TakenTokens.{bind_some, or_fault_ok}
 use Rattle.presentation_text.proofs.Weighing.{weighing, weights_read}
 
@@ -37,38 +34,6 @@ pub field_read : (known : ℕ → Bool) (last : ℕ) (ls : List Line) (x : ℕ �
 field_read known last ls x e =
     let w = next_was (field_line known) last ls x e in
     size_known known (tokens w.0) x.0 (or_fault_ok FieldUnknown (size known (tokens w.0)) x.0 w.1)
-
--- a prime size is one of all sizes
-size_more : (line : List (List ℕ)) (n : ℕ) → size is_listed line ≡ Some n → size is_size line ≡ Some n
-unfolding size
-size_more line n e =
-    let rest = bind_some (behind_key (codes "field") line) _ n e in
-    let number = bind_some (only rest.0 >>= number_of) _ n rest.2 in
-    let last : cond (is_size number.0) (Some number.0) None ≡ Some n = more (is_listed number.0) number.0 refl number.2 in
-    rw (rest.1, number.1) last
-  where
-    more : (b : Bool) (k : ℕ) → is_listed k ≡ b → cond b (Some k) None ≡ Some n → cond (is_size k) (Some k) None ≡ Some n
-    more true k is h = let all : is_size k ≡ true = rw is refl in rw all h
-    more false k is h = absurd cc
-
-line_more : (line : List ℕ) (n : ℕ) → field_line is_listed line ≡ Ok n → field_line is_size line ≡ Ok n
-line_more line n e = rw (size_more (tokens line) n (or_fault_ok FieldUnknown (size is_listed (tokens line)) n e)) refl
-
-next_more : (f g : List ℕ → Result ℕ TextKind) → ((bytes : List ℕ) (y : ℕ) → f bytes ≡ Ok y → g bytes ≡ Ok y) → (last : ℕ) (ls : List Line) (x : ℕ × List Line) → next last f ls ≡ Ok x → next last g ls ≡ Ok x
-unfolding next
-next_more f g more last [] x e = absurd cc
-next_more f g more last (line ∷ rest) x e = by (f line.1) refl
-  where
-    by : (r : Result ℕ TextKind) → f line.1 ≡ r → next last g (line ∷ rest) ≡ Ok x
-    by (Ok a) is = next_ok g last line.0 line.1 (line ∷ rest) rest a refl (more line.1 a is) ∙ (sym (next_ok f last line.0 line.1 (line ∷ rest) rest a refl is) ∙ e)
-    by (Err k) is = let no : next last f (line ∷ rest) ≡ Err (k, line.0) = next_err f last line.0 line.1 (line ∷ rest) rest (line_faults.Kind k) refl is in absurd cc
-
-pub head_more : (last : ℕ) (ls : List Line) (x : Head × List Line) → head is_listed last ls ≡ Ok x → head is_size last ls ≡ Ok x
-unfolding head
-head_more last ls x e =
-    let first = step_ok (next last header_line ls) _ x e in
-    let size = step_ok (next last (field_line is_listed) first.0.1) _ x first.2 in
-    rw (first.1, next_more (field_line is_listed) (field_line is_size) line_more last first.0.1 size.0 size.1) size.2
 
 -- ---- the heading
 

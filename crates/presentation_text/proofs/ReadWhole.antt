@@ -5,8 +5,6 @@ use Rattle.std.specs.List.{AllByRecursion}
 use Rattle.word_field.specs.Field.{FieldOps, IsField}
 use Rattle.monomial_order.specs.declared.weight_order.WeightOrder.{WeightOrder}
 use Rattle.monomial_order.specs.MonomialOrder.{MonomialOrder, IsMonomialOrder}
-use Rattle.monomial_order.specs.Orders.{weight_order}
-use Rattle.monomial_order.specs.Ties.{tie_order}
 use Rattle.monomial_order.specs.laws.Ties.{weight_laws}
 use Rattle.polynomials.specs.Polynomial.{Polynomial}
 use Rattle.poly_core.specs.Names.{AreNames, IsNameList}
@@ -87,9 +85,7 @@ module _ {F E : Type 0} (ops : F → FieldOps E) (of_size : ℕ → FieldOps E) 
 
 module _ {F E : Type 0} (ops : F → FieldOps E) (r : Reading E) (p : Presentation F WeightOrder E) (from : IsFromReading ops r p) (parts : HasFitParts (ops p.field) r) where
   same_order : order_of_head r.head ≡ weight_order_of p.order
-  same_order =
-      ap (λ (x : List ℕ). weight_order x r.head.rows (tie_order r.head.tie)) (sym from.weights) ∙
-      (ap (λ (x : List (List ℕ)). weight_order p.order.weights.items x (tie_order r.head.tie)) (sym from.rows) ∙ ap (λ x. weight_order p.order.weights.items p.order.rows.items (tie_order x)) (sym from.tie))
+  same_order = let w = from.weights in let r = from.rows in let t = from.tie in cc
 
   laws : IsMonomialOrder (weight_order_of p.order)
   laws = weight_laws p.order.weights.items p.order.rows.items p.order.tie p.order.weights_in_range

@@ -3,8 +3,6 @@ use Rattle.std.proofs.Common.{◌≡◌, ℕ, List, [], ◌∷◌, map, Result, 
 use Rattle.word_field.specs.Field.{FieldOps, IsField}
 use Rattle.monomial_order.specs.declared.weight_order.WeightOrder.{WeightOrder}
 use Rattle.monomial_order.specs.MonomialOrder.{MonomialOrder, IsMonomialOrder}
-use Rattle.monomial_order.specs.Orders.{weight_order}
-use Rattle.monomial_order.specs.Ties.{tie_order}
 use Rattle.poly_core.specs.declared.place_names.Names.TheVariants.{Listed}
 use Rattle.poly_core.specs.declared.presentations.Presentation.{Presentation}
 use Rattle.polynomials.specs.laws.Decreasing.{IsDecreasing_unique}
@@ -32,11 +30,6 @@ module _ {E : Type 0} (K : FieldOps E) (F : IsField K) (O : MonomialOrder) (L : 
       let first : p ≡ q = IsDecreasing_unique K F O L p q h.1.decreasing k.1.decreasing (λ m. h.0 m ∙ sym (k.0 m)) in
       ap (λ (x : Polynomial E). x ∷ ps) first ∙ ap (λ (l : List (Polynomial E)). q ∷ l) (sums_unique sums ps qs h.2 k.2)
 
-order_same : (p q : WeightOrder) → q.weights.items ≡ p.weights.items → q.rows.items ≡ p.rows.items → q.tie ≡ p.tie → weight_order_of q ≡ weight_order_of p
-order_same p q w r t =
-    ap (λ (x : List ℕ). weight_order x q.rows.items (tie_order q.tie)) w ∙
-    (ap (λ (x : List (List ℕ)). weight_order p.weights.items x (tie_order q.tie)) r ∙ ap (λ x. weight_order p.weights.items p.rows.items (tie_order x)) t)
-
 -- sums over an equal field and in an equal order
 sums_moved : {E : Type 0} {K M : FieldOps E} {O P : MonomialOrder} {a b : List (Polynomial E)} (ps : List (Polynomial E)) → K ≡ M → O ≡ P → a ≡ b → AreSums K O a ps → AreSums M P b ps
 sums_moved {E} {K} {M} {O} {P} {a} {b} ps e f g h =
@@ -52,7 +45,7 @@ module _ {F E : Type 0} (ops : F → FieldOps E) (of_size : ℕ → FieldOps E) 
       let weights : q.order.weights.items ≡ p.order.weights.items = k.weights ∙ (ap (λ (r : Reading E). r.head.weights) same ∙ sym h.weights) in
       let rows : q.order.rows.items ≡ p.order.rows.items = k.rows ∙ (ap (λ (r : Reading E). r.head.rows) same ∙ sym h.rows) in
       let tie : q.order.tie ≡ p.order.tie = k.tie ∙ (ap (λ (r : Reading E). r.head.tie) same ∙ sym h.tie) in
-      let order : weight_order_of q.order ≡ weight_order_of p.order = order_same p.order q.order weights rows tie in
+      let order : weight_order_of q.order ≡ weight_order_of p.order = cc in
       let fields = h.valid.presentation.field in
       let orders = h.valid.presentation.order in
       let ideal_sums : AreSums (ops p.field) (weight_order_of p.order) h.present.ideal q.ideal.items = sums_moved q.ideal.items over order (ap (λ (r : Reading E). r.ideal) same) k.ideal in

@@ -58,23 +58,20 @@ module _ (low high : ℕ) where
   unfolding numbers_first
   numbers_next front count i line rest n total lt here so_far =
       let k : count - i ≡ suc (count - (i + 1)) = omega arith in
-      let one : with_front front (numbers_first low high (count - i) line) ≡ with_front (front ++ n ∷ []) (numbers_first low high (count - (i + 1)) rest) = rw (k, here) (regroup front n (numbers_first low high (count - (i + 1)) rest)) in
-      sym one ∙ so_far
+      sym (regroup front n (numbers_first low high (count - (i + 1)) rest)) ∙ (rw (k, here) at so_far)
 
   pub numbers_stop : (front : List ℕ) (count i : ℕ) (line : List (List ℕ)) (total : Option (List ℕ × List (List ℕ))) → i < count → number_first low high line ≡ None
       → with_front front (numbers_first low high (count - i) line) ≡ total → total ≡ None
   unfolding numbers_first
   numbers_stop front count i line total lt here so_far =
       let k : count - i ≡ suc (count - (i + 1)) = omega arith in
-      let one : with_front front (numbers_first low high (count - i) line) ≡ None = rw (k, here) refl in
-      sym so_far ∙ one
+      sym (rw (k, here) at so_far)
 
   pub numbers_done : (front : List ℕ) (count i : ℕ) (line : List (List ℕ)) (total : Option (List ℕ × List (List ℕ))) → count ≤ i → with_front front (numbers_first low high (count - i) line) ≡ total → total ≡ Some (front, line)
   unfolding numbers_first
   numbers_done front count i line total le so_far =
       let k : count - i ≡ 0 = omega arith in
-      let one : with_front front (numbers_first low high (count - i) line) ≡ Some (front, line) = rw k (ap (λ (l : List ℕ). Some (l, line)) (append-nil front)) in
-      sym so_far ∙ one
+      sym (rw k at so_far) ∙ ap (λ (l : List ℕ). Some (l, line)) (append-nil front)
 
 -- ---- the tie behind rows
 
@@ -84,31 +81,27 @@ module _ (n : ℕ) where
   unfolding rows_of
   rows_tie front i line total lt single so_far =
       let k : 4 - i ≡ suc (4 - (i + 1)) = omega arith in
-      let one : with_front front (rows_of n (4 - i) line) ≡ with_front front (tie_alone line) = rw (k, single) refl in
-      sym so_far ∙ one
+      sym (rw (k, single) at so_far)
 
   pub rows_next : (front : List (List ℕ)) (i : ℕ) (line rest : List (List ℕ)) (row : List ℕ) (total : Option (List (List ℕ) × Tie)) → i < 4 → eqb (length line) 1 ≡ false → row_at n line ≡ Some (row, rest)
       → with_front front (rows_of n (4 - i) line) ≡ total → with_front (front ++ row ∷ []) (rows_of n (4 - (i + 1)) rest) ≡ total
   unfolding rows_of
   rows_next front i line rest row total lt more here so_far =
       let k : 4 - i ≡ suc (4 - (i + 1)) = omega arith in
-      let one : with_front front (rows_of n (4 - i) line) ≡ with_front (front ++ row ∷ []) (rows_of n (4 - (i + 1)) rest) = rw (k, more, here) (regroup front row (rows_of n (4 - (i + 1)) rest)) in
-      sym one ∙ so_far
+      sym (regroup front row (rows_of n (4 - (i + 1)) rest)) ∙ (rw (k, more, here) at so_far)
 
   pub rows_stop : (front : List (List ℕ)) (i : ℕ) (line : List (List ℕ)) (total : Option (List (List ℕ) × Tie)) → i < 4 → eqb (length line) 1 ≡ false → row_at n line ≡ None
       → with_front front (rows_of n (4 - i) line) ≡ total → total ≡ None
   unfolding rows_of
   rows_stop front i line total lt more here so_far =
       let k : 4 - i ≡ suc (4 - (i + 1)) = omega arith in
-      let one : with_front front (rows_of n (4 - i) line) ≡ None = rw (k, more, here) refl in
-      sym so_far ∙ one
+      sym (rw (k, more, here) at so_far)
 
   pub rows_done : (front : List (List ℕ)) (i : ℕ) (line : List (List ℕ)) (total : Option (List (List ℕ) × Tie)) → 4 ≤ i → with_front front (rows_of n (4 - i) line) ≡ total → total ≡ with_front front (tie_alone line)
   unfolding rows_of
   rows_done front i line total le so_far =
       let k : 4 - i ≡ 0 = omega arith in
-      let one : with_front front (rows_of n (4 - i) line) ≡ with_front front (tie_alone line) = rw k refl in
-      sym so_far ∙ one
+      sym (rw k at so_far)
 
   pub rows_fault : (e : LineFault TextKind) (front : List (List ℕ)) (i : ℕ) (line : List (List ℕ)) (total : Option (List (List ℕ) × Tie)) → i < 4 → eqb (length line) 1 ≡ false → IsLineFaultOf (or_fault OrderLine (row_at n line)) e
       → with_front front (rows_of n (4 - i) line) ≡ total → IsLineFaultOf (or_fault OrderLine total) e

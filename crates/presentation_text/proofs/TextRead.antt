@@ -7,21 +7,20 @@ use Rattle.std.proofs.lemmas.Bool.{and_parts, leb-true, not-true}
 use Rattle.std.proofs.lemmas.List.Elements.{recursion_from_All}
 use Rattle.word_field.specs.Field.{FieldOps, IsField}
 use Rattle.monomial_order.specs.declared.weight_order.WeightOrder.{WeightOrder}
-use Rattle.monomial_order.specs.declared.tie_break.Tie.{Tie}
-use Rattle.monomial_order.specs.Ranges.{all_between, are_rows}
+use Rattle.monomial_order.specs.Ranges.{are_rows}
 use Rattle.monomial_order.specs.laws.Ties.{weight_laws}
 use Rattle.poly_core.specs.declared.place_names.Names.TheVariants.{Listed}
 use Rattle.poly_core.specs.declared.presentations.Presentation.{Presentation}
-use Rattle.poly_core.specs.Names.{AreNames, IsName, IsNameList}
+use Rattle.poly_core.specs.Names.{AreNames, IsName}
 use Rattle.poly_core.specs.Presentation.{IsCanonicalList, IsValid, weight_order_of}
 use Rattle.presentation_text.specs.declared.text_kind.TextKind.{TextKind}
 use Rattle.presentation_text.specs.declared.text_kind.TextKind.TheVariants.{UnitIdeal, ConstantGenerator}
 use Rattle.presentation_text.specs.Lines.{lines, content_lines, end_line}
-use Rattle.presentation_text.specs.Heading.{is_size, count_max, rows_max, weight_max, header_line, field_line, vars_line, weights_line, order_line, count_line, closing_line}
+use Rattle.presentation_text.specs.Heading.{is_size, count_max, weight_max, header_line, field_line, vars_line, weights_line, order_line, count_line, closing_line}
 use Rattle.presentation_text.specs.Reading.{Line, Head, Reading, AnyReading, order_of_head, next, several, head, poly_line, counted, ended, reading_over, reading_behind, reading_of, reading_with, reading}
 use Rattle.polynomial_text.specs.Results.{◌>>=◌}
 use Rattle.presentation_text.specs.Kinds.{Fault}
-use Rattle.presentation_text.specs.PresentationText.{line, poly_lines, presentation_text}
+use Rattle.presentation_text.specs.PresentationText.{line, poly_lines}
 use Rattle.presentation_text.specs.Meaning.{AreSums, IsTextOf, IsReadIn}
 use Rattle.presentation_text.proofs.TextLines.{no_more}
 use Rattle.presentation_text.proofs.TextTokens.{IsToken, Begins, next_tokens}
@@ -41,23 +40,6 @@ key : (w : List ℕ) → (not (eqb (length w) 0) && list_all (leb 33) w) ≡ tru
 key w h = let p = and_parts (not (eqb (length w) 0)) (list_all (leb 33) w) h in record { some = not-true (eqb (length w) 0) p.0; visible = visible w p.1 }
 
 -- ---- the lines of the heading
-
-header_back : (last n : ℕ) (rest : List ℕ) → next last header_line (content_lines n (lines (line (codes "subalgebra") (codes "1" ∷ []) ++ rest))) ≡ Ok ([], content_lines (suc n) (lines rest))
-header_back last n rest = next_tokens last n header_line [] (codes "subalgebra") (codes "1" ∷ []) rest (omega arith) (key (codes "subalgebra") refl) (key (codes "1") refl, tt) reads_header
-
-field_back : (known : ℕ → Bool) (p last n : ℕ) (rest : List ℕ) → p < 100000 → known p ≡ true → next last (field_line known) (content_lines n (lines (line (codes "field") (decimal p ∷ []) ++ rest))) ≡ Ok (p, content_lines (suc n) (lines rest))
-field_back known p last n rest small h = next_tokens last n (field_line known) p (codes "field") (decimal p ∷ []) rest (omega arith) (key (codes "field") refl) (decimal_token p small, tt) (λ l. reads_field known p l small h)
-
-vars_back : (names : List (List ℕ)) (places last n : ℕ) (rest : List ℕ) → IsNameList places names → next last vars_line (content_lines n (lines (line (codes "vars") names ++ rest))) ≡ Ok (names, content_lines (suc n) (lines rest))
-vars_back names places last n rest h = next_tokens last n vars_line names (codes "vars") names rest (omega arith) (key (codes "vars") refl) (names_tokens names (recursion_from_All IsName names h.each)) (λ l. reads_vars places names l h)
-
-weights_back : (weights : List ℕ) (places last n : ℕ) (rest : List ℕ) → length weights ≡ places → all_between 1 weight_max weights ≡ true → next last (weights_line places) (content_lines n (lines (line (codes "weights") (map decimal weights) ++ rest))) ≡ Ok (weights, content_lines (suc n) (lines rest))
-weights_back weights places last n rest c h =
-    next_tokens last n (weights_line places) weights (codes "weights") (map decimal weights) rest (omega arith) (key (codes "weights") refl) (between_tokens 1 weight_max weights (omega arith) h) (λ l. reads_weights places weights l c h)
-
-order_back : (rows : List (List ℕ)) (tie : Tie) (places last n : ℕ) (rest : List ℕ) → length rows ≤ rows_max → are_rows places rows ≡ true → next last (order_line places) (content_lines n (lines (line (codes "order") (row_line rows tie) ++ rest))) ≡ Ok ((rows, tie), content_lines (suc n) (lines rest))
-order_back rows tie places last n rest few h =
-    next_tokens last n (order_line places) (rows, tie) (codes "order") (row_line rows tie) rest (omega arith) (key (codes "order") refl) (row_line_tokens places rows tie h) (λ l. reads_order places rows tie l few h)
 
 count_back : (token : List ℕ) (k last n : ℕ) (rest : List ℕ) → Begins token → IsToken token → k ≤ count_max → next last (count_line token) (content_lines n (lines (line token (decimal k ∷ []) ++ rest))) ≡ Ok (k, content_lines (suc n) (lines rest))
 count_back token k last n rest b w few =
@@ -83,14 +65,16 @@ head_back known h s is_known last rest =
     let weights : List ℕ = line (codes "weights") (map decimal h.weights) ++ order in
     let vars : List ℕ = line (codes "vars") h.names ++ weights in
     let field : List ℕ = line (codes "field") (decimal h.size ∷ []) ++ vars in
+    let small = size_small h.size s.size in
     let places : length h.names ≡ length h.weights = s.names.each_place in
     let rows : are_rows (length h.names) h.rows ≡ true = ap (λ (n : ℕ). are_rows n h.rows) places ∙ s.rows in
     head_steps known last (content_lines 1 (lines (heading h rest))) (content_lines 2 (lines field)) (content_lines 3 (lines vars)) (content_lines 4 (lines weights)) (content_lines 5 (lines order)) (content_lines 6 (lines rest)) h
-    (header_back last 1 field)
-    (field_back known h.size last 2 vars (size_small h.size s.size) is_known)
-    (vars_back h.names (length h.weights) last 3 weights s.names)
-    (weights_back h.weights (length h.names) last 4 order (sym places) s.weights)
-    (order_back h.rows h.tie (length h.names) last 5 rest s.few rows)
+    (next_tokens last 1 header_line [] (codes "subalgebra") (codes "1" ∷ []) field (omega arith) (key (codes "subalgebra") refl) (key (codes "1") refl, tt) reads_header)
+    (next_tokens last 2 (field_line known) h.size (codes "field") (decimal h.size ∷ []) vars (omega arith) (key (codes "field") refl) (decimal_token h.size small, tt) (λ l. reads_field known h.size l small is_known))
+    (next_tokens last 3 vars_line h.names (codes "vars") h.names weights (omega arith) (key (codes "vars") refl) (names_tokens h.names (recursion_from_All IsName h.names s.names.each)) (λ l. reads_vars (length h.weights) h.names l s.names))
+    (next_tokens last 4 (weights_line (length h.names)) h.weights (codes "weights") (map decimal h.weights) order (omega arith) (key (codes "weights") refl) (between_tokens 1 weight_max h.weights (omega arith) s.weights)
+    (λ l. reads_weights (length h.names) h.weights l (sym places) s.weights))
+    (next_tokens last 5 (order_line (length h.names)) (h.rows, h.tie) (codes "order") (row_line h.rows h.tie) rest (omega arith) (key (codes "order") refl) (row_line_tokens (length h.names) h.rows h.tie rows) (λ l. reads_order (length h.names) h.rows h.tie l s.few rows))
 
 -- ---- the lists
 
@@ -117,13 +101,6 @@ module _ {E : Type 0} (K : FieldOps E) where
 
   text_of : Head → List (Polynomial E) → List (Polynomial E) → List ℕ
   text_of h ideal generators = heading h (lists_text h ideal generators)
-
-  text_is : (h : Head) (ideal generators : List (Polynomial E)) → K.size ≡ h.size → presentation_text K h.names h.weights h.rows h.tie ideal generators ≡ text_of h ideal generators
-  unfolding text_of lists_text heading listing
-  text_is h ideal generators size =
-      ap (λ (n : ℕ). line (codes "subalgebra") (codes "1" ∷ []) ++ (line (codes "field") (decimal n ∷ []) ++
-      (line (codes "vars") h.names ++ (line (codes "weights") (map decimal h.weights) ++
-      (line (codes "order") (row_line h.rows h.tie) ++ lists_text h ideal generators))))) size
 
 -- ---- the end
 
@@ -198,7 +175,7 @@ module _ {F E : Type 0} (ops : F → FieldOps E) (of_size : ℕ → FieldOps E) 
   -- with every test that knows the size of the field
   pub presentation_read_with : (known : ℕ → Bool) (p : Presentation F WeightOrder E) (text : List ℕ) → known (ops p.field).size ≡ true → IsValid ops weight_order_of p → IsTextOf ops p text →
       IsReadIn ops (λ r. reading_with known text ≡ Ok (any r)) p
-  unfolding head_of text_of
+  unfolding head_of text_of lists_text heading listing
   presentation_read_with known p text is_known valid is =
       let K : FieldOps E = ops p.field in
       let h : Head = head_of p is.0 in
@@ -213,7 +190,7 @@ module _ {F E : Type 0} (ops : F → FieldOps E) (of_size : ℕ → FieldOps E) 
       kind.behind p.field (end_line whole) h behind refl ∙ ap (λ (x : Result (Reading E) Fault). x >>= λ r. Ok (any r)) all.2 in
       record {
         present = record { head = h; ideal = all.0; generators = all.1 };
-        reading = ap (reading_with known) (is.2 ∙ text_is K h p.ideal.items p.generators.items refl) ∙ first ∙ second;
+        reading = ap (reading_with known) is.2 ∙ first ∙ second;
         field = refl;
         names = is.1;
         weights = refl;

@@ -25,23 +25,25 @@ use Rattle.presentation_text.proofs.FieldKinds.{IsKind}
 use Rattle.presentation_text.proofs.TableNames.{is_listed}
 use Rattle.polynomials.specs.Polynomial.{Polynomial}
 
+-- the fault of a step is that of the steps that begin with it
+fault_passes : {A B : Type 0} (r : Result A Fault) (f : A → Result B Fault) (e : TextFault) → IsFaultOf r e → IsFaultOf (r >>= f) e
+fault_passes r f faults.Memory k = tt
+fault_passes r f (faults.At kind line) k = rw k refl
+
 module _ {E : Type 0} (K : FieldOps E) (last : ℕ) (h : Head) (ls : List Line) where
   pub ideal_err : (e : TextFault) → IsFaultOf (counted K last h (codes "ideal") UnitIdeal ls) e → IsFaultOf (lists K last h ls) e
   unfolding lists
-  ideal_err faults.Memory k = tt
-  ideal_err (faults.At kind line) k = rw k refl
+  ideal_err e k = fault_passes (counted K last h (codes "ideal") UnitIdeal ls) _ e k
 
   module _ (ideal : List (Polynomial E)) (behind : List Line) (first : counted K last h (codes "ideal") UnitIdeal ls ≡ Ok (ideal, behind)) where
     pub generators_err : (e : TextFault) → IsFaultOf (counted K last h (codes "generators") ConstantGenerator behind) e → IsFaultOf (lists K last h ls) e
     unfolding lists
-    generators_err faults.Memory k = tt
-    generators_err (faults.At kind line) k = rw (first, k) refl
+    generators_err e k = rw first (fault_passes (counted K last h (codes "generators") ConstantGenerator behind) _ e k)
 
     module _ (generators : List (Polynomial E)) (rest : List Line) (second : counted K last h (codes "generators") ConstantGenerator behind ≡ Ok (generators, rest)) where
       pub end_err : (e : TextFault) → IsFaultOf (ended last rest) e → IsFaultOf (lists K last h ls) e
       unfolding lists
-      end_err faults.Memory k = tt
-      end_err (faults.At kind line) k = rw (first, second, k) refl
+      end_err e k = rw (first, second) (fault_passes (ended last rest) _ e k)
 
       pub lists_are : (end : List Line) → ended last rest ≡ Ok end → lists K last h ls ≡ Ok (ideal, generators)
       unfolding lists
@@ -70,12 +72,8 @@ module _ {E : Type 0} (K : FieldOps E) (last : ℕ) (h : Head) (ls : List Line) 
   unfolding lists reading_over
   by_lists = sym (first (counted K last h (codes "ideal") UnitIdeal ls))
 
-  bound_err : (r : Result (List (Polynomial E) × List (Polynomial E)) Fault) (e : TextFault) → IsFaultOf r e → IsFaultOf (r >>= made) e
-  bound_err r faults.Memory k = tt
-  bound_err r (faults.At kind line) k = rw k refl
-
   pub lists_refused : (e : TextFault) → IsFaultOf (lists K last h ls) e → IsFaultOf (reading_over K last h ls) e
-  lists_refused e k = rw by_lists (bound_err (lists K last h ls) e k)
+  lists_refused e k = rw by_lists (fault_passes (lists K last h ls) made e k)
 
   pub lists_read : (x : List (Polynomial E) × List (Polynomial E)) → lists K last h ls ≡ Ok x → reading_over K last h ls ≡ Ok (record { head = h; ideal = x.0; generators = x.1 })
   lists_read x k = by_lists ∙ ap (λ (r : Result (List (Polynomial E) × List (Polynomial E)) Fault). r >>= made) k
@@ -112,18 +110,29 @@ module _ {F E : Type 0} (ops : F → FieldOps E) (f : F) (laws : IsField (ops f)
 
 -- ---- the whole
 
-head_err : (known : ℕ → Bool) (last : ℕ) (ls : List Line) (e : TextFault) → IsFaultOf (head known last ls) e → IsFaultOf (reading_of known last ls) e
-unfolding reading_of
-head_err known last ls faults.Memory k = tt
-head_err known last ls (faults.At kind line) k = rw k refl
-
 reading_from : (known : ℕ → Bool) (text : List ℕ) (l : Pending) → l ≡ pending 1 text → reading_with known text ≡ reading_of known l.missing l.left
 reading_from known text l e =
     let same : 1 + length (lines text) ≡ end_line text = omega arith in
     rw (e, same) refl
 
 pub head_refused : (known : ℕ → Bool) (text : List ℕ) (l : Pending) (e : TextFault) → l ≡ pending 1 text → IsFaultOf (head known l.missing l.left) e → IsFaultOf (reading_with known text) e
-head_refused known text l e start k = rw (reading_from known text l start) (head_err known l.missing l.left e k)
+unfolding reading_of
+head_refused known text l e start k = rw (reading_from known text l start) (fault_passes (head known l.missing l.left) _ e k)
+
+-- what is read in one way is read in another
+pub read_in : {F E : Type 0} {reads others : Reading E → Type 0} (ops : F → FieldOps E) (p : Presentation F WeightOrder E) → ((r : Reading E) → reads r → others r) → IsReadIn ops reads p → IsReadIn ops others p
+read_in ops p f is = record {
+  present = is.present;
+  reading = f is.present is.reading;
+  field = is.field;
+  names = is.names;
+  weights = is.weights;
+  rows = is.rows;
+  tie = is.tie;
+  ideal = is.ideal;
+  generators = is.generators;
+  valid = is.valid;
+}
 
 module _ {F E : Type 0} (ops : F → FieldOps E) (of_size : ℕ → FieldOps E) (any : Reading E → AnyReading) (kind : IsKind ops of_size any) (known : ℕ → Bool) (text : List ℕ) (l : Pending) (start : l ≡ pending 1 text)
     (f : F) (h : Opening) (rest : List Line) (first : head known l.missing l.left ≡ Ok (head_of h, rest)) (size : (ops f).size ≡ h.size) where
@@ -134,26 +143,11 @@ module _ {F E : Type 0} (ops : F → FieldOps E) (of_size : ℕ → FieldOps E) 
   whole : reading_with known text ≡ (reading_over (ops f) l.missing (head_of h) rest >>= λ r. Ok (any r))
   whole = reading_from known text l start ∙ (step ∙ kind.behind f l.missing (head_of h) rest (sym size))
 
-  any_err : (r : Result (Reading E) Fault) (e : TextFault) → IsFaultOf r e → IsFaultOf (r >>= λ x. Ok (any x)) e
-  any_err r faults.Memory k = tt
-  any_err r (faults.At kind line) k = rw k refl
-
   pub over_refused : (e : TextFault) → IsFaultOf (reading_over (ops f) l.missing (head_of h) rest) e → IsFaultOf (reading_with known text) e
-  over_refused e k = rw whole (any_err (reading_over (ops f) l.missing (head_of h) rest) e k)
+  over_refused e k = rw whole (fault_passes (reading_over (ops f) l.missing (head_of h) rest) (λ r. Ok (any r)) e k)
 
   pub over_read : (p : Presentation F WeightOrder E) → IsReadIn ops (λ r. reading_over (ops f) l.missing (head_of h) rest ≡ Ok r) p → IsReadIn ops (λ r. reading_with known text ≡ Ok (any r)) p
-  over_read p is = record {
-    present = is.present;
-    reading = whole ∙ ap (λ (r : Result (Reading E) Fault). r >>= λ x. Ok (any x)) is.reading;
-    field = is.field;
-    names = is.names;
-    weights = is.weights;
-    rows = is.rows;
-    tie = is.tie;
-    ideal = is.ideal;
-    generators = is.generators;
-    valid = is.valid;
-  }
+  over_read p is = read_in ops p (λ r e. whole ∙ ap (λ (r : Result (Reading E) Fault). r >>= λ x. Ok (any x)) e) is
 
 pub if_ok : {A G : Type 0} {P Q : A → Type 0} (r : Result A G) → ((x : A) → P x → Q x) → IfOk r P → IfOk r Q
 if_ok (Ok x) f h = f x h

@@ -1,7 +1,6 @@
 -- Pieces that are written one after the other.
-use Rattle.std.proofs.Common.{◌≡◌, ℕ, zero, suc, ◌+◌, ◌<◌, ◌≤◌, List, [], ◌∷◌, ◌++◌, map, length, get_or, drop, slice_get, Some, sym, ap, ◌∙◌, append_assoc, append-nil, add-one, drop-cons, flat_map}
+use Rattle.std.proofs.Common.{◌≡◌, ℕ, zero, suc, ◌+◌, ◌<◌, List, [], ◌∷◌, ◌++◌, map, length, get_or, drop, slice_get, Some, sym, ap, ◌∙◌, append_assoc, add-one, drop-cons, flat_map}
 use Rattle.std.specs.Fmt.{decimal}
-use Rattle.std.proofs.lemmas.List.{drop_all}
 use Rattle.std.proofs.lemmas.List.Concat.{flat_map-append}
 use Rattle.presentation_text.specs.PresentationText.{row_tokens}
 
@@ -11,9 +10,6 @@ module _ {X A : Type 0} (G : List X → List A) (f : X → List A) (nil : G [] �
   piece_next xs i x out next whole lt at is h =
       let rest : drop i xs ≡ x ∷ drop (i + 1) xs = drop-cons xs i x lt ∙ (ap (λ y. y ∷ drop (suc i) xs) (sym at) ∙ ap (λ k. x ∷ drop k xs) (sym (add-one i))) in
       ap (λ o. o ++ G (drop (i + 1) xs)) is ∙ (append_assoc out (f x) (G (drop (i + 1) xs)) ∙ (ap (λ o. out ++ o) (sym (cons x (drop (i + 1) xs)) ∙ ap G (sym rest)) ∙ h))
-
-  pub piece_last : (xs : List X) (i : ℕ) (out whole : List A) → length xs ≤ i → out ++ G (drop i xs) ≡ whole → out ≡ whole
-  piece_last xs i out whole le h = sym (append-nil out) ∙ (ap (λ o. out ++ o) (sym nil ∙ ap G (sym (drop_all i xs le))) ∙ h)
 
 -- tokens with a space before each
 abbrev pub spaced_tokens : List (List ℕ) → List ℕ
@@ -27,10 +23,6 @@ spaced_rows rows = spaced_tokens (flat_map row_tokens rows)
 
 pub rows_next : (row : List ℕ) (rows : List (List ℕ)) → spaced_rows (row ∷ rows) ≡ spaced_tokens (row_tokens row) ++ spaced_rows rows
 rows_next row rows = flat_map-append (λ w. 32 ∷ w) (row_tokens row) (flat_map row_tokens rows)
-
--- a row behind its numbers
-pub row_end : (row : List ℕ) → spaced_tokens (row_tokens row) ≡ spaced_numbers row ++ 32 ∷ (59 ∷ [])
-row_end row = flat_map-append (λ w. 32 ∷ w) (map decimal row) ((59 ∷ []) ∷ [])
 
 pub name_at_place : (names : List (List ℕ)) (i : ℕ) (name : List ℕ) → slice_get names i ≡ Some name → name ≡ get_or names i name
 name_at_place [] i name e = absurd cc

@@ -1,5 +1,5 @@
--- The canonical text of a term is read as the term.
-use Rattle.std.proofs.Common.{◌≡◌, ◌≢◌, ℕ, zero, suc, ◌≤◌, ◌+◌, ◌^◌, true, false, cond, eqb, List, [], ◌∷◌, ◌++◌, length, replicate, Option, Some, None, Ok, IsSome, refl, sym, ap, subst, ◌∙◌, append_assoc, append-nil, add-zero, ⊎_elim, le_trans, arith}
+-- The canonical text of a term is derived for the term.
+use Rattle.std.proofs.Common.{◌≡◌, ◌≢◌, ℕ, zero, suc, ◌≤◌, ◌+◌, ◌^◌, true, false, cond, eqb, List, [], ◌∷◌, ◌++◌, length, replicate, Option, Some, None, IsSome, refl, sym, ap, subst, ◌∙◌, append_assoc, append-nil, add-zero, ⊎_elim, le_trans, arith}
 use Rattle.std.specs.List.{list_all, join_with_byte, AllByRecursion}
 use Rattle.std.specs.Fmt.{decimal}
 use Rattle.std.proofs.lemmas.Bool.{eqb-true, cases_lt}
@@ -7,20 +7,21 @@ use Rattle.word_field.specs.Field.{FieldOps, IsField, IsValue}
 use Rattle.word_field.specs.laws.Field.{one-times}
 use Rattle.monomial_order.specs.declared.terms.Term.{Term}
 use Rattle.monomial_order.specs.Monomial.{product, exponent, IsTrimmed}
-use Rattle.monomial_order.specs.laws.Monomial.{product_assoc, product-one, exponent_past}
+use Rattle.monomial_order.specs.laws.Monomial.{product_assoc, product-one, exponent_past, trimmed_tail}
 use Rattle.monomial_order.specs.MonomialOrder.{MonomialOrder, IsMonomialOrder}
 use Rattle.poly_core.specs.declared.place_names.Names.{Names}
-use Rattle.poly_core.specs.Names.{name_at, name_of, is_name_byte, has_name_form, IsNamed}
+use Rattle.poly_core.specs.Names.{name_at, name_of, is_name_byte, IsNamed}
 use Rattle.polynomials.specs.Polynomial.{Polynomial, term_of, term_times, IsTerm}
 use Rattle.poly_core.specs.Text.{factors, factors_text, term_text}
-use Rattle.polynomial_text.specs.Results.{along}
 use Rattle.polynomial_text.specs.Bytes.{is_blank}
-use Rattle.polynomial_text.specs.PolyLine.{power, place_of, with_factor, term_at}
+use Rattle.polynomial_text.specs.PolyLine.{power}
 use Rattle.polynomial_text.specs.Canonical.{AreDifferent}
-use Rattle.polynomial_text.specs.laws.CanonicalParts.{Begins, begins_append, all_append, all_weaker, lack_from, is_piece_byte, is_term_byte, piece_in_term, piece_no_star, blank_no_star, between, is_star, Lack, split_joined, IsWritten}
+use Rattle.polynomial_text.specs.laws.CanonicalParts.{Begins, begins_append, all_append, IsWritten}
+use Rattle.polynomial_text.specs.laws.GrammarReads.{factor_begins}
+use Rattle.polynomial_text.specs.Grammar.{AreBlanks, IsSpacedFactor, IsProduct, one_factor, IsTermOf}
+use Rattle.polynomial_text.specs.Grammar.{factors as product_factors}
 use Rattle.monomial_order.specs.Limits.{degree_max}
-use Rattle.polynomial_text.specs.laws.Names.{place_found}
-use Rattle.polynomial_text.specs.laws.CanonicalFactors.{IsPieceOf, number_piece, power_piece, with_piece}
+use Rattle.polynomial_text.specs.laws.CanonicalFactors.{IsPieceOf, number_piece, power_piece}
 
 -- ---- powers and their products
 
@@ -44,10 +45,6 @@ power-product i e (f ∷ m) = step i
     step zero = ap (λ n. n ∷ (f ∷ m)) (add-zero (suc e))
     step (suc i) = ap (λ z. 0 ∷ z) (step i)
 
-trimmed_rest : (e : ℕ) (m : List ℕ) → IsTrimmed (e ∷ m) → IsTrimmed m
-trimmed_rest e [] h = tt
-trimmed_rest e (f ∷ m) h = h
-
 module _ {E : Type 0} (K : FieldOps E) where
   -- the powers from a place on
   abbrev pub powers : ℕ → List ℕ → Polynomial E
@@ -65,7 +62,7 @@ module _ {E : Type 0} (K : FieldOps E) where
   product_powers F k c i (zero ∷ (f ∷ m)) v h = product_powers F k c (suc i) (f ∷ m) v h ∙ ap (λ n. term_of (product k n) c) (sym (shifted-zero i f m))
   product_powers F k c i (suc e ∷ m) v h =
       ap (λ a. product_of (term_of (product k (power i (suc e))) a) (powers (suc i) m)) (F.times_one c ∙ v)
-      ∙ product_powers F (product k (power i (suc e))) c (suc i) m v (trimmed_rest (suc e) m h)
+      ∙ product_powers F (product k (power i (suc e))) c (suc i) m v (trimmed_tail (suc e) m h)
       ∙ ap (λ n. term_of n c) (product_assoc k (power i (suc e)) (shifted (suc i) m) ∙ ap (product k) (power-product i e m))
 
 module _ {E : Type 0} (K : FieldOps E) (O : MonomialOrder) (L : IsMonomialOrder O) where
@@ -74,62 +71,67 @@ module _ {E : Type 0} (K : FieldOps E) (O : MonomialOrder) (L : IsMonomialOrder 
   degree_grows t [] = omega arith
   degree_grows t (f ∷ fs) = omega (arith, L.degree_product t.at f.at, degree_grows (term_times K t f) fs)
 
-  pub degree_one : O.degree [] ≡ 0
-  degree_one = let d : O.degree [] ≡ O.degree [] + O.degree [] = L.degree_product [] [] in omega arith
-
--- ---- pieces
+-- ---- products
 
 module _ {E : Type 0} (K : FieldOps E) (O : MonomialOrder) (names : Names) where
-  -- each text is read as its factor
+  -- each text is a factor
   abbrev pub ArePieces : List (List ℕ) → Polynomial E → Type 0
   ArePieces [] [] = Unit {0}
   ArePieces [] (f ∷ fs) = ⊥
   ArePieces (x ∷ xs) [] = ⊥
   ArePieces (x ∷ xs) (f ∷ fs) = IsPieceOf K O names x f × ArePieces xs fs
 
-  pub along_pieces : (L : IsMonomialOrder O) (t : Term E) (lead back x : List ℕ) (xs : List (List ℕ)) (f : Term E) (fs : Polynomial E) → list_all is_blank lead ≡ true → list_all is_blank back ≡ true →
-      ArePieces (x ∷ xs) (f ∷ fs) → O.degree (product_of K t (f ∷ fs)).at ≤ degree_max → along (with_factor K O names) t (between lead back x xs) ≡ Ok (product_of K t (f ∷ fs))
-  unfolding along
-  along_pieces L t lead back x [] f [] l b h small = rw (with_piece K O names t f lead x back h.0 small l b) refl
-  along_pieces L t lead back x [] f (g ∷ fs) l b h small = absurd h.1
-  along_pieces L t lead back x (y ∷ ys) f [] l b h small = absurd h.1
-  along_pieces L t lead back x (y ∷ ys) f (g ∷ fs) l b h small =
+  without_blanks : (x : List ℕ) (f : Term E) → IsPieceOf K O names x f → IsSpacedFactor K O names x f
+  without_blanks x f h = record { before = []; factor = x; behind = []; is = sym (append-nil x); blank_before = refl; blank_behind = refl; reads = h }
+
+  -- factors joined by `*` are their product
+  product_of_pieces : (L : IsMonomialOrder O) (t : Term E) (x : List ℕ) (xs : List (List ℕ)) (f : Term E) (fs : Polynomial E) → ArePieces (x ∷ xs) (f ∷ fs) → O.degree (product_of K t (f ∷ fs)).at ≤ degree_max →
+      IsProduct K O names t (join_with_byte 42 (x ∷ xs)) (product_of K t (f ∷ fs))
+  product_of_pieces L t x [] f [] h small = one_factor t (term_times K t f) f x (without_blanks x f h.0) (record { is = refl; small = small })
+  product_of_pieces L t x [] f (g ∷ fs) h small = absurd h.1
+  product_of_pieces L t x (y ∷ ys) f [] h small = absurd h.1
+  product_of_pieces L t x (y ∷ ys) f (g ∷ fs) h small =
       let low : O.degree (product t.at f.at) ≤ degree_max = omega (arith, small, degree_grows K O L (term_times K t f) (g ∷ fs)) in
-      let here = ap (λ w. with_factor K O names t (lead ++ w)) (sym (append-nil x)) ∙ with_piece K O names t f lead x [] h.0 low l refl in
-      rw here (along_pieces L (term_times K t f) [] back y ys g fs refl b h.1 small)
+      product_factors t (term_times K t f) (product_of K (term_times K t f) (g ∷ fs)) f (x ++ 42 ∷ join_with_byte 42 (y ∷ ys)) x (join_with_byte 42 (y ∷ ys)) refl (without_blanks x f h.0) (record { is = refl; small = low })
+      (product_of_pieces L (term_times K t f) y ys g fs h.1 small)
 
-  pieces_lack : (xs : List (List ℕ)) (fs : Polynomial E) → ArePieces xs fs → AllByRecursion (Lack is_star) xs
-  pieces_lack [] fs h = tt
-  pieces_lack (x ∷ xs) [] h = absurd h
-  pieces_lack (x ∷ xs) (f ∷ fs) h = (lack_from is_piece_byte is_star piece_no_star x h.0.bytes, pieces_lack xs fs h.1)
+  -- blanks before and behind a product
+  pub blanks_before : (lead : List ℕ) → AreBlanks lead → (t v : Term E) (bytes : List ℕ) → IsProduct K O names t bytes v → IsProduct K O names t (lead ++ bytes) v
+  blanks_before lead l t v bytes p = by p
+    where
+      spaced : (part : List ℕ) (x : Term E) → IsSpacedFactor K O names part x → IsSpacedFactor K O names (lead ++ part) x
+      spaced part x h = record {
+        before = lead ++ h.before;
+        factor = h.factor;
+        behind = h.behind;
+        is = ap (λ (l : List ℕ). lead ++ l) h.is ∙ sym (append_assoc lead h.before (h.factor ++ h.behind));
+        blank_before = all_append is_blank lead h.before l h.blank_before;
+        blank_behind = h.blank_behind;
+        reads = h.reads;
+      }
 
-  pub pieces_bytes : (xs : List (List ℕ)) (fs : Polynomial E) → ArePieces xs fs → list_all is_term_byte (join_with_byte 42 xs) ≡ true
-  pieces_bytes [] fs h = refl
-  pieces_bytes (x ∷ xs) [] h = absurd h
-  pieces_bytes (x ∷ []) (f ∷ fs) h = all_weaker is_piece_byte is_term_byte piece_in_term x h.0.bytes
-  pieces_bytes (x ∷ (y ∷ ys)) (f ∷ fs) h =
-      all_append is_term_byte x (42 ∷ join_with_byte 42 (y ∷ ys)) (all_weaker is_piece_byte is_term_byte piece_in_term x h.0.bytes) (pieces_bytes (y ∷ ys) fs h.1)
+      by : IsProduct K O names t bytes v → IsProduct K O names t (lead ++ bytes) v
+      by (one_factor _ _ x _ h n) = one_factor t v x (lead ++ bytes) (spaced bytes x h) n
+      by (product_factors _ u _ x _ part rest is h n more) =
+          product_factors t u v x (lead ++ bytes) (lead ++ part) rest (ap (λ (l : List ℕ). lead ++ l) is ∙ sym (append_assoc lead part (42 ∷ rest))) (spaced part x h) n more
 
-  pieces_begin : (x : List ℕ) (xs : List (List ℕ)) (f : Term E) (fs : Polynomial E) → ArePieces (x ∷ xs) (f ∷ fs) → Begins is_name_byte (join_with_byte 42 (x ∷ xs))
-  pieces_begin x [] f fs h = h.0.begins
-  pieces_begin x (y ∷ ys) f fs h = begins_append is_name_byte x (42 ∷ join_with_byte 42 (y ∷ ys)) h.0.begins
+  pub blanks_after : (back : List ℕ) → AreBlanks back → (t v : Term E) (bytes : List ℕ) → IsProduct K O names t bytes v → IsProduct K O names t (bytes ++ back) v
+  blanks_after back b t v bytes (one_factor _ _ x _ h n) = one_factor t v x (bytes ++ back) (record {
+    before = h.before;
+    factor = h.factor;
+    behind = h.behind ++ back;
+    is = ap (λ (l : List ℕ). l ++ back) h.is ∙ append_assoc h.before (h.factor ++ h.behind) back ∙ ap (λ (l : List ℕ). h.before ++ l) (append_assoc h.factor h.behind back);
+    blank_before = h.blank_before;
+    blank_behind = all_append is_blank h.behind back h.blank_behind b;
+    reads = h.reads;
+  }) n
+  blanks_after back b t v bytes (product_factors _ u _ x _ part rest is h n more) =
+      product_factors t u v x (bytes ++ back) part (rest ++ back) (ap (λ (l : List ℕ). l ++ back) is ∙ append_assoc part (42 ∷ rest) back) h n (blanks_after back b u v rest more)
 
-  -- a text that is read as a term, also with blanks around it
+  -- a text of a term that begins with a name or a number
   pub record IsTextOfTerm (text : List ℕ) (t : Term E) : Type 0 where
     pub begins : Begins is_name_byte text
-    pub bytes : list_all is_term_byte text ≡ true
-    pub read : (lead back : List ℕ) → list_all is_blank lead ≡ true → list_all is_blank back ≡ true → term_at K O names (false, lead ++ (text ++ back)) ≡ Ok t
-
-  pub joined_pieces : (L : IsMonomialOrder O) (x : List ℕ) (xs : List (List ℕ)) (f : Term E) (fs : Polynomial E) → ArePieces (x ∷ xs) (f ∷ fs) → O.degree (product_of K (term_of [] K.one) (f ∷ fs)).at ≤ degree_max →
-      IsTextOfTerm (join_with_byte 42 (x ∷ xs)) (product_of K (term_of [] K.one) (f ∷ fs))
-  unfolding term_at
-  joined_pieces L x xs f fs h small = record {
-    begins = pieces_begin x xs f fs h;
-    bytes = pieces_bytes (x ∷ xs) (f ∷ fs) h;
-    read = λ lead back l b.
-        ap (along (with_factor K O names) (term_of [] K.one)) (split_joined lead back x xs (lack_from is_blank is_star blank_no_star lead l) (lack_from is_blank is_star blank_no_star back b) (pieces_lack (x ∷ xs) (f ∷ fs) h))
-        ∙ along_pieces L (term_of [] K.one) lead back x xs f fs l b h small;
-  }
+    pub derived : IsTermOf K O names false text t
 
 -- ---- terms
 
@@ -147,16 +149,18 @@ module _ {E : Type 0} (K : FieldOps E) (O : MonomialOrder) (names : Names) (D : 
   factor_pieces i (zero ∷ m) named small le = factor_pieces (suc i) m (λ j ne. subst (λ k. IsSome (name_at names k)) (omega arith) (named (suc j) ne)) (λ j. small (suc j)) (omega arith)
   factor_pieces i (suc e ∷ m) named small le =
       let at : name_at names i ≡ Some (name_of names i) = named_place i (subst (λ k. IsSome (name_at names k)) (omega arith) (named 0 (λ z. absurd (omega arith)))) in
-      let form : has_name_form (name_of names i) ≡ true = rw at at (D.form i (omega arith)) in
-      let place : place_of names O.places (name_of names i) ≡ Some i = place_found O.places names D O.places i (name_of names i) (omega arith) (omega arith) at in
-      (power_piece K O names i (suc e) (name_of names i) form place (let s : suc e ≤ degree_max = small 0 in omega arith), factor_pieces (suc i) m (λ j ne. subst (λ k. IsSome (name_at names k)) (omega arith) (named (suc j) ne)) (λ j. small (suc j)) (omega arith))
+      (power_piece K O names i (suc e) (name_of names i) (omega arith) at (let s : suc e ≤ degree_max = small 0 in omega arith), factor_pieces (suc i) m (λ j ne. subst (λ k. IsSome (name_at names k)) (omega arith) (named (suc j) ne)) (λ j. small (suc j)) (omega arith))
 
-module _ {E : Type 0} (K : FieldOps E) (O : MonomialOrder) (L : IsMonomialOrder O) (names : Names) where
+module _ {E : Type 0} (K : FieldOps E) (O : MonomialOrder) (L : IsMonomialOrder O) (names : Names) (D : AreDifferent O.places names) where
   some_pieces : (xs : List (List ℕ)) (fs : Polynomial E) → 1 ≤ length xs → ArePieces K O names xs fs → O.degree (product_of K (term_of [] K.one) fs).at ≤ degree_max →
       IsTextOfTerm K O names (join_with_byte 42 xs) (product_of K (term_of [] K.one) fs)
   some_pieces [] fs some h small = absurd (omega arith)
   some_pieces (x ∷ xs) [] some h small = absurd h
-  some_pieces (x ∷ xs) (f ∷ fs) some h small = joined_pieces K O names L x xs f fs h small
+  some_pieces (x ∷ xs) (f ∷ fs) some h small = record { begins = begins x xs (factor_begins K O names D x f h.0); derived = product_of_pieces K O names L (term_of [] K.one) x xs f fs h small }
+    where
+      begins : (x : List ℕ) (xs : List (List ℕ)) → Begins is_name_byte x → Begins is_name_byte (join_with_byte 42 (x ∷ xs))
+      begins x [] h = h
+      begins x (y ∷ ys) h = begins_append is_name_byte x (42 ∷ join_with_byte 42 (y ∷ ys)) h
 
 join_more : (x : List ℕ) (xs : List (List ℕ)) → 1 ≤ length xs → join_with_byte 42 (x ∷ xs) ≡ x ++ (42 ∷ join_with_byte 42 xs)
 join_more x [] h = absurd (omega arith)
@@ -193,14 +197,14 @@ module _ {E : Type 0} (K : FieldOps E) (F : IsField K) (few : K.size ≤ 2 ^ 32)
       let piece = number_piece K O names (K.word c) (word_written c h.term.value) in
       let is = first_factor c h.term.value in
       subst (IsTextOfTerm K O names (decimal (K.word c))) is
-      (some_pieces K O L names (decimal (K.word c) ∷ []) (term_of [] (K.of_word (K.word c)) ∷ []) (omega arith) (piece, tt) h.small)
+      (some_pieces K O L names D (decimal (K.word c) ∷ []) (term_of [] (K.of_word (K.word c)) ∷ []) (omega arith) (piece, tt) h.small)
   text_of (e ∷ m) c h =
       elim (eqb (K.word c) 1) as (λ t. eqb (K.word c) 1 ≡ t → IsTextOfTerm K O names (cond t (factors_text names (e ∷ m)) (decimal (K.word c) ++ (42 ∷ factors_text names (e ∷ m)))) (term_of (e ∷ m) c)) [
         | true ↦ λ t.
             let one : c ≡ K.one = sym (F.of_word_word c h.term.value) ∙ (ap K.of_word (eqb-true (K.word c) 1 t ∙ sym F.word_one) ∙ F.of_word_word K.one F.one_value) in
             let is : product_of K (term_of [] K.one) (powers K 0 (e ∷ m)) ≡ term_of (e ∷ m) c = product_powers K F [] K.one 0 (e ∷ m) F.one_value h.term.monomial.trimmed ∙ ap (term_of (e ∷ m)) (sym one) in
             subst (IsTextOfTerm K O names (factors_text names (e ∷ m))) is
-            (some_pieces K O L names (factors names 0 (e ∷ m)) (powers K 0 (e ∷ m)) (factors_some names 0 e m h.term.monomial.trimmed) (all_factors (e ∷ m) c h) (low is))
+            (some_pieces K O L names D (factors names 0 (e ∷ m)) (powers K 0 (e ∷ m)) (factors_some names 0 e m h.term.monomial.trimmed) (all_factors (e ∷ m) c h) (low is))
         | false ↦ λ t.
             let piece = number_piece K O names (K.word c) (word_written c h.term.value) in
             let number : Term E = term_of [] (K.of_word (K.word c)) in
@@ -209,7 +213,7 @@ module _ {E : Type 0} (K : FieldOps E) (F : IsField K) (few : K.size ≤ 2 ^ 32)
             let text = join_more (decimal (K.word c)) (factors names 0 (e ∷ m)) (factors_some names 0 e m h.term.monomial.trimmed) in
             subst (λ w. IsTextOfTerm K O names w (term_of (e ∷ m) c)) text
             (subst (IsTextOfTerm K O names (join_with_byte 42 (decimal (K.word c) ∷ factors names 0 (e ∷ m)))) is
-            (some_pieces K O L names (decimal (K.word c) ∷ factors names 0 (e ∷ m)) (number ∷ powers K 0 (e ∷ m)) (omega arith) (piece, all_factors (e ∷ m) c h) (low is)))
+            (some_pieces K O L names D (decimal (K.word c) ∷ factors names 0 (e ∷ m)) (number ∷ powers K 0 (e ∷ m)) (omega arith) (piece, all_factors (e ∷ m) c h) (low is)))
       ] refl
     where
       low : {t : Term E} → t ≡ term_of (e ∷ m) c → O.degree t.at ≤ degree_max

@@ -1,8 +1,9 @@
 -- What is behind a front, and the parts of a line.
-use Rattle.std.proofs.Common.{◌≡◌, ℕ, ◌-◌, ◌<◌, ◌≤◌, Bool, true, false, not, cond, List, [], ◌∷◌, length, take, drop, get_or, refl, sym, ap, arith}
-use Rattle.std.specs.List.{slice_split, onto_first}
+use Rattle.std.proofs.Common.{◌≡◌, ℕ, ◌-◌, ◌<◌, ◌≤◌, Bool, true, false, not, cond, eqb, List, [], ◌∷◌, length, take, drop, get_or, refl, sym, ap, arith}
+use Rattle.std.specs.List.{list_all, slice_split, onto_first}
 use Rattle.std.proofs.lemmas.List.{take_rest}
-use Rattle.polynomial_text.specs.Bytes.{front, behind, Stops}
+use Rattle.polynomial_text.specs.Bytes.{is_blank, is_sign, front, behind, Stops}
+use Rattle.polynomial_text.specs.PolyLine.{signed_parts, behind_sign}
 
 pub nothing_left : (bytes : List ℕ) → length bytes < 1 → bytes ≡ []
 nothing_left [] h = refl
@@ -33,3 +34,34 @@ parts_split p (b ∷ text) =
       | true ↦ refl
       | false ↦ rw (parts_split p text) refl
     ]
+
+-- the parts behind the sign that the bytes begin with
+abbrev pub terms_behind : List ℕ → List (Bool × List ℕ)
+terms_behind [] = []
+terms_behind (b ∷ bytes) = signed_parts (eqb b 45) bytes
+
+pub terms_split : (minus : Bool) (text : List ℕ) → signed_parts minus text ≡ (minus, front (λ b. not (is_sign b)) text) ∷ terms_behind (behind (λ b. not (is_sign b)) text)
+unfolding signed_parts front behind
+terms_split minus [] = refl
+terms_split minus (b ∷ text) = by_test (is_sign b) refl (terms_split minus text)
+  where
+    by_test : (t : Bool) → is_sign b ≡ t → signed_parts minus text ≡ (minus, front (λ b. not (is_sign b)) text) ∷ terms_behind (behind (λ b. not (is_sign b)) text) →
+        signed_parts minus (b ∷ text) ≡ (minus, front (λ b. not (is_sign b)) (b ∷ text)) ∷ terms_behind (behind (λ b. not (is_sign b)) (b ∷ text))
+    by_test true e rest = rw e refl
+    by_test false e rest = rw (e, rest) refl
+
+pub sign_left_out : (line front text : List ℕ) (minus : Bool) → signed_parts false line ≡ (false, front) ∷ signed_parts minus text → list_all is_blank front ≡ true → behind_sign (signed_parts false line) ≡ signed_parts minus text
+sign_left_out line front text minus h blank = rw (h, terms_split minus text, blank) refl
+
+pub no_sign : (line front text : List ℕ) (minus : Bool) → signed_parts false line ≡ (false, front) ∷ signed_parts minus text → list_all is_blank front ≡ false → behind_sign (signed_parts false line) ≡ signed_parts false line
+no_sign line front text minus h blank = rw (h, terms_split minus text, blank) refl
+
+-- the front passes
+pub front_passes : (test : ℕ → Bool) (bytes : List ℕ) → list_all test (front test bytes) ≡ true
+unfolding front
+front_passes test [] = refl
+front_passes test (b ∷ bytes) =
+    elim (test b) as (λ t. test b ≡ t → list_all test (cond t (b ∷ front test bytes) []) ≡ true) [
+      | true ↦ λ e. rw e (front_passes test bytes)
+      | false ↦ λ e. refl
+    ] refl

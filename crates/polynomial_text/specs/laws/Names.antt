@@ -1,9 +1,9 @@
 -- Names of places: which place has a name, the bytes of names, and lists of different names.
-use Rattle.std.proofs.Common.{◌≡◌, ℕ, zero, suc, ◌<◌, ◌≤◌, true, false, cond, List, [], ◌∷◌, Option, Some, None, refl, sym, ap, ◌∙◌, ⊎_elim, arith}
+use Rattle.std.proofs.Common.{◌≡◌, ℕ, zero, suc, ◌<◌, ◌≤◌, Bool, true, false, cond, List, [], ◌∷◌, Option, Some, None, refl, sym, ap, subst, ◌∙◌, ⊎_elim, arith}
 use Rattle.std.specs.Prelude.{slice_get, IfSome, IsSome}
 use Rattle.std.specs.List.{list_all, AllByRecursion, IsDistinct}
 use Rattle.std.specs.Str.{bytes_eq, IsAscii, IsUtf8}
-use Rattle.std.proofs.lemmas.Bool.{and_parts, and_from, cases_eq, false_from_ne_true}
+use Rattle.std.proofs.lemmas.Bool.{and_parts, and_from, cases_eq, true≢false}
 use Rattle.std.proofs.lemmas.Bool.Decides.{nat_tests}
 use Rattle.std.proofs.lemmas.List.Elements.{recursion_from_All}
 use Rattle.std.proofs.lemmas.Slice.Eq.{bytes_eq-Decides}
@@ -23,33 +23,38 @@ named_is (Some name) word h = ap Some ((bytes_eq-Decides name word).0 h)
 pub named_itself : (word : List ℕ) → is_named (Some word) word ≡ true
 named_itself word = (bytes_eq-Decides word word).1 refl
 
-is_some : (found : Option (List ℕ)) (word : List ℕ) → found ≡ Some word → IsSome found
+pub is_some : (found : Option (List ℕ)) (word : List ℕ) → found ≡ Some word → IsSome found
 is_some found word e = rw e refl
+
+-- the place that is found has the name; if none is found, none of the first n has it
+abbrev pub IsPlaceResult : Names → ℕ → List ℕ → Option ℕ → Type 0
+IsPlaceResult names n word (Some i) = (i < n) × (name_at names i ≡ Some word)
+IsPlaceResult names n word None = (i : ℕ) → i < n → name_at names i ≡ Some word → ⊥
+
+pub place_result : (names : Names) (n : ℕ) (word : List ℕ) → IsPlaceResult names n word (place_of names n word)
+unfolding place_of
+place_result names zero word = λ i lt at. omega arith
+place_result names (suc n) word = here (is_named (name_at names n) word) refl (place_of names n word) (place_result names n word)
+  where
+    here : (t : Bool) → is_named (name_at names n) word ≡ t → (r : Option ℕ) → IsPlaceResult names n word r → IsPlaceResult names (suc n) word (cond t (Some n) r)
+    here true t r h = (omega arith, named_is (name_at names n) word t)
+    here false t (Some i) h = (omega (arith, h.0), h.1)
+    here false t None h = λ i lt at. ⊎_elim
+        (λ same. let found : name_at names n ≡ Some word = ap (name_at names) (sym same) ∙ at in let named : is_named (name_at names n) word ≡ true = rw found (named_itself word) in true≢false (sym named ∙ t))
+        (λ other. h i (omega arith) at) (cases_eq i n)
 
 module _ (places : ℕ) (names : Names) (D : AreDifferent places names) where
   -- among the first n places
   pub place_found : (n i : ℕ) (name : List ℕ) → i < n → n ≤ places → name_at names i ≡ Some name → place_of names n name ≡ Some i
-  unfolding place_of
-  place_found zero i name lt le at = absurd (omega arith)
-  place_found (suc n) i name lt le at =
-      ⊎_elim
-      (λ e. let found : name_at names n ≡ Some name = ap (name_at names) e ∙ at in rw (found, named_itself name) (ap Some e))
-      (λ ne.
-      let missed : is_named (name_at names n) name ≡ false = false_from_ne_true _ (λ h.
-      let same = named_is (name_at names n) name h in
-      ne (D.differ n i (omega arith) (omega arith) (is_some (name_at names n) name same) (same ∙ sym at))) in
-      rw missed (place_found n i name (omega arith) (omega arith) at))
-      (cases_eq n i)
+  place_found n i name lt le at = by (place_of names n name) (place_result names n name)
+    where
+      by : (r : Option ℕ) → IsPlaceResult names n name r → r ≡ Some i
+      by None never = absurd (never i lt at)
+      by (Some j) h = ap Some (D.differ j i (omega (arith, h.0)) (omega arith) (is_some (name_at names j) name h.1) (h.1 ∙ sym at))
 
 -- a place that is found is one of the first n
 pub place_below : (n : ℕ) (names : Names) (word : List ℕ) (i : ℕ) → Some i ≡ place_of names n word → i < n
-unfolding place_of
-place_below zero names word i e = absurd cc
-place_below (suc n) names word i e =
-    elim (is_named (name_at names n) word) as (λ t. Some i ≡ cond t (Some n) (place_of names n word) → i < suc n) [
-      | true ↦ λ h. let same : i ≡ n = cc in omega arith
-      | false ↦ λ h. let lt = place_below n names word i h in omega arith
-    ] e
+place_below n names word i e = (subst (IsPlaceResult names n word) (sym e) (place_result names n word)).0
 
 -- ---- the bytes of names
 

@@ -1,5 +1,5 @@
 use Rattle.polynomial_text.specs.Bytes.{is_digit}
-use Rattle.polynomial_text.proofs.Fronts.{front_passes}
+use Rattle.polynomial_text.specs.laws.Fronts.{front_passes}
 use Rattle.polynomial_text.proofs.line_number.number_at.Goals as goal
 
 pub digits_value-requires-clause-digits : goal.digits_value-requires-clause-digits

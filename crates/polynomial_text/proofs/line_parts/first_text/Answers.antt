@@ -1,5 +1,5 @@
 use Rattle.std.proofs.Common.{false, sym, ◌∙◌}
-use Rattle.polynomial_text.proofs.LineParts.{sign_left_out}
+use Rattle.polynomial_text.specs.laws.Fronts.{sign_left_out}
 use Rattle.polynomial_text.proofs.line_parts.first_text.Goals as goal
 
 pub returns-in-Some : goal.returns-in-Some

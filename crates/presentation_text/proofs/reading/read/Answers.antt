@@ -1,12 +1,10 @@
 use Rattle.std.proofs.lemmas.Result.{err_from_is_err_and}
 use Rattle.word_field.specs.Residues.{residues, is_listed}
-use Rattle.presentation_text.specs.Giving.{head_of}
-use Rattle.presentation_text.specs.Heading.{is_size}
 use Rattle.presentation_text.specs.Meaning.{word_ops}
 use Rattle.presentation_text.specs.Reading.AnyReading.{word}
 use Rattle.presentation_text.proofs.FieldKinds.{words}
-use Rattle.presentation_text.proofs.ReadHeads.{head_more}
-use Rattle.presentation_text.proofs.WholeTexts.{head_refused, over_refused, over_read, if_ok, if_err}
+use Rattle.presentation_text.proofs.ReadDiffers.{read_more}
+use Rattle.presentation_text.proofs.WholeTexts.{head_refused, read_in, over_refused, over_read, if_ok, if_err}
 use Rattle.presentation_text.proofs.reading.read.Goals as goal
 
 pub returns-in_err-head-clause-refused : goal.returns-in_err-head-clause-refused
@@ -14,13 +12,11 @@ returns-in_err-head-clause-refused c =
     let p = err_from_is_err_and c.from_residual.result c.from_residual.ensures.1 in
     rw (p.1, p.2) (head_refused is_listed c.args.bytes.now c.new-lines.result c.in_err-head.field-0.0 c.new-lines.ensures c.in_err-head.ensures.read)
 
--- with all sizes known, the text has the same reading
 pub returns-clause-accepted : goal.returns-clause-accepted
 returns-clause-accepted c =
-    let h = c.in_ok-head.head in
-    let rest = c.read_head.new.lines.left in
-    let first = head_more c.new-lines.result.missing c.new-lines.result.left (head_of h, rest) c.in_ok-head.ensures.read in
-    if_ok c.read_over.result (over_read word_ops residues word words is_size c.args.bytes.now c.new-lines.result c.new-lines.ensures c.in-Some.field h rest first c.in-Some.ensures.size)
+    if_ok c.read_over.result
+    (λ p is. read_in word_ops p (λ r e. read_more c.args.bytes.now (word r) e)
+    (over_read word_ops residues word words is_listed c.args.bytes.now c.new-lines.result c.new-lines.ensures c.in-Some.field c.in_ok-head.head c.read_head.new.lines.left c.in_ok-head.ensures.read c.in-Some.ensures.size p is))
     (rw c.in_ok-head.ensures.missing at c.read_over.ensures.read)
 
 pub returns-clause-refused : goal.returns-clause-refused

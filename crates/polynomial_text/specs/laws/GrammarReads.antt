@@ -1,5 +1,5 @@
 -- What the grammar derives from a line is read.
-use Rattle.std.proofs.Common.{◌≡◌, ℕ, ◌<◌, ◌≤◌, Bool, true, false, ◌&&◌, eqb, List, [], ◌∷◌, ◌++◌, length, Some, Ok, refl, sym, ap, subst, ◌∙◌, append_assoc, inl, inr, le-leb, arith}
+use Rattle.std.proofs.Common.{◌≡◌, ℕ, ◌<◌, ◌≤◌, Bool, true, false, not, ◌&&◌, eqb, List, [], ◌∷◌, ◌++◌, length, Some, Ok, refl, sym, ap, subst, ◌∙◌, append_assoc, inl, inr, le-leb, arith}
 use Rattle.std.specs.Prelude.{◌⊎◌}
 use Rattle.std.specs.List.{list_all, slice_split}
 use Rattle.std.proofs.lemmas.Bool.{and_parts}
@@ -12,19 +12,17 @@ use Rattle.monomial_order.specs.Monomial.{product}
 use Rattle.monomial_order.specs.MonomialOrder.{MonomialOrder}
 use Rattle.polynomials.specs.Polynomial.{Polynomial, term_of}
 use Rattle.poly_core.specs.declared.place_names.Names.{Names}
-use Rattle.poly_core.specs.Names.{name_at, is_name_byte, has_name_form}
+use Rattle.poly_core.specs.Names.{name_at, is_letter, is_name_byte, has_name_form}
 use Rattle.polynomial_text.specs.Results.{along, each}
 use Rattle.polynomial_text.specs.Bytes.{is_blank, is_digit, is_sign, front, behind, Stops}
 use Rattle.polynomial_text.specs.Canonical.{AreDifferent}
-use Rattle.polynomial_text.specs.PolyLine.{number_at, exponent_at, place_of, factor_at, with_factor, sign, term_at, behind_sign, signed_parts, terms_of}
+use Rattle.polynomial_text.specs.PolyLine.{number_at, exponent_at, power, place_of, power_at, factor_at, with_factor, sign, term_at, behind_sign, signed_parts, terms_of}
 use Rattle.polynomial_text.specs.Grammar.{AreBlanks, IsNumber, IsExponent, sign_byte, IsConstant, IsPower, IsSpacedFactor, IsNextProduct, IsProduct, one_factor, factors, IsTermOf, IsSum, one_term, terms, IsLine}
 use Rattle.polynomial_text.specs.GrammarFaults.{EndsExponent, EndsFactor}
-use Rattle.polynomial_text.specs.laws.CanonicalFactors.{factor_digits, factor_name, name_begins}
-use Rattle.polynomial_text.specs.laws.CanonicalParts.{Begins, Lack, all_append, behind_blanks, lack_from, lack_append, begins_append, stops_from, begins_stops, behind_all, digit_in_name, name_no_blank, blank_no_sign, blank_no_star, blank_no_name, blank_no_digit, is_star, differs, number_digits, parts_none, parts_signed}
-use Rattle.polynomial_text.specs.laws.Names.{name_bytes, place_found}
-use Rattle.polynomial_text.proofs.Fronts.{front_passes}
-use Rattle.polynomial_text.proofs.GrammarRead.{front_behind, blanks_behind}
-use Rattle.polynomial_text.proofs.LineParts.{sign_left_out, no_sign}
+use Rattle.polynomial_text.specs.laws.CanonicalParts.{letter_no_digit, front_all, Begins, Lack, all_append, behind_blanks, lack_from, lack_append, begins_append, stops_from, begins_stops, behind_all, digit_in_name, name_no_blank, blank_no_sign, blank_no_star, blank_no_name, blank_no_digit, is_star, differs, number_digits, parts_none, parts_signed}
+use Rattle.polynomial_text.specs.laws.Names.{letter_in_name, name_bytes, place_found}
+use Rattle.polynomial_text.specs.laws.Fronts.{sign_left_out, no_sign, front_passes}
+use Rattle.polynomial_text.specs.laws.GrammarRead.{front_behind, blanks_behind}
 
 -- ---- numbers and exponents
 
@@ -110,8 +108,15 @@ pub record IsApart (q : ℕ → Bool) : Type 0 where
 pub star_apart : IsApart is_star
 star_apart = record { blank = blank_no_star; name = differs is_name_byte 42 refl; raised = refl }
 
-sign_apart : IsApart is_sign
+pub sign_apart : IsApart is_sign
 sign_apart = record { blank = blank_no_sign; name = λ b h. rw (differs is_name_byte 43 refl b h, differs is_name_byte 45 refl b h) refl; raised = refl }
+
+feed_apart : IsApart (λ b. eqb b 10)
+feed_apart = record { blank = differs is_blank 10 refl; name = differs is_name_byte 10 refl; raised = refl }
+
+all_lack : (p : ℕ → Bool) (xs : List ℕ) → Lack p xs → list_all (λ b. not (p b)) xs ≡ true
+all_lack p [] h = refl
+all_lack p (x ∷ xs) h = rw h.0 (all_lack p xs h.1)
 
 module _ (q : ℕ → Bool) (A : IsApart q) where
   number_lacks : (bytes : List ℕ) (n : ℕ) → IsNumber bytes n → Lack q bytes
@@ -145,6 +150,25 @@ no_blanks : (bytes : List ℕ) → Begins is_name_byte bytes → list_all is_bla
 no_blanks [] h = absurd h
 no_blanks (b ∷ bytes) h = rw (name_no_blank b h) refl
 
+pub name_begins : (name : List ℕ) → has_name_form name ≡ true → Begins is_name_byte name
+name_begins [] h = absurd cc
+name_begins (b ∷ bytes) h = letter_in_name b (and_parts (is_letter b) (list_all is_name_byte bytes) h).0
+
+module _ {E : Type 0} (K : FieldOps E) (O : MonomialOrder) (names : Names) where
+  factor_digits : (ds back rest : List ℕ) (n : ℕ) → Begins is_digit ds → number_at (ds ++ back) ≡ Ok (n, rest) → factor_at K O names (ds ++ back) ≡ Ok (term_of [] (K.of_word n), rest)
+  unfolding factor_at
+  factor_digits [] back rest n h e = absurd h
+  factor_digits (d ∷ ds) back rest n h e = rw (h, e) refl
+
+  factor_name : (name tail rest : List ℕ) (i e : ℕ) → has_name_form name ≡ true → Stops is_name_byte tail → place_of names O.places name ≡ Some i → exponent_at tail ≡ Ok (e, rest) →
+      factor_at K O names (name ++ tail) ≡ Ok (term_of (power i e) K.one, rest)
+  unfolding factor_at power_at
+  factor_name [] tail rest i e h stop place up = absurd cc
+  factor_name (b ∷ bytes) tail rest i e h stop place up =
+      let a = and_parts (is_letter b) (list_all is_name_byte bytes) h in
+      let all = name_bytes (b ∷ bytes) h in
+      rw (letter_no_digit b a.0, a.0, front_all is_name_byte (b ∷ bytes) tail all stop, place, behind_all is_name_byte (b ∷ bytes) tail all stop, up) refl
+
 module _ {E : Type 0} (K : FieldOps E) (O : MonomialOrder) (names : Names) (D : AreDifferent O.places names) where
   pub name_form : (i : ℕ) (name : List ℕ) → i < O.places → name_at names i ≡ Some name → has_name_form name ≡ true
   name_form i name lt at = rw at at (D.form i lt)
@@ -153,7 +177,7 @@ module _ {E : Type 0} (K : FieldOps E) (O : MonomialOrder) (names : Names) (D : 
 
   pub factor_begins : (bytes : List ℕ) (x : Term E) → IsConstant K O names bytes x ⊎ IsPower K O names bytes x → Begins is_name_byte bytes
   factor_begins bytes x (inl c) = begins_name bytes (begins_digit bytes c.is.digits c.is.some)
-  factor_begins bytes x (inr p) = rw p.is (begins_append is_name_byte p.name p.behind (name_begins K O names p.name (name_form p.place p.name p.inside p.named)))
+  factor_begins bytes x (inr p) = rw p.is (begins_append is_name_byte p.name p.behind (name_begins p.name (name_form p.place p.name p.inside p.named)))
 
   pub factor_derived : (bytes back : List ℕ) (x : Term E) (h : IsConstant K O names bytes x ⊎ IsPower K O names bytes x) → EndsFactor K O names h back → (left : List ℕ) × (factor_at K O names (bytes ++ back) ≡ Ok (x, left)) × IsLeft back left
   factor_derived bytes back x (inl c) ends =
@@ -205,9 +229,9 @@ module _ {E : Type 0} (K : FieldOps E) (O : MonomialOrder) (names : Names) (D : 
       ap (slice_split is_star) is ∙ slice_split_at is_star part 42 rest (All-from_recursion (λ c. is_star c ≡ false) part (spaced_lacks is_star star_apart part x h)) refl in
       rw (parts, with_derived t u x part h n) (product_derived u v rest more)
 
-  pub product_lacks : (t v : Term E) (bytes : List ℕ) → IsProduct K O names t bytes v → Lack is_sign bytes
-  product_lacks t v bytes (one_factor _ _ x _ h n) = spaced_lacks is_sign sign_apart bytes x h
-  product_lacks t v bytes (factors _ u _ x _ part rest is h n more) = rw is (lack_append is_sign part (42 ∷ rest) (spaced_lacks is_sign sign_apart part x h) (refl, product_lacks u v rest more))
+  pub product_lacks : (q : ℕ → Bool) → IsApart q → q 42 ≡ false → (t v : Term E) (bytes : List ℕ) → IsProduct K O names t bytes v → Lack q bytes
+  product_lacks q A star t v bytes (one_factor _ _ x _ h n) = spaced_lacks q A bytes x h
+  product_lacks q A star t v bytes (factors _ u _ x _ part rest is h n more) = rw is (lack_append q part (42 ∷ rest) (spaced_lacks q A part x h) (star, product_lacks q A star u v rest more))
 
   product_shows : (t v : Term E) (bytes : List ℕ) → IsProduct K O names t bytes v → list_all is_blank bytes ≡ false
   product_shows t v bytes (one_factor _ _ x _ h n) = spaced_shows bytes x h
@@ -226,18 +250,18 @@ module _ {E : Type 0} (K : FieldOps E) (O : MonomialOrder) (names : Names) (D : 
   sum_derived : (minus : Bool) (bytes : List ℕ) (ts : Polynomial E) → IsSum K O names minus bytes ts → each (term_at K O names) (signed_parts minus bytes) ≡ Ok ts
   unfolding each
   sum_derived minus bytes ts (one_term _ _ t h) =
-      let parts : signed_parts minus bytes ≡ (minus, bytes) ∷ [] = parts_none minus bytes (product_lacks (term_of [] (sign K O names minus)) t bytes h) in
+      let parts : signed_parts minus bytes ≡ (minus, bytes) ∷ [] = parts_none minus bytes (product_lacks is_sign sign_apart refl (term_of [] (sign K O names minus)) t bytes h) in
       rw (parts, term_derived minus bytes t h) refl
   sum_derived minus bytes ts (terms _ next _ part rest t us is h more) =
       let parts : signed_parts minus bytes ≡ (minus, part) ∷ signed_parts next rest =
-      ap (signed_parts minus) is ∙ next_parts minus next part rest (product_lacks (term_of [] (sign K O names minus)) t part h) in
+      ap (signed_parts minus) is ∙ next_parts minus next part rest (product_lacks is_sign sign_apart refl (term_of [] (sign K O names minus)) t part h) in
       rw (parts, term_derived minus part t h, sum_derived next rest us more) refl
 
   unsigned : (line : List ℕ) (ts : Polynomial E) → IsSum K O names false line ts → behind_sign (signed_parts false line) ≡ signed_parts false line
-  unsigned line ts (one_term _ _ t h) = rw (parts_none false line (product_lacks (term_of [] (sign K O names false)) t line h)) refl
+  unsigned line ts (one_term _ _ t h) = rw (parts_none false line (product_lacks is_sign sign_apart refl (term_of [] (sign K O names false)) t line h)) refl
   unsigned line ts (terms _ next _ part rest t us is h more) =
       let start : Term E = term_of [] (sign K O names false) in
-      let parts = ap (signed_parts false) is ∙ next_parts false next part rest (product_lacks start t part h) in
+      let parts = ap (signed_parts false) is ∙ next_parts false next part rest (product_lacks is_sign sign_apart refl start t part h) in
       no_sign line part rest next parts (product_shows start t part h)
 
   pub line_derived : (line : List ℕ) (ts : Polynomial E) → IsLine K O names line ts → terms_of K O names line ≡ Ok ts
@@ -246,3 +270,18 @@ module _ {E : Type 0} (K : FieldOps E) (O : MonomialOrder) (names : Names) (D : 
   line_derived line ts (inr s) =
       let parts = ap (signed_parts false) s.is ∙ next_parts false s.minus s.before s.rest (lack_from is_blank is_sign blank_no_sign s.before s.blank_before) in
       ap (each (term_at K O names)) (sign_left_out line s.before s.rest s.minus parts s.blank_before) ∙ sum_derived s.minus s.rest ts s.sum
+
+  -- ---- bytes that no line has
+
+  sum_lacks : (q : ℕ → Bool) → IsApart q → q 42 ≡ false → ((next : Bool) → q (sign_byte next) ≡ false) → (minus : Bool) (bytes : List ℕ) (ts : Polynomial E) → IsSum K O names minus bytes ts → Lack q bytes
+  sum_lacks q A star signs minus bytes ts (one_term _ _ t h) = product_lacks q A star (term_of [] (sign K O names minus)) t bytes h
+  sum_lacks q A star signs minus bytes ts (terms _ next _ part rest t us is h more) =
+      rw is (lack_append q part (sign_byte next ∷ rest) (product_lacks q A star (term_of [] (sign K O names minus)) t part h) (signs next, sum_lacks q A star signs next rest us more))
+
+  -- no line feed is in a sum
+  pub sum_in_line : (minus : Bool) (bytes : List ℕ) (ts : Polynomial E) → IsSum K O names minus bytes ts → list_all (λ b. not (eqb b 10)) bytes ≡ true
+  sum_in_line minus bytes ts h = all_lack (λ b. eqb b 10) bytes (sum_lacks (λ b. eqb b 10) feed_apart refl signs minus bytes ts h)
+    where
+      signs : (next : Bool) → eqb (sign_byte next) 10 ≡ false
+      signs true = refl
+      signs false = refl
