@@ -44,14 +44,6 @@ found_more gs j g m P Q U l at keep here before i r lt t u e =
     split : (i j : ℕ) → i < j + 1 → (i ≡ j) ⊎ (i < j)
     split i j h = grind arith
 
--- the last exponent is not 0
-pub last_exponent : (m : List ℕ) (k : ℕ) → IsTrimmed m → length m ≡ suc k → exponent m k ≢ 0
-last_exponent [] k h e = absurd (omega arith)
-last_exponent (a ∷ []) zero h e = h
-last_exponent (a ∷ []) (suc k) h e = absurd (omega arith)
-last_exponent (a ∷ (b ∷ m)) zero h e = absurd (omega arith)
-last_exponent (a ∷ (b ∷ m)) (suc k) h e = last_exponent (b ∷ m) k h (omega arith)
-
 -- a factor of a product that has the place, and the product of the others
 record HasFactorAt (gs : List (List ℕ)) (p : ℕ) (m : List ℕ) : Type 0 where
   factor : List ℕ

@@ -4,7 +4,7 @@ use Rattle.std.specs.Prelude.{max}
 use Rattle.std.specs.List.{refill}
 use Rattle.std.proofs.lemmas.Grind.{same_number_lists, common_steps}
 use Rattle.monomial_order.specs.Monomial.{exponent, product, least_common_multiple, Divides, IsTrimmed}
-use Rattle.monomial_order.specs.laws.Monomial.{length-product, exponent-product, exponent_past, length-least_common_multiple, exponent-least_common_multiple, IsTrimmed-product}
+use Rattle.monomial_order.specs.laws.Monomial.{last_exponent, length-product, exponent-product, exponent_past, length-least_common_multiple, exponent-least_common_multiple, IsTrimmed-product}
 use Rattle.monomial_order.specs.laws.Cofactors.{same_exponents}
 
 below_or_not : (a b : ℕ) → (a < b) ⊎ (b ≤ a)
@@ -29,27 +29,12 @@ multiple_is maxima initial m e s done left =
     rest : (k : ℕ) → length m ≤ k → get_or initial k 0 ≡ exponent (least_common_multiple initial m) k
     rest k p = let x = exponent-least_common_multiple initial m k in let z = exponent_past m k p in omega arith
 
--- the last exponent of a trimmed list is not 0
-last_exponent : (m : List ℕ) → IsTrimmed m → 1 ≤ length m → exponent m (length m - 1) ≢ 0
-last_exponent [] h l = absurd (omega arith)
-last_exponent (a ∷ []) h l = h
-last_exponent (a ∷ (b ∷ m)) h l = λ e. last_exponent (b ∷ m) h (omega arith) (at (length m) e)
-  where
-    at : (n : ℕ) → exponent (a ∷ (b ∷ m)) (suc (suc n) - 1) ≡ 0 → exponent (b ∷ m) (suc n - 1) ≡ 0
-    at n e = ap (exponent (b ∷ m)) (less n) ∙ (sym (ap (exponent (a ∷ (b ∷ m))) (more n)) ∙ e)
-      where
-        less : (n : ℕ) → suc n - 1 ≡ n
-        less n = omega arith
-
-        more : (n : ℕ) → suc (suc n) - 1 ≡ suc n
-        more n = omega arith
-
 pub longer_does_not_divide : (m n : List ℕ) → IsTrimmed m → length n < length m → Divides m n → ⊥
 longer_does_not_divide m n h l d =
-    let last = last_exponent m h (omega arith) in
+    let last = last_exponent m (length m - 1) h (omega arith) in
     let z = exponent_past n (length m - 1) (omega arith) in
     let e = d (length m - 1) in
-    last (omega arith)
+    absurd (omega arith)
 
 -- a list that ends before its zeros is trimmed
 pub trimmed_by_last : (m : List ℕ) → ((k : ℕ) → length m ≡ suc k → exponent m k ≢ 0) → IsTrimmed m

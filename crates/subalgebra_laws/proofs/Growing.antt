@@ -9,7 +9,7 @@ use Rattle.std.specs.declared.cmp.Ordering.TheVariants.{Less}
 use Rattle.monomial_order.specs.Monomial.{product, exponent, variable, IsTrimmed, weighted_degree}
 use Rattle.monomial_order.specs.Orders.{lex}
 use Rattle.monomial_order.specs.laws.Lists.{contains_left}
-use Rattle.monomial_order.specs.laws.Monomial.{product-one, length-product, variable_divides, variable_trimmed, variable_length}
+use Rattle.monomial_order.specs.laws.Monomial.{last_place, product-one, length-product, variable_divides, variable_trimmed, variable_length}
 use Rattle.monomial_order.specs.laws.Cofactors.{cofactor, length-product_right}
 use Rattle.monomial_order.specs.laws.Comparing.{le_or_not, equal_or_not, some_exponent, not_below_self, divisor_degree}
 use Rattle.word_laws.specs.Words.{image_of, image, variables, lead_degrees, IsWord, IsSWord, IsSmaller}
@@ -30,12 +30,6 @@ use Rattle.subalgebra_laws.proofs.Letters.{order_over, letter_degrees, places_le
 use Rattle.subalgebra_laws.proofs.Combinations.{combination_same, combination_congruent, combination_word, combination_linear, sum_low}
 use Rattle.subalgebra_laws.proofs.Generated.{generated_images}
 use Rattle.subalgebra_laws.proofs.ReducedBases.{word_low}
-
--- the last exponent of a trimmed list
-last_exponent : (u : List ℕ) → IsTrimmed u → u ≢ [] → (i : ℕ) × (suc i ≡ length u) × (1 ≤ exponent u i)
-last_exponent [] h n = absurd (n refl)
-last_exponent (a ∷ []) h n = (0, refl, omega (arith, h))
-last_exponent (a ∷ (b ∷ u)) h n = let r = last_exponent (b ∷ u) h (λ e. cc) in (suc r.0, ap suc r.1, r.2)
 
 word_terms : {E : Type 0} (P : Presented E) (S : List (Polynomial E)) (p : Polynomial E) → IsPoly P.field (order_over P S).places p → AllAt (IsWord (letters P S)) p
 word_terms P S [] h = tt
@@ -136,7 +130,7 @@ module _ {E : Type 0} (P : Presented E) (H : IsPresentation P) (S T : List (Poly
   -- so a word of at most that degree that is not one over S is a new letter
   long_word : (d : ℕ) → HaveLeadsFrom P d T → (w : List ℕ) → IsWord (letters P (S ++ T)) w → (order_over P (S ++ T)).degree w ≤ d → (length w ≤ (order_over P S).places → ⊥) → (j : ℕ) × (j < length T) × (w ≡ new_letter j)
   long_word d high w hw le n =
-      let x = last_exponent w hw.trimmed (λ e. n (let z : length w ≡ 0 = ap length e in omega arith)) in
+      let x = last_place w hw.trimmed (λ e. n (let z : length w ≡ 0 = ap length e in omega arith)) in
       let x1 = x.1 in
       let p = places_letters P S in
       let q = places_letters P (S ++ T) in

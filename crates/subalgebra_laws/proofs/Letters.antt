@@ -12,7 +12,7 @@ use Rattle.monomial_order.specs.laws.Monomial.{product-one, IsMonomial-product, 
 use Rattle.monomial_order.specs.laws.Orders.{take-product, sum-product}
 use Rattle.word_laws.specs.Words.{AreLetters, word_order_of, image_of, image, variables, lead_degrees, IsSWord}
 use Rattle.word_laws.specs.laws.Images.{length-variables, degree_weighted}
-use Rattle.word_laws.specs.laws.Words.{word_laws, degree_image, degree_x, image_x}
+use Rattle.word_laws.specs.laws.Words.{no_x_variable, word_laws, degree_image, degree_x, image_x}
 use Rattle.monomial_order.specs.laws.Comparing.{degree_one}
 use Rattle.polynomials.specs.Polynomial.{Polynomial, coefficient, Same, term_of, lead_monomial}
 use Rattle.polynomials.specs.Subalgebra.{Presented, IsPresentation}
@@ -29,12 +29,6 @@ image_variable : (ms : List (List ℕ)) (j : ℕ) → j < length ms → image (v
 image_variable [] j l = absurd (omega arith)
 image_variable (m ∷ ms) zero l = product-one (product m []) ∙ product-one m
 image_variable (m ∷ ms) (suc j) l = image_variable ms j (omega arith)
-
-no_x_variable : (n j : ℕ) → sum (take n (variable (n + j))) ≡ 0
-no_x_variable zero j = refl
-no_x_variable (suc n) j =
-    ap (λ k. sum (take (suc n) (variable k))) (let e : suc n + j ≡ suc (n + j) = omega arith in e) ∙
-    (sum_by-cons (λ (y : ℕ). y) 0 (take n (variable (n + j))) ∙ (let r = no_x_variable n j in omega arith))
 
 module _ {E : Type 0} (P : Presented E) (S : List (Polynomial E)) where
   abbrev pub letter_degrees : List ℕ

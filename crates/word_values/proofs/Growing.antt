@@ -6,7 +6,7 @@ use Rattle.std.proofs.lemmas.List.Elements.{Contains-get_or}
 use Rattle.monomial_order.specs.Monomial.{exponent, product, variable, weighted_degree}
 use Rattle.monomial_order.specs.laws.Cofactors.{cofactor}
 use Rattle.monomial_order.specs.laws.Comparing.{le_or_not}
-use Rattle.monomial_order.specs.laws.Monomial.{variable_divides, variable_trimmed, product-one}
+use Rattle.monomial_order.specs.laws.Monomial.{last_place, variable_divides, variable_trimmed, product-one}
 use Rattle.word_laws.specs.Words.{lead_degrees, IsSWord}
 use Rattle.word_laws.specs.laws.Images.{weighted_front}
 use Rattle.polynomials.specs.Polynomial.{Polynomial, lead_monomial}
@@ -14,7 +14,7 @@ use Rattle.polynomials.specs.Subalgebra.{Presented, IsPresentation, IsNormalForm
 use Rattle.subalgebra_laws.specs.Words.{letters}
 use Rattle.subalgebra_laws.specs.Statements.{ValuesStay}
 use Rattle.word_values.specs.Values.{Table, AreHomogeneousElements, AreValues, AreWordsTo, word_degree, value_in}
-use Rattle.word_values.specs.laws.Letters.{last_exponent, xs, places_letters, rest_word, letter_range, product_degree, letter_degree}
+use Rattle.word_values.specs.laws.Letters.{xs, places_letters, rest_word, letter_range, product_degree, letter_degree}
 
 module _ {E : Type 0} (P : Presented E) (S T : List (Polynomial E)) where
   word_grows : (w : List ℕ) → IsSWord (letters P S) w → IsSWord (letters P (S ++ T)) w
@@ -91,7 +91,7 @@ module _ {E : Type 0} (P : Presented E) (H : IsPresentation P) (S : List (Polyno
   -- an s-word other than 1 has a positive degree
   degree_positive : (w : List ℕ) → IsSWord (letters P S) w → w ≢ [] → 1 ≤ word_degree P S w
   degree_positive w h n =
-      let e = last_exponent w h.0.trimmed n in
+      let e = last_place w h.0.trimmed n in
       let x = letter_of w e.0 h e.2 in
       let d = product_degree P S (variable e.0) x.rest in
       let whole : word_degree P S (product (variable e.0) x.rest) ≡ word_degree P S w = ap (word_degree P S) x.whole_is in
@@ -126,6 +126,6 @@ module _ {E : Type 0} (P : Presented E) (H : IsPresentation P) (S U : List (Poly
       ⊎_elim (λ l. l)
       (λ n.
       let some : w ≢ [] = λ z. n (let y : length w ≡ 0 = ap length z in omega arith) in
-      let x = last_exponent w k.word.0.trimmed some in
+      let x = last_place w k.word.0.trimmed some in
       absurd (k.long (x.0, alone w x.0 k.word (le w v e) x.2 (let s = x.1 in omega (arith, n)))))
       (le_or_not (length w) (P.order.places + length S))

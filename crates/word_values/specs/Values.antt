@@ -11,10 +11,6 @@ use Rattle.witness.specs.declared.tracked.Tracked.{Tracked}
 use Rattle.word_values.specs.declared.products.Split.{Split}
 use Rattle.word_values.specs.declared.paths.Step.{Step}
 
--- the values of tracked elements
-abbrev pub values_of : {F E : Type 0} → List (Tracked F E) → List (Polynomial E)
-values_of ts = map (λ t. t.value) ts
-
 -- words, each with what a table keeps for it
 abbrev pub Table : Type 0 → Type 0
 Table E = List (Exponents × Polynomial E)

@@ -6,7 +6,8 @@ ghost use Rattle.word_laws.specs.Words.{IsSWord};
 ghost use Rattle.poly_core.specs.Presentation.{presented, IsValid};
 ghost use Rattle.quotient_gb.specs.Quotient.{IsQuotientOf};
 ghost use Rattle.subalgebra_laws.specs.Words.{letters};
-ghost use Rattle.word_values.specs.Values.{values_of, AreHomogeneousElements, IsWordValue, word_degree, whole, IsSplit};
+ghost use Rattle.witness.specs.Tracking.{values_of};
+ghost use Rattle.word_values.specs.Values.{AreHomogeneousElements, IsWordValue, word_degree, whole, IsSplit};
 
 use crate::words::without;
 use monomial_order::{Memory, Monomial, Order};

@@ -7,7 +7,8 @@ ghost use Rattle.polynomials.specs.Polynomial.{IsCanonical};
 ghost use Rattle.poly_core.specs.Presentation.{presented, IsValid};
 ghost use Rattle.quotient_gb.specs.Quotient.{IsQuotientOf};
 ghost use Rattle.subalgebra_laws.specs.Words.{letters};
-ghost use Rattle.word_values.specs.Values.{values_of, IsReady, AreHomogeneousElements, IsWordValue, AreValues, AreWordsTo, word_degree, IsLetter, IsPath, IsSplit, Puts, whole};
+ghost use Rattle.witness.specs.Tracking.{values_of};
+ghost use Rattle.word_values.specs.Values.{IsReady, AreHomogeneousElements, IsWordValue, AreValues, AreWordsTo, word_degree, IsLetter, IsPath, IsSplit, Puts, whole};
 
 use crate::paths::{Path, Step};
 use crate::products::{Split, element, take_off, times_letter, value_of_start};

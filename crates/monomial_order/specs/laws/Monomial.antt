@@ -27,6 +27,19 @@ length-product [] n = omega arith
 length-product (a ∷ m) [] = omega arith
 length-product (a ∷ m) (b ∷ n) = omega (arith, length-product m n)
 
+-- the last exponent of a trimmed list is not zero
+pub last_exponent : (m : List ℕ) (n : ℕ) → IsTrimmed m → length m ≡ suc n → 1 ≤ exponent m n
+last_exponent [] n h e = absurd (omega arith)
+last_exponent (a ∷ []) zero h e = omega (arith, h)
+last_exponent (a ∷ []) (suc n) h e = absurd (omega arith)
+last_exponent (a ∷ (b ∷ m)) zero h e = absurd (omega arith)
+last_exponent (a ∷ (b ∷ m)) (suc n) h e = last_exponent (b ∷ m) n h (omega arith)
+
+-- and it has one, if it is not empty
+pub last_place : (m : List ℕ) → IsTrimmed m → m ≢ [] → (n : ℕ) × (suc n ≡ length m) × (1 ≤ exponent m n)
+last_place [] h n = absurd (n refl)
+last_place (a ∷ m) h n = (length m, refl, last_exponent (a ∷ m) (length m) h refl)
+
 pub IsTrimmed-product : (m n : List ℕ) → IsTrimmed m → IsTrimmed n → IsTrimmed (product m n)
 IsTrimmed-product [] n h k = k
 IsTrimmed-product (a ∷ m) [] h k = h

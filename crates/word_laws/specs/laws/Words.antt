@@ -1,12 +1,13 @@
 -- Words: their order, images and degrees.
-use Rattle.std.proofs.Common.{◌≡◌, ℕ, ◌≤◌, refl, sym, ◌∙◌, ap, List, [], ◌∷◌, ◌++◌, length, take, length-append, arith, ⊎_elim}
+use Rattle.std.proofs.Common.{◌≡◌, ℕ, zero, suc, ◌+◌, ◌≤◌, refl, sym, ◌∙◌, ap, List, [], ◌∷◌, ◌++◌, length, take, length-append, arith, ⊎_elim}
 use Rattle.std.specs.Prelude.{map, sum, Contains}
 use Rattle.std.proofs.lemmas.List.{map-append}
+use Rattle.std.proofs.lemmas.List.Sums.{sum_by-cons}
 use Rattle.std.proofs.lemmas.Bool.Decides.{nat_tests}
 use Rattle.std.specs.Ordering.{nat_cmp, ordering_then}
 use Rattle.std.specs.declared.cmp.Ordering.{Ordering}
 use Rattle.std.specs.declared.cmp.Ordering.TheVariants.{Less, Equal, Greater}
-use Rattle.monomial_order.specs.Monomial.{Exponents, product, IsMonomial, Divides, weighted_degree}
+use Rattle.monomial_order.specs.Monomial.{Exponents, product, variable, IsMonomial, Divides, weighted_degree}
 use Rattle.monomial_order.specs.MonomialOrder.{IsMonomialOrder}
 use Rattle.monomial_order.specs.laws.Orders.{ArePositive, word_order_laws, take-product, sum-product}
 use Rattle.word_laws.specs.Words.{Letters, AreLetters, lead_degrees, word_order_of, image_of, IsWord, IsSWord, IsSmaller, variables}
@@ -14,6 +15,13 @@ use Rattle.monomial_order.specs.laws.Cofactors.{cofactor}
 use Rattle.monomial_order.specs.laws.Comparing.{cmp_greater, le_or_not, degree_one, some_exponent}
 use Rattle.monomial_order.specs.laws.Lists.{contains_here, contains_there}
 use Rattle.word_laws.specs.laws.Images.{AreMonomials, AreMonomials-append, variables_monomials, image_monomial, image_sum, image_product, variables_degrees, weighted_front, image_front, image_variables, length-variables}
+
+-- the letter of an s has no x
+pub no_x_variable : (n j : ℕ) → sum (take n (variable (n + j))) ≡ 0
+no_x_variable zero j = refl
+no_x_variable (suc n) j =
+    ap (λ k. sum (take (suc n) (variable k))) (let e : suc n + j ≡ suc (n + j) = omega arith in e) ∙
+    (sum_by-cons (λ (y : ℕ). y) 0 (take n (variable (n + j))) ∙ (let r = no_x_variable n j in omega arith))
 
 ArePositive-append : (xs ys : List ℕ) → ArePositive xs → ArePositive ys → ArePositive (xs ++ ys)
 ArePositive-append [] ys h k = k

@@ -4,7 +4,7 @@ use Rattle.std.specs.Prelude.{AllPairs}
 use Rattle.std.proofs.lemmas.List.{get_or_default}
 use Rattle.std.specs.declared.cmp.Ordering.TheVariants.{Less}
 use Rattle.monomial_order.specs.Monomial.{Exponents, exponent, IsTrimmed, IsMonomial, Divides, variable, weighted_degree}
-use Rattle.monomial_order.specs.laws.Monomial.{variable_divides, trimmed_tail, variable_trimmed, variable_length}
+use Rattle.monomial_order.specs.laws.Monomial.{last_exponent, variable_divides, trimmed_tail, variable_trimmed, variable_length}
 use Rattle.monomial_order.specs.laws.Comparing.{le_or_not, equal_or_not, proper_divisor, not_below_self}
 use Rattle.monomial_order.specs.laws.Lists.{contains_at}
 use Rattle.word_laws.specs.Words.{Letters, AreLetters, word_order_of, image_of, IsWord, IsSmaller, IsReducible, IsLeast}
@@ -15,14 +15,6 @@ use Rattle.word_rewriting.specs.Renumbering.{AreLastLeads, AreRenumbered, AreLet
 use Rattle.word_rewriting.specs.laws.Letters.{places_count, letter_word}
 use Rattle.word_rewriting.specs.laws.MoreLeads.{word_stays, image_stays, compare_stays, letters_stay, new_image, new_letter_smaller}
 use Rattle.word_rewriting.specs.laws.Pairs.{trichotomy}
-
--- the last exponent of a monomial is not zero
-last_exponent : (m : Exponents) (n : ℕ) → IsTrimmed m → length m ≡ suc n → 1 ≤ exponent m n
-last_exponent [] n h e = absurd (omega arith)
-last_exponent (a ∷ []) zero h e = omega (arith, h)
-last_exponent (a ∷ []) (suc n) h e = absurd (omega arith)
-last_exponent (a ∷ (b ∷ m)) zero h e = absurd (omega arith)
-last_exponent (a ∷ (b ∷ m)) (suc n) h e = last_exponent (b ∷ m) n h (omega arith)
 
 -- a divisor of a monomial has no more places
 divisor_length : (u v : Exponents) → IsTrimmed u → Divides u v → length u ≤ length v

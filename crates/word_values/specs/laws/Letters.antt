@@ -9,6 +9,7 @@ use Rattle.monomial_order.specs.laws.Cofactors.{length-product_right}
 use Rattle.monomial_order.specs.laws.Comparing.{le_or_not}
 use Rattle.monomial_order.specs.laws.Monomial.{weighted_nil, exponent-product, exponent_past, variable_monomial, IsMonomial-product}
 use Rattle.monomial_order.specs.laws.Orders.{weighted_degree-product, take-product, sum-product}
+use Rattle.word_laws.specs.laws.Words.{no_x_variable}
 use Rattle.word_laws.specs.Words.{word_order_of, variables, lead_degrees, IsSWord}
 use Rattle.word_laws.specs.laws.Images.{length-variables, degree_weighted}
 use Rattle.polynomials.specs.Polynomial.{Polynomial, coefficient, Same, term_of, lead_monomial}
@@ -28,12 +29,6 @@ weighted_variable (w ∷ ws) (suc j) l =
 pub exponent_here : (i : ℕ) → exponent (variable i) i ≡ 1
 exponent_here zero = refl
 exponent_here (suc i) = exponent_here i
-
--- the last exponent of a trimmed list
-pub last_exponent : (u : List ℕ) → IsTrimmed u → u ≢ [] → (i : ℕ) × (suc i ≡ length u) × (1 ≤ exponent u i)
-last_exponent [] h n = absurd (n refl)
-last_exponent (a ∷ []) h n = (0, refl, omega (arith, h))
-last_exponent (a ∷ (b ∷ u)) h n = let r = last_exponent (b ∷ u) h (λ e. cc) in (suc r.0, ap suc r.1, r.2)
 
 -- a place before the end counts in the sum of the front
 front_exponent : (w : List ℕ) (n i : ℕ) → i < n → exponent w i ≤ sum (take n w)
@@ -112,12 +107,6 @@ module _ {E : Type 0} (P : Presented E) (S : List (Polynomial E)) where
   -- the place of a letter that is an s-word
   pub single_range : (w : List ℕ) (i : ℕ) → IsSWord (letters P S) w → w ≡ variable i → (P.order.places ≤ i) × (i < P.order.places + length S)
   single_range w i h e = letter_range w i h (λ z. let a : exponent w i ≡ exponent (variable i) i = ap (λ u. exponent u i) e in let b = exponent_here i in omega arith)
-
-no_x_variable : (n j : ℕ) → sum (take n (variable (n + j))) ≡ 0
-no_x_variable zero j = refl
-no_x_variable (suc n) j =
-    ap (λ k. sum (take (suc n) (variable k))) (let e : suc n + j ≡ suc (n + j) = omega arith in e) ∙
-    (sum_by-cons (λ (y : ℕ). y) 0 (take n (variable (n + j))) ∙ (let r = no_x_variable n j in omega arith))
 
 module _ {E : Type 0} (P : Presented E) (S : List (Polynomial E)) where
   -- a letter is an s-word, and an s-word times a letter is one

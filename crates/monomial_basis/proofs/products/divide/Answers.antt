@@ -1,8 +1,9 @@
 use Rattle.std.proofs.Common.{◌≡◌, ◌≢◌, ℕ, ◌-◌, List, [], ◌∷◌, length, arith, refl, sym, ap, ◌∙◌, subst, inr, ⊎_elim}
+use Rattle.monomial_order.specs.laws.Monomial.{last_exponent}
 use Rattle.monomial_order.specs.Monomial.{exponent, IsTrimmed, product}
 use Rattle.polynomials.specs.Subalgebra.{IsGenerated}
 use Rattle.monomial_basis.specs.Products.{IsPending, IsQuotient}
-use Rattle.monomial_basis.proofs.Dividing.{found_more, product_cancel, divides_product, generated_more, generated_one, quotient_monomial, quotient_is, some_place, last_exponent, some_pending}
+use Rattle.monomial_basis.proofs.Dividing.{found_more, product_cancel, divides_product, generated_more, generated_one, quotient_monomial, quotient_is, some_place, some_pending}
 use Rattle.monomial_basis.proofs.products.divide.Goals as goal
 use Rattle.monomial_basis.proofs.products.divide.Goals.{in-Some+else-places-eq0+in_ok-add, in_default}
 
@@ -71,5 +72,5 @@ pub returns-clause-no : goal.returns-clause-no
 returns-clause-no g c =
     let l = some_place (g.O.Order.order c.args.o.now) (g.met.O.Order.laws c.args.o.now) c.args.factors.now c.requires.factors c.args.m.now c.requires.dividend.positive in
     λ _. some_pending (g.O.Order.order c.args.o.now) (g.met.O.Order.laws c.args.o.now) c.args.factors.now c.requires.factors c.args.m.now (c.places-place.result - 1) c.loop-factor.pending.items
-    (last_exponent c.args.m.now (c.places-place.result - 1) c.requires.dividend.monomial.trimmed (omega (arith, c.places-place.ensures.length)))
+    (λ z. let last = last_exponent c.args.m.now (c.places-place.result - 1) c.requires.dividend.monomial.trimmed (omega (arith, c.places-place.ensures.length)) in omega arith)
     (λ i r l t u e. c.loop-factor.invariant.found i r (omega (arith, c.loop-factor-test.false, c.loop-factor.auto.factor-index-end)) t u e)

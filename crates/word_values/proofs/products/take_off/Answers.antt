@@ -1,5 +1,5 @@
 use Rattle.poly_core.specs.Presentation.{presented}
-use Rattle.word_values.specs.Values.{values_of}
+use Rattle.witness.specs.Tracking.{values_of}
 use Rattle.word_values.specs.laws.Letters.{rest_word, letter_range}
 use Rattle.word_values.proofs.products.take_off.Goals as goal
 

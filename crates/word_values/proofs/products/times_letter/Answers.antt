@@ -3,7 +3,8 @@ use Rattle.std.proofs.lemmas.List.{length-map}
 use Rattle.monomial_order.specs.Monomial.{product, variable}
 use Rattle.polynomials.specs.Polynomial.{Same, times, IsCanonical, IsSmall}
 use Rattle.poly_core.specs.Presentation.{presented}
-use Rattle.word_values.specs.Values.{values_of, IsWordValue, word_degree}
+use Rattle.witness.specs.Tracking.{values_of}
+use Rattle.word_values.specs.Values.{IsWordValue, word_degree}
 use Rattle.word_values.proofs.Multiplying.{element_is, product_small, product_degree_to, product_value}
 use Rattle.word_values.proofs.products.times_letter.Goals as goal
 

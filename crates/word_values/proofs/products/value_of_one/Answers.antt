@@ -2,7 +2,7 @@ use Rattle.std.proofs.Common.{◌≡◌, ◌≢◌, ◌∙◌, sym, ap, subst, i
 use Rattle.monomial_order.specs.laws.Comparing.{degree_one}
 use Rattle.polynomials.specs.Polynomial.{constant, term_of, IsCanonical, degree_of}
 use Rattle.poly_core.specs.Presentation.{presented}
-use Rattle.word_values.specs.Values.{values_of}
+use Rattle.witness.specs.Tracking.{values_of}
 use Rattle.word_values.proofs.Multiplying.{one_canonical, one_is_value}
 use Rattle.word_values.proofs.products.value_of_one.Goals as goal
 

@@ -4,7 +4,8 @@ use lib.Pointwise.{pointwise}
 use Rattle.std.specs.HashMap.{get_by}
 use Rattle.std.proofs.lemmas.List.{length-map}
 use Rattle.poly_core.specs.Presentation.{presented}
-use Rattle.word_values.specs.Values.{values_of, IsWordValue, value_in}
+use Rattle.witness.specs.Tracking.{values_of}
+use Rattle.word_values.specs.Values.{IsWordValue, value_in}
 use Rattle.word_values.specs.laws.Letters.{single_range}
 use Rattle.word_values.proofs.Multiplying.{single_is_value}
 use Rattle.word_values.proofs.Tables.{lookup_map, found_value, some_found, some_back}

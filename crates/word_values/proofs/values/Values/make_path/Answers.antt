@@ -1,7 +1,8 @@
 use Rattle.std.proofs.Common.{◌≤◌, subst, inl, inr, ⊎_elim, arith}
 use Rattle.std.proofs.lemmas.List.{length-map}
 use Rattle.poly_core.specs.Presentation.{presented}
-use Rattle.word_values.specs.Values.{values_of, IsWordValue, word_degree}
+use Rattle.witness.specs.Tracking.{values_of}
+use Rattle.word_values.specs.Values.{IsWordValue, word_degree}
 use Rattle.word_values.proofs.Following.{next_of, next_values, next_degrees, next_stays, reach_next}
 use Rattle.word_values.proofs.values.Values.make_path.Goals as goal
 

@@ -1,6 +1,6 @@
 use Rattle.std.specs.Prelude.{length}
 use Rattle.poly_core.specs.Presentation.{presented}
-use Rattle.word_values.specs.Values.{values_of}
+use Rattle.witness.specs.Tracking.{values_of}
 use Rattle.word_values.proofs.Following.{IsReached}
 use Rattle.word_values.proofs.values.Values.make_path.Given as goal
 

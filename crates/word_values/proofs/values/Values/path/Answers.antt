@@ -4,7 +4,8 @@ use Rattle.word_laws.specs.Words.{IsSWord}
 use Rattle.subalgebra_laws.specs.Words.{letters}
 use Rattle.poly_core.specs.Presentation.{presented}
 use Rattle.word_values.specs.declared.paths.Step.{Step}
-use Rattle.word_values.specs.Values.{values_of, IsPath, IsStep}
+use Rattle.witness.specs.Tracking.{values_of}
+use Rattle.word_values.specs.Values.{IsPath, IsStep}
 use Rattle.word_values.proofs.Following.{path_push}
 use Rattle.word_values.proofs.Putting.{rest_shorter}
 use Rattle.word_values.proofs.values.Values.path.Goals as goal

@@ -2,7 +2,8 @@ use Rattle.std.specs.Prelude.{sum}
 use Rattle.word_laws.specs.Words.{IsSWord}
 use Rattle.subalgebra_laws.specs.Words.{letters}
 use Rattle.poly_core.specs.Presentation.{presented}
-use Rattle.word_values.specs.Values.{values_of, IsPath}
+use Rattle.witness.specs.Tracking.{values_of}
+use Rattle.word_values.specs.Values.{IsPath}
 use Rattle.word_values.proofs.values.Values.path.Given as goal
 
 abbrev pub invariant-letters : goal.invariant-letters

@@ -1,5 +1,6 @@
 use Rattle.poly_core.specs.Presentation.{presented}
-use Rattle.word_values.specs.Values.{values_of, IsSplit}
+use Rattle.witness.specs.Tracking.{values_of}
+use Rattle.word_values.specs.Values.{IsSplit}
 use Rattle.word_values.proofs.values.Values.split.Given as goal
 
 abbrev pub invariant-letters : goal.invariant-letters
