@@ -7,7 +7,7 @@ ghost use Rattle.polynomials.specs.Ideal.{InIdeal};
 ghost use Rattle.poly_core.specs.Presentation.{presented, AreCanonicalGenerators};
 ghost use Rattle.polynomials.specs.Subalgebra.{IsPresentation};
 ghost use Rattle.quotient_gb.specs.Combinations.{HasStandardRepresentation};
-ghost use Rattle.quotient_gb.specs.CriticalPairs.{HasPairsAbove, IsCriticalPair};
+ghost use Rattle.quotient_gb.specs.CriticalPairs.{HasPairsAt, IsCriticalPair};
 ghost use Rattle.quotient_gb.specs.DegreeStep.{all_members, IsBasisTo, IsStepAfter, IsLaterStep, IsFinishedStep, ReducesGeneratorsAt, ReducesPair, DividesLeads, HasReducedTail};
 ghost use Rattle.quotient_gb.specs.IdealBasis.{IsMonicMember};
 ghost use Rattle.quotient_gb.specs.Remainder.{IsCanonicalIn};
@@ -55,7 +55,7 @@ impl<F: Field> DegreeStep<F> {
         requires places { (O.order p.now.order).places ≤ 32 }
         requires small { degree ≤ degree_max }
         requires before { (c : ℕ) × (degree ≡ c + 1) × IsBasisTo (presented F.ops O.order p.now) c before.now ×
-            HasPairsAbove (O.order p.now.order) before.now.leads.items c pairs.now }
+            HasPairsAt (O.order p.now.order) before.now.leads.items degree pairs.now }
         ensures degree { IfOk result (λ s. s.degree ≡ degree) }
         ensures finished { IfOk result (IsFinishedStep (presented F.ops O.order p.now) before.now) }
     {
