@@ -13,7 +13,7 @@ use Rattle.quotient_gb.specs.declared.basis.Basis.{Basis}
 use Rattle.quotient_gb.specs.declared.critical_pair.CriticalPair.{CriticalPair}
 use Rattle.quotient_gb.specs.declared.degree_step.DegreeStep.{DegreeStep}
 use Rattle.quotient_gb.specs.IdealBasis.{HasStandardTail, IsIdealBasis, AreIdealLeads}
-use Rattle.quotient_gb.specs.CriticalPairs.{pair_degree, pair_at, IsCriticalPair, IsCoprimeOrListed, HasPairs, HasPairsAbove}
+use Rattle.quotient_gb.specs.CriticalPairs.{pair_degree, pair_at, IsCriticalPair, IsCoprimeOrListed, HasPairs, HasPairsAt, HasPairsAbove}
 use Rattle.quotient_gb.specs.DegreeStep.{all_members, IsBasisTo, IsLaterStep, IsFinishedStep, ReducesGeneratorsAt, ReducesPair, DividesLeads}
 use Rattle.quotient_gb.specs.Quotient.{QuotientState, IsQuotientOf, IsClosed}
 use Rattle.quotient_gb.proofs.Closing.{closed}
@@ -23,10 +23,10 @@ use Rattle.quotient_gb.proofs.Representations.{represented_more}
 use Rattle.quotient_gb.proofs.SPolynomials.{pair_degree_is}
 use Rattle.quotient_gb.proofs.Steps.{member, ideal_leads, part_all}
 
-module _ {F E : Type 0} (P : Presented E) (H : IsPresentation P) (b : Basis F E) (c : ℕ) (hb : IsBasisTo P c b) (ws : List CriticalPair) (hw : HasPairsAbove P.order b.leads.items c ws) where
+module _ {F E : Type 0} (P : Presented E) (H : IsPresentation P) (b : Basis F E) (c : ℕ) (hb : IsBasisTo P c b) (d : ℕ) (next : d ≡ c + 1) (ws : List CriticalPair) (hw : HasPairsAt P.order b.leads.items d ws) where
   -- after the generators, s, and after the critical pairs, s'
-  pub divides : (s s' : DegreeStep F E) → IsLaterStep P b s s' → s.degree ≡ c + 1 → ReducesGeneratorsAt P b s → ((w : CriticalPair) → Contains ws w → w.degree ≡ s'.degree → ReducesPair P b s' w) → DividesLeads P b s'
-  divides s s' later d generators pairs = closed P H b s' later.step
+  pub divides : (s s' : DegreeStep F E) → IsLaterStep P b s s' → s.degree ≡ d → ReducesGeneratorsAt P b s → ((w : CriticalPair) → Contains ws w → w.degree ≡ s'.degree → ReducesPair P b s' w) → DividesLeads P b s'
+  divides s s' later degree generators pairs = closed P H b s' later.step
       (λ r k h. represented_more P H (all_members b s) (all_members b s') (part_all P b s s' later) r (generators r k (subst (λ x. IsHomogeneous P.field P.order x r) later.degree h)))
       (λ i j lt l e.
       let n : length b.leads.items ≡ length b.members.items = ap length hb.leads ∙ length-map b.members.items lead_monomial in
@@ -35,7 +35,7 @@ module _ {F E : Type 0} (P : Presented E) (H : IsPresentation P) (b : Basis F E)
       let is_j : get_or b.leads.items j [] ≡ lead_monomial (get_or b.members.items j []) = ap (λ ms. get_or ms j []) hb.leads ∙ lead_at b.members.items j in
       ⊎_elim (λ co. inl (subst (λ m. AreCoprime m (lead_monomial (get_or b.members.items j []))) is_i (subst (AreCoprime (get_or b.leads.items i [])) is_j co)))
       (λ k. inr (pairs (pair_at P.order b.leads.items i j) k at))
-      (hw.listed i j lt (omega arith) (let q = later.degree in omega arith)))
+      (hw.listed i j lt (omega arith) (at ∙ (later.degree ∙ degree))))
 
 module _ (O : MonomialOrder) (ms ns : List Exponents) where
   -- a critical pair stays one when leads are appended

@@ -16,6 +16,7 @@ pub mod SPolynomials
 pub mod Representations
 pub mod Finishing
 pub mod Listing
+pub mod Waiting
 pub mod Knowing
 pub mod Extending
 pub mod EveryDegree

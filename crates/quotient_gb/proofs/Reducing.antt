@@ -66,11 +66,14 @@ module _ {E : Type 0} (K : FieldOps E) (F : IsField K) (O : MonomialOrder) (L : 
       where
         falls : (done : Polynomial E) → IsDecreasing K O (done ++ (t ∷ w)) → IsDecreasing K O (done ++ next)
         falls [] h = n.decreasing
-        falls (s ∷ d) h = (record {
-          term = h.0.term;
-          nonzero = h.0.nonzero;
-          above = IsBelow-append K O s.at d next (IsBelow-left K O s.at d (t ∷ w) h.0.above) (IsBelow_trans K F O L t.at s.at next (IsBelow-right K O s.at d (t ∷ w) h.0.above).0 b);
-        }, falls d h.1)
+        falls (s ∷ d) h = (
+          record {
+            term = h.0.term;
+            nonzero = h.0.nonzero;
+            above = IsBelow-append K O s.at d next (IsBelow-left K O s.at d (t ∷ w) h.0.above) (IsBelow_trans K F O L t.at s.at next (IsBelow-right K O s.at d (t ∷ w) h.0.above).0 b);
+          },
+          falls d h.1,
+        )
 
     module _ (g : Polynomial E) (u : Exponents) (kg : IsCanonical K O g) (monic : coefficient K g (lead_monomial g) ≡ K.one) (tu : IsTrimmed u) (at : product (lead_monomial g) u ≡ t.at) where
       whole : product u (lead_monomial g) ≡ t.at

@@ -147,6 +147,7 @@ module _ {F E : Type 0} (P : Presented E) (H : IsPresentation P) (b : Basis F E)
         step = record {
           before = (h.before.0, same ∙ h.before.1, h.before.2);
           small = let q = h.small in omega arith;
+          presentation = H;
           places = h.places;
           leads = leads ∙ (ap (λ x. insert s.found.leads.items at x) m_is ∙ (ap (λ x. insert x at (lead_monomial r)) h.leads ∙ (sym (map_insert lead_monomial found at r) ∙ ap (map lead_monomial) (sym members))));
           members = λ g k. ⊎_elim (λ e. subst (IsMonicMember P) e hr) (λ i. h.members g i) (in_new g k);
@@ -173,6 +174,7 @@ module _ {F E : Type 0} (P : Presented E) (H : IsPresentation P) (b : Basis F E)
     set_step s' d e f = record {
       before = (h.before.0, d ∙ h.before.1, h.before.2);
       small = let q = h.small in omega arith;
+      presentation = H;
       places = h.places;
       leads = f ∙ (h.leads ∙ (sym leads_same ∙ ap (map lead_monomial) (sym e)));
       members = λ g k. ⊎_elim (λ q. subst (IsMonicMember P) q hx) (λ j. h.members g j) (in_new g k);
@@ -215,10 +217,11 @@ module _ {F E : Type 0} (P : Presented E) (b : Basis F E) (s s' : DegreeStep F E
       (contains_either b.members.items s.found.members.items x k)
 
 -- no member yet
-pub empty_step : {F E : Type 0} (P : Presented E) (b : Basis F E) (c : ℕ) → IsBasisTo P c b → (s : DegreeStep F E) → s.degree ≡ c + 1 → s.degree ≤ 30000 → P.order.places ≤ 32 → s.found.members.items ≡ [] → s.found.leads.items ≡ [] → IsStepAfter P b s
-empty_step P b c h s d small places e f = record {
+pub empty_step : {F E : Type 0} (P : Presented E) → IsPresentation P → (b : Basis F E) (c : ℕ) → IsBasisTo P c b → (s : DegreeStep F E) → s.degree ≡ c + 1 → s.degree ≤ 30000 → P.order.places ≤ 32 → s.found.members.items ≡ [] → s.found.leads.items ≡ [] → IsStepAfter P b s
+empty_step P H b c h s d small places e f = record {
   before = (c, d, h);
   small = small;
+  presentation = H;
   places = places;
   leads = f ∙ ap (map lead_monomial) (sym e);
   members = λ g k. absurd (none g k);

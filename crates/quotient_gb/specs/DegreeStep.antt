@@ -3,7 +3,7 @@ use Rattle.std.specs.Prelude.{◌≡◌, ◌≢◌, ℕ, ◌+◌, ◌≤◌, ◌
 use Rattle.monomial_order.specs.Limits.{degree_max}
 use Rattle.monomial_order.specs.Monomial.{IsMultiple, Exponents}
 use Rattle.polynomials.specs.Polynomial.{Polynomial, coefficient, IsHomogeneous, lead_monomial}
-use Rattle.polynomials.specs.Subalgebra.{Presented, LeadsIdeal}
+use Rattle.polynomials.specs.Subalgebra.{Presented, IsPresentation, LeadsIdeal}
 use Rattle.monomial_order.specs.MonomialOrder.{IsIncreasing}
 use Rattle.quotient_gb.specs.declared.basis.Basis.{Basis}
 use Rattle.quotient_gb.specs.declared.critical_pair.CriticalPair.{CriticalPair}
@@ -44,9 +44,10 @@ module _ {F E : Type 0} (P : Presented E) where
     pub leads : HasLeads b
     pub basis : IsIdealBasis P c b.members.items
 
-  -- b has the reduced basis to the degree before that of s, and s has monic members of the ideal of its degree. Their
-  -- leads are increasing, and no multiples of leads of b. The order has at most 32 places
+  -- P is a presentation in at most 32 places, and b has the reduced basis to the degree before that of s. s has monic
+  -- members of the ideal of its degree, whose leads are increasing, and no multiples of leads of b
   pub record IsStepAfter (b : Basis F E) (s : DegreeStep F E) : Type 0 where
+    pub presentation : IsPresentation P
     pub before : (c : ℕ) × (s.degree ≡ c + 1) × IsBasisTo c b
     pub small : s.degree ≤ degree_max
     pub places : P.order.places ≤ 32

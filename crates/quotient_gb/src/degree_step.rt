@@ -7,7 +7,7 @@ ghost use Rattle.polynomials.specs.Ideal.{InIdeal};
 ghost use Rattle.poly_core.specs.Presentation.{presented, AreCanonicalGenerators};
 ghost use Rattle.polynomials.specs.Subalgebra.{IsPresentation};
 ghost use Rattle.quotient_gb.specs.Combinations.{HasStandardRepresentation};
-ghost use Rattle.quotient_gb.specs.CriticalPairs.{HasPairsAbove, IsCriticalPair};
+ghost use Rattle.quotient_gb.specs.CriticalPairs.{HasPairsAt, IsCriticalPair};
 ghost use Rattle.quotient_gb.specs.DegreeStep.{all_members, IsBasisTo, IsStepAfter, IsLaterStep, IsFinishedStep, ReducesGeneratorsAt, ReducesPair, DividesLeads, HasReducedTail};
 ghost use Rattle.quotient_gb.specs.IdealBasis.{IsMonicMember};
 ghost use Rattle.quotient_gb.specs.Remainder.{IsCanonicalIn};
@@ -55,7 +55,7 @@ impl<F: Field> DegreeStep<F> {
         requires places { (O.order p.now.order).places ≤ 32 }
         requires small { degree ≤ degree_max }
         requires before { (c : ℕ) × (degree ≡ c + 1) × IsBasisTo (presented F.ops O.order p.now) c before.now ×
-            HasPairsAbove (O.order p.now.order) before.now.leads.items c pairs.now }
+            HasPairsAt (O.order p.now.order) before.now.leads.items degree pairs.now }
         ensures degree { IfOk result (λ s. s.degree ≡ degree) }
         ensures finished { IfOk result (IsFinishedStep (presented F.ops O.order p.now) before.now) }
     {
@@ -77,7 +77,6 @@ impl<F: Field> DegreeStep<F> {
         before: &Basis<F>,
         member: Poly<F>,
     ) -> Result<(), Memory>
-        requires presentation { IsPresentation (presented F.ops O.order p.now) }
         requires step { IsStepAfter (presented F.ops O.order p.now) before.now self.old }
         requires member { IsMonicMember (presented F.ops O.order p.now) member }
         requires at_most { (O.order p.now.order).degree (lead_monomial member) ≤ self.old.degree }
@@ -103,7 +102,6 @@ impl<F: Field> DegreeStep<F> {
         before: &Basis<F>,
         a: &Poly<F>,
     ) -> Result<(), Memory>
-        requires presentation { IsPresentation (presented F.ops O.order p.now) }
         requires step { IsStepAfter (presented F.ops O.order p.now) before.now self.old }
         requires canonical { IsCanonicalIn (presented F.ops O.order p.now) a.now }
         requires inside { InIdeal (F.ops p.now.field) (O.order p.now.order).places p.now.ideal.items a.now }
@@ -128,7 +126,6 @@ impl<F: Field> DegreeStep<F> {
         p: &Presentation<F, O>,
         before: &Basis<F>,
     ) -> Result<(), Memory>
-        requires presentation { IsPresentation (presented F.ops O.order p.now) }
         requires ideal { AreCanonicalGenerators (F.ops p.now.field) (O.order p.now.order) p.now.ideal.items }
         requires step { IsStepAfter (presented F.ops O.order p.now) before.now self.old }
         ensures later { OnOk result (IsLaterStep (presented F.ops O.order p.now) before.now self.old self.new) }
@@ -150,7 +147,6 @@ impl<F: Field> DegreeStep<F> {
         before: &Basis<F>,
         pair: &CriticalPair,
     ) -> Result<(), Memory>
-        requires presentation { IsPresentation (presented F.ops O.order p.now) }
         requires step { IsStepAfter (presented F.ops O.order p.now) before.now self.old }
         requires pair { IsCriticalPair (O.order p.now.order) before.now.leads.items pair.now }
         requires degree { pair.now.degree ≡ self.old.degree }
@@ -175,7 +171,6 @@ impl<F: Field> DegreeStep<F> {
         before: &Basis<F>,
         pairs: &[CriticalPair],
     ) -> Result<(), Memory>
-        requires presentation { IsPresentation (presented F.ops O.order p.now) }
         requires step { IsStepAfter (presented F.ops O.order p.now) before.now self.old }
         requires pairs { (w : CriticalPair) → Contains pairs.now w →
             IsCriticalPair (O.order p.now.order) before.now.leads.items w }
@@ -199,7 +194,6 @@ impl<F: Field> DegreeStep<F> {
         before: &Basis<F>,
         at: usize,
     ) -> Result<Poly<F>, Memory>
-        requires presentation { IsPresentation (presented F.ops O.order p.now) }
         requires step { IsStepAfter (presented F.ops O.order p.now) before.now self.now }
         requires index { at < length self.now.found.members.items }
         ensures member { IfOk result (IsMonicMember (presented F.ops O.order p.now)) }
@@ -226,7 +220,6 @@ impl<F: Field> DegreeStep<F> {
         p: &Presentation<F, O>,
         before: &Basis<F>,
     ) -> Result<(), Memory>
-        requires presentation { IsPresentation (presented F.ops O.order p.now) }
         requires step { IsStepAfter (presented F.ops O.order p.now) before.now self.old }
         requires divides { DividesLeads (presented F.ops O.order p.now) before.now self.old }
         ensures degree { self.new.degree ≡ self.old.degree }

@@ -9,5 +9,6 @@ pub mod laws;
 mod quotient;
 mod remainder;
 mod s_polynomial;
+mod waiting_pairs;
 
 pub use quotient::Quotient;

@@ -6,6 +6,7 @@ ghost use Rattle.polynomials.specs.Polynomial.{IsHomogeneous, degree_of};
 ghost use Rattle.poly_core.specs.Presentation.{presented, AreCanonicalGenerators};
 ghost use Rattle.polynomials.specs.Subalgebra.{Presented, IsPresentation, LeadsIdeal, IsStandard, IsNormalForm};
 ghost use Rattle.monomial_order.specs.MonomialOrder.{IsIncreasing};
+ghost use Rattle.quotient_gb.specs.CriticalPairs.{Waits};
 ghost use Rattle.quotient_gb.specs.IdealBasis.{IsMinimalLead};
 ghost use Rattle.quotient_gb.specs.Quotient.{closing_max, IsQuotientOf, IsExtension, IsClosed, HasGeneratorAbove, HasOtherLead, with_degree, with_closed};
 ghost use Rattle.quotient_gb.specs.Remainder.{IsCanonicalIn};
@@ -15,6 +16,8 @@ use crate::critical_pair::{CriticalPair, critical_pairs, retain_above};
 use crate::degree_step::DegreeStep;
 use crate::later_degrees::{all_reduce_to_zero, has_generator_above};
 use crate::remainder::remainder_by;
+use crate::waiting_pairs::{push_waiting, take_waiting};
+use degree_queue::DegreeQueue;
 use monomial_order::{Memory, Monomial, Order};
 use poly_core::{Poly, Presentation};
 use std::alloc::Global;
@@ -117,29 +120,40 @@ impl<F: Field, O: Order> Quotient<F, O> {
         ensures quotient { OnOk result (IsQuotientOf (presented F.ops O.order p.now) self.new) }
         ensures degree { OnOk result (self.new.degree ≡ max self.old.degree c) }
     {
+        let mut waiting = DegreeQueue::new(alloc);
+        push_waiting(&mut waiting, self.pairs.as_slice())?;
         'degrees: for _d in self.degree..c {
-            self.add_degree(alloc, p)?;
+            self.add_degree(alloc, p, &mut waiting)?;
         }
         Ok(())
     }
 
     /// Adds the members of the next degree at the end.
-    fn add_degree(&mut self, alloc: Global, p: &Presentation<F, O>) -> Result<(), Memory>
+    fn add_degree(
+        &mut self,
+        alloc: Global,
+        p: &Presentation<F, O>,
+        waiting: &mut DegreeQueue<CriticalPair>,
+    ) -> Result<(), Memory>
         requires presentation { IsPresentation (presented F.ops O.order p.now) }
         requires places { (O.order p.now.order).places ≤ 32 }
         requires ideal { AreCanonicalGenerators (F.ops p.now.field) (O.order p.now.order) p.now.ideal.items }
         requires quotient { IsQuotientOf (presented F.ops O.order p.now) self.old }
         requires small { self.old.degree < degree_max }
+        requires waiting { Waits self.old.degree self.old.pairs waiting.old }
         ensures extension { IsExtension self.old self.new }
         ensures quotient { OnOk result (IsQuotientOf (presented F.ops O.order p.now) self.new) }
         ensures degree { OnOk result (self.new.degree ≡ self.old.degree + 1) }
+        ensures waiting { OnOk result (Waits self.new.degree self.new.pairs waiting.new) }
     {
         let degree = self.degree + 1;
-        let mut step = DegreeStep::after(alloc, p, &self.basis, self.pairs.as_slice(), degree)?;
+        let waited = take_waiting(alloc, waiting, degree)?;
+        let mut step = DegreeStep::after(alloc, p, &self.basis, waited.as_slice(), degree)?;
         let start = self.basis.leads.as_slice().len();
         self.basis.members.append(&mut step.found.members)?;
         self.basis.leads.append(&mut step.found.leads)?;
         let mut pairs = critical_pairs(alloc, &p.order, self.basis.leads.as_slice(), start)?;
+        push_waiting(waiting, pairs.as_slice())?;
         self.pairs.append(&mut pairs)?;
         self.degree = degree;
         Ok(())

@@ -24,21 +24,21 @@ add_scaled-requires-clause-monomial g c =
     let P = presented g.F.Field.ops g.O.Order.order c.args.p.now in
     let kg = subst (IsReducerIn P) (sym c.terms.ensures ∙ c.in-Some.ensures.cases.0) c.requires.g in
     (tail_factor P c.requires.presentation c.args.term c.args.work.now.terms c.requires.work c.in-Some.top.now c.in-Some.tail.now kg c.in-Some-2.cofactor
-        (rw c.in-Some-2.is at c.in_ok-cofactor.ensures.trimmed) (rw c.in-Some-2.is at c.in_ok-cofactor.ensures.some) c.neg-c.result c.neg-c.ensures).monomial
+    (rw c.in-Some-2.is at c.in_ok-cofactor.ensures.trimmed) (rw c.in-Some-2.is at c.in_ok-cofactor.ensures.some) c.neg-c.result c.neg-c.ensures).monomial
 
 pub add_scaled-requires-clause-small : goal.add_scaled-requires-clause-small
 add_scaled-requires-clause-small g c =
     let P = presented g.F.Field.ops g.O.Order.order c.args.p.now in
     let kg = subst (IsReducerIn P) (sym c.terms.ensures ∙ c.in-Some.ensures.cases.0) c.requires.g in
     (tail_factor P c.requires.presentation c.args.term c.args.work.now.terms c.requires.work c.in-Some.top.now c.in-Some.tail.now kg c.in-Some-2.cofactor
-        (rw c.in-Some-2.is at c.in_ok-cofactor.ensures.trimmed) (rw c.in-Some-2.is at c.in_ok-cofactor.ensures.some) c.neg-c.result c.neg-c.ensures).small
+    (rw c.in-Some-2.is at c.in_ok-cofactor.ensures.trimmed) (rw c.in-Some-2.is at c.in_ok-cofactor.ensures.some) c.neg-c.result c.neg-c.ensures).small
 
 pub add_scaled-requires-clause-short : goal.add_scaled-requires-clause-short
 add_scaled-requires-clause-short g c =
     let P = presented g.F.Field.ops g.O.Order.order c.args.p.now in
     let kg = subst (IsReducerIn P) (sym c.terms.ensures ∙ c.in-Some.ensures.cases.0) c.requires.g in
     let within = (tail_factor P c.requires.presentation c.args.term c.args.work.now.terms c.requires.work c.in-Some.top.now c.in-Some.tail.now kg c.in-Some-2.cofactor
-        (rw c.in-Some-2.is at c.in_ok-cofactor.ensures.trimmed) (rw c.in-Some-2.is at c.in_ok-cofactor.ensures.some) c.neg-c.result c.neg-c.ensures).monomial.within in
+    (rw c.in-Some-2.is at c.in_ok-cofactor.ensures.trimmed) (rw c.in-Some-2.is at c.in_ok-cofactor.ensures.some) c.neg-c.result c.neg-c.ensures).monomial.within in
     let places = c.requires.places in
     omega arith
 
@@ -53,6 +53,6 @@ returns g c =
     let P = presented g.F.Field.ops g.O.Order.order c.args.p.now in
     let kg = subst (IsReducerIn P) (sym c.terms.ensures ∙ c.in-Some.ensures.cases.0) c.requires.g in
     let r = lead_reduction P c.requires.presentation c.args.term c.args.work.now.terms c.requires.work c.in-Some.top.now c.in-Some.tail.now kg c.in-Some-2.cofactor
-        (rw c.in-Some-2.is at c.in_ok-cofactor.ensures.trimmed) (rw c.in-Some-2.is at c.in_ok-cofactor.ensures.some) c.neg-c.result c.neg-c.ensures c.add_scaled.new.self.terms c.in_ok-add_scaled.ensures.canonical
-        (rw c.in_ok-reserve.ensures.terms at c.in_ok-add_scaled.ensures.sum) in
+    (rw c.in-Some-2.is at c.in_ok-cofactor.ensures.trimmed) (rw c.in-Some-2.is at c.in_ok-cofactor.ensures.some) c.neg-c.result c.neg-c.ensures c.add_scaled.new.self.terms c.in_ok-add_scaled.ensures.canonical
+    (rw c.in_ok-reserve.ensures.terms at c.in_ok-add_scaled.ensures.sum) in
     subst (λ x. IsLeadReduction P (c.args.term ∷ c.args.work.now.terms) x c.add_scaled.new.self.terms) (sym (sym c.terms.ensures ∙ c.in-Some.ensures.cases.0)) r

@@ -14,7 +14,7 @@ use Rattle.quotient_gb.proofs.degree_step.DegreeStep.add_generators.Goals.{then-
 
 pub generators-init : goal.generators-init
 generators-init g c = record {
-  later = later_itself (presented g.F.Field.ops g.O.Order.order c.args.p.now) c.requires.presentation c.args.before.now c.args.self.now c.requires.step;
+  later = later_itself (presented g.F.Field.ops g.O.Order.order c.args.p.now) c.requires.step.presentation c.args.before.now c.args.self.now c.requires.step;
   reduces = λ k l. absurd (not_below_zero k l);
 }
 
@@ -28,12 +28,11 @@ has_degree-requires g c =
 pub reduce_and_insert-requires : goal.reduce_and_insert-requires
 reduce_and_insert-requires g c =
     let P = presented g.F.Field.ops g.O.Order.order c.args.p.now in
-    let H = c.requires.presentation in
+    let H = c.requires.step.presentation in
     let rs = c.args.p.now.ideal.items in
     let r = c.r-item.result in
     let hr : Contains rs r = subst (λ xs. Contains xs r) c.deref-r-items.ensures.value (c.generators.r-index, c.generators-test.true, sym c.r-item.is) in
     record {
-      presentation = H;
       step = c.generators.invariant.later.step;
       canonical = (canonical_generator P.field P.order rs c.requires.ideal r hr).canonical;
       inside = generator_inside P.field H.field P.order.places rs r hr;
@@ -46,7 +45,7 @@ reduce_and_insert-requires g c =
 pub generators-preserved : goal.generators-preserved
 generators-preserved g c =
     let P = presented g.F.Field.ops g.O.Order.order c.args.p.now in
-    let H = c.requires.presentation in
+    let H = c.requires.step.presentation in
     let b = c.args.before.now in
     let s = c.generators.self in
     let rs = c.args.p.now.ideal.items in

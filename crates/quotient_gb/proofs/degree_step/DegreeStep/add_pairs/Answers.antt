@@ -12,13 +12,12 @@ use Rattle.quotient_gb.proofs.degree_step.DegreeStep.add_pairs.Goals.{then-w-sel
 
 pub pairs-init : goal.pairs-init
 pairs-init g c = record {
-  later = later_itself (presented g.F.Field.ops g.O.Order.order c.args.p.now) c.requires.presentation c.args.before.now c.args.self.now c.requires.step;
+  later = later_itself (presented g.F.Field.ops g.O.Order.order c.args.p.now) c.requires.step.presentation c.args.before.now c.args.self.now c.requires.step;
   reduces = λ k l. absurd (not_below_zero k l);
 }
 
 pub add_s_polynomial-requires : goal.add_s_polynomial-requires
 add_s_polynomial-requires g c = record {
-  presentation = c.requires.presentation;
   step = c.pairs.invariant.later.step;
   pair = c.requires.pairs (get_or c.args.pairs.now c.pairs.w-index no_pair) (contains_at c.args.pairs.now c.pairs.w-index no_pair c.pairs-test.true);
   degree = c.if-w-self.true;
@@ -27,7 +26,7 @@ add_s_polynomial-requires g c = record {
 pub pairs-preserved : goal.pairs-preserved
 pairs-preserved g c =
     let P = presented g.F.Field.ops g.O.Order.order c.args.p.now in
-    let H = c.requires.presentation in
+    let H = c.requires.step.presentation in
     let b = c.args.before.now in
     let s = c.pairs.self in
     let ws = c.args.pairs.now in

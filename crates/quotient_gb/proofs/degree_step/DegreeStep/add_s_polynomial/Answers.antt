@@ -10,15 +10,15 @@ small : (a b d : ℕ) → a ≡ b → a ≡ d → d ≤ 30000 → b ≤ 65535
 small a b d e f l = omega arith
 
 pub index-requires : goal.index-requires
-index-requires g c = let l = first_within (presented g.F.Field.ops g.O.Order.order c.args.p.now) c.requires.presentation c.args.before.now c.args.self.now c.requires.step c.args.pair.now c.requires.pair in search rules
+index-requires g c = let l = first_within (presented g.F.Field.ops g.O.Order.order c.args.p.now) c.requires.step.presentation c.args.before.now c.args.self.now c.requires.step c.args.pair.now c.requires.pair in search rules
 
 pub index-requires-2 : goal.index-requires-2
-index-requires-2 g c = let l = second_within (presented g.F.Field.ops g.O.Order.order c.args.p.now) c.requires.presentation c.args.before.now c.args.self.now c.requires.step c.args.pair.now c.requires.pair in search rules
+index-requires-2 g c = let l = second_within (presented g.F.Field.ops g.O.Order.order c.args.p.now) c.requires.step.presentation c.args.before.now c.args.self.now c.requires.step c.args.pair.now c.requires.pair in search rules
 
 pub s_polynomial-requires : goal.s_polynomial-requires
 s_polynomial-requires g c =
     let P = presented g.F.Field.ops g.O.Order.order c.args.p.now in
-    let H = c.requires.presentation in
+    let H = c.requires.step.presentation in
     let b = c.args.before.now in
     let s = c.args.self.now in
     let h = c.requires.step in
@@ -35,13 +35,12 @@ s_polynomial-requires g c =
 pub reduce_and_insert-requires : goal.reduce_and_insert-requires
 reduce_and_insert-requires g c =
     let P = presented g.F.Field.ops g.O.Order.order c.args.p.now in
-    let H = c.requires.presentation in
+    let H = c.requires.step.presentation in
     let b = c.args.before.now in
     let s = c.args.self.now in
     let h = c.requires.step in
     let a = c.in_ok-a.a in
     record {
-      presentation = H;
       step = h;
       canonical = c.in_ok-a.ensures.canonical;
       inside = inside P H b s h c.args.pair.now c.requires.pair c.index.result.now c.index-2.result.now (sym c.index.ensures) (sym c.index-2.ensures) a c.in_ok-a.ensures.canonical.decreasing c.in_ok-a.ensures.difference;
@@ -50,5 +49,5 @@ reduce_and_insert-requires g c =
 
 pub returns-clause-reduces : goal.returns-clause-reduces
 returns-clause-reduces g c =
-    reduced (presented g.F.Field.ops g.O.Order.order c.args.p.now) c.requires.presentation c.args.before.now c.args.self.now c.requires.step c.args.pair.now c.requires.pair c.index.result.now c.index-2.result.now (sym c.index.ensures) (sym c.index-2.ensures)
+    reduced (presented g.F.Field.ops g.O.Order.order c.args.p.now) c.requires.step.presentation c.args.before.now c.args.self.now c.requires.step c.args.pair.now c.requires.pair c.index.result.now c.index-2.result.now (sym c.index.ensures) (sym c.index-2.ensures)
     c.in_ok-a.a c.in_ok-a.ensures.canonical.decreasing c.in_ok-a.ensures.difference c.reduce_and_insert.new.self c.in_ok-reduce_and_insert.ensures.reduces

@@ -12,7 +12,7 @@ with_reduced_tail-requires-clause-index g c =
 pub tails-preserved : goal.tails-preserved
 tails-preserved g c =
     let P = presented g.F.Field.ops g.O.Order.order c.args.p.now in
-    let H = c.requires.presentation in
+    let H = c.requires.step.presentation in
     let b = c.args.before.now in
     let s = c.tails.self in
     let h = c.tails.invariant in

@@ -13,38 +13,38 @@ use Rattle.quotient_gb.proofs.degree_step.DegreeStep.with_reduced_tail.Goals as 
 pub unreachable-requires : goal.unreachable-requires
 unreachable-requires g c =
     let P = presented g.F.Field.ops g.O.Order.order c.args.p.now in
-    let H = c.requires.presentation in
+    let H = c.requires.step.presentation in
     let x = c.index-x.result.now in
     monic_some P.field H.field P.order H.order x (found_reducer P H c.args.before.now c.args.self.now c.requires.step x (c.args.at, c.requires.index, sym c.index-x.ensures)).monic (c.in_default.ensures.zero.0 refl)
 
 pub sub-requires-clause-a : goal.sub-requires-clause-a
 sub-requires-clause-a g c =
-    (found_reducer (presented g.F.Field.ops g.O.Order.order c.args.p.now) c.requires.presentation c.args.before.now c.args.self.now c.requires.step c.index-x.result.now (c.args.at, c.requires.index, sym c.index-x.ensures)).canonical
+    (found_reducer (presented g.F.Field.ops g.O.Order.order c.args.p.now) c.requires.step.presentation c.args.before.now c.args.self.now c.requires.step c.index-x.result.now (c.args.at, c.requires.index, sym c.index-x.ensures)).canonical
 
 pub sub-requires-clause-b : goal.sub-requires-clause-b
 sub-requires-clause-b g c =
-    found_front (presented g.F.Field.ops g.O.Order.order c.args.p.now) c.requires.presentation c.args.before.now c.args.self.now c.requires.step c.index-x.result.now (c.args.at, c.requires.index, sym c.index-x.ensures)
+    found_front (presented g.F.Field.ops g.O.Order.order c.args.p.now) c.requires.step.presentation c.args.before.now c.args.self.now c.requires.step c.index-x.result.now (c.args.at, c.requires.index, sym c.index-x.ensures)
     c.in-Some.first.now c.in-Some.ensures.first.0 c.in-Some.ensures.first.1 c.in_ok-front.front c.in_ok-copy.field-0 c.in_ok-copy.ensures.same c.in_ok-front.ensures.term
 
 pub add-requires-clause-a : goal.add-requires-clause-a
 add-requires-clause-a g c =
-    found_front (presented g.F.Field.ops g.O.Order.order c.args.p.now) c.requires.presentation c.args.before.now c.args.self.now c.requires.step c.index-x.result.now (c.args.at, c.requires.index, sym c.index-x.ensures)
+    found_front (presented g.F.Field.ops g.O.Order.order c.args.p.now) c.requires.step.presentation c.args.before.now c.args.self.now c.requires.step c.index-x.result.now (c.args.at, c.requires.index, sym c.index-x.ensures)
     c.in-Some.first.now c.in-Some.ensures.first.0 c.in-Some.ensures.first.1 c.in_ok-front.front c.in_ok-copy.field-0 c.in_ok-copy.ensures.same c.in_ok-front.ensures.term
 
 pub remainder-requires : goal.remainder-requires
 remainder-requires g c = record {
-  presentation = c.requires.presentation;
+  presentation = c.requires.step.presentation;
   places = c.requires.step.places;
   a = c.in_ok-tail.ensures.canonical;
   before = c.requires.step.before.2.leads;
   found = c.requires.step.leads;
-  reducers = reducers (presented g.F.Field.ops g.O.Order.order c.args.p.now) c.requires.presentation c.args.before.now c.args.self.now c.requires.step;
+  reducers = reducers (presented g.F.Field.ops g.O.Order.order c.args.p.now) c.requires.step.presentation c.args.before.now c.args.self.now c.requires.step;
 }
 
 pub returns : goal.returns
 returns g c =
     let P = presented g.F.Field.ops g.O.Order.order c.args.p.now in
-    let H = c.requires.presentation in
+    let H = c.requires.step.presentation in
     let b = c.args.before.now in
     let s = c.args.self.now in
     let h = c.requires.step in

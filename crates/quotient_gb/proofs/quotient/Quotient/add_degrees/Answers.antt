@@ -1,5 +1,7 @@
-use Rattle.std.proofs.Common.{◌≡◌, ◌<◌, ◌≤◌, ◌+◌, ◌∙◌, ℕ, max, refl, sym, ap, arith}
+use Rattle.std.proofs.Common.{◌≡◌, ◌<◌, ◌≤◌, ◌+◌, ◌∙◌, ℕ, max, [], refl, sym, ap, subst, arith}
+use Rattle.quotient_gb.specs.CriticalPairs.{IsFilled}
 use Rattle.quotient_gb.proofs.Extending.{extends_itself, extends_chain}
+use Rattle.quotient_gb.proofs.Waiting.{waits_first}
 use Rattle.quotient_gb.proofs.quotient.Quotient.add_degrees.Goals as goal
 
 below : (a d c : ℕ) → a ≡ d → d < c → c ≤ 30000 → a < 30000
@@ -10,6 +12,9 @@ degrees-init g c = record {
   quotient = c.requires.quotient;
   extension = extends_itself c.args.self.now c.args.self.now refl refl refl refl;
   degree = sym (ap (λ q. q.degree) c.self.view_is);
+  waiting = waits_first c.args.self.now.degree c.args.self.now.pairs c.push_waiting.new.waiting
+      (subst (λ xs. IsFilled [] xs c.push_waiting.new.waiting) (c.as_slice.ensures.value ∙ ap (λ q. q.pairs) c.self.view_is)
+      (subst (λ q. IsFilled q c.as_slice.result.now c.push_waiting.new.waiting) c.new-waiting.ensures c.in_ok-push_waiting.ensures));
   most = first c.self.inside.degree c.args.self.now.degree c.args.c (ap (λ q. q.degree) c.self.view_is);
 }
   where
@@ -22,6 +27,7 @@ add_degree-requires g c = record {
   places = c.requires.places;
   ideal = c.requires.ideal;
   quotient = c.degrees.invariant.quotient;
+  waiting = c.degrees.invariant.waiting;
   small = below c.degrees.self.degree c.degrees._d c.args.c c.degrees.invariant.degree c.degrees-test.true c.requires.small;
 }
 
@@ -33,6 +39,7 @@ degrees-preserved g c = record {
   quotient = c.in_ok-add_degree.ensures.quotient;
   extension = extends_chain _ _ _ c.degrees.invariant.extension c.in_ok-add_degree.ensures.extension;
   degree = c.in_ok-add_degree.ensures.degree ∙ ap (λ n. n + 1) c.degrees.invariant.degree;
+  waiting = c.in_ok-add_degree.ensures.waiting;
   most = within c.args.self.now.degree c.args.c c.degrees._d c.degrees-test.true;
 }
   where
