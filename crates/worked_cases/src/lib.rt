@@ -22,10 +22,11 @@ mod queues;
 pub mod rings;
 pub mod rows;
 #[cfg(test)]
+mod rules;
+#[cfg(test)]
 mod shelves;
 #[cfg(test)]
 mod stops;
-mod tables;
 #[cfg(test)]
 mod texts;
 #[cfg(test)]
