@@ -70,8 +70,8 @@ impl RuleTable {
         ensures { IfOk result (IsNormalForm self.now (Some word.now)) }
     {
         let spread = spread(alloc, word, o.places())?;
-        let form = self.finish(alloc, o, spread)?;
-        Ok(form)
+        let normal_form = self.finish(alloc, o, spread)?;
+        Ok(normal_form)
     }
 
     /// The least common multiple of two left sides.

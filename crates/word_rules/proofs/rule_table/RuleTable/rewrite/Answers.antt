@@ -12,4 +12,4 @@ finish-requires-clause-word g c =
 pub returns : goal.returns
 returns g c =
     let whole = trim_is c.args.word.now c.in_ok-spread.spread.items c.requires.word.word.trimmed (λ p. sym (c.in_ok-spread.ensures.same p)) in
-    subst (λ m. IsNormalForm c.args.self.now (Some m) c.in_ok-form.form) whole c.in_ok-form.ensures
+    subst (λ m. IsNormalForm c.args.self.now (Some m) c.in_ok-normal_form.normal_form) whole c.in_ok-normal_form.ensures
