@@ -4,7 +4,7 @@ use Rattle.std.specs.Prelude.{Contains, map}
 use Rattle.std.proofs.lemmas.List.{get_or_default, get_or_past, length-map}
 use Rattle.monomial_order.specs.Monomial.{Exponents, exponent, Divides}
 use Rattle.monomial_order.specs.laws.Comparing.{le_or_not}
-use Rattle.monomial_order.specs.laws.Lists.{contains_at, contains_none}
+use Rattle.monomial_order.specs.laws.Lists.{contains_none}
 use Rattle.word_rewriting.specs.Rewriting.{RewriteRule, HasLeftDivisor}
 use Rattle.word_rules.specs.declared.word_rule.WordRule.{WordRule}
 use Rattle.word_rules.specs.declared.buckets.Buckets.{Buckets}
@@ -25,9 +25,6 @@ divisor_index R w d =
     let k = d.1 in
     let e : get_or R k.0 no_rule ≡ d.0 = get_or_default R k.0 no_rule d.0 k.1 ∙ k.2 in
     (k.0, k.1, subst (λ (r : RewriteRule). Divides r.left w) (sym e) d.2)
-
-pub index_divisor : (R : List RewriteRule) (w : Exponents) (i : ℕ) → i < length R → Divides (rule_at R i).left w → HasLeftDivisor R w
-index_divisor R w i l d = (rule_at R i, contains_at R i no_rule l, d)
 
 -- the letters of a rule that is read
 pub read_letters : (t : Table) (i : ℕ) (r : WordRule) → IsIndexed t → i < length t.rules.items → r ≡ get_or t.rules.items i r → HasLetters r

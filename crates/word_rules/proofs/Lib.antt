@@ -6,3 +6,4 @@ pub mod Lefts
 pub mod Steps
 pub mod Shared
 pub mod Sums
+pub mod Trimming

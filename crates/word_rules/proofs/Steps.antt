@@ -1,19 +1,15 @@
 -- Steps of rewriting by rules that decrease in an order.
-use Rattle.std.proofs.Common.{◌≡◌, ℕ, ◌+◌, ◌≤◌, ◌<◌, sym, ◌∙◌, ap, subst, List, length, arith, Some}
+use Rattle.std.proofs.Common.{◌≡◌, ℕ, ◌+◌, ◌≤◌, ◌<◌, ap, subst, List, length, arith, Some}
 use Rattle.monomial_order.specs.Limits.{exponent_max}
 use Rattle.monomial_order.specs.Monomial.{Exponents, exponent, product, IsTrimmed, IsMonomial}
 use Rattle.monomial_order.specs.MonomialOrder.{MonomialOrder, IsMonomialOrder}
-use Rattle.monomial_order.specs.laws.Monomial.{product_comm, product_fits}
+use Rattle.monomial_order.specs.laws.Monomial.{product_fits}
 use Rattle.monomial_order.specs.laws.Comparing.{degree_falls}
 use Rattle.monomial_order.specs.laws.Lists.{contains_at}
 use Rattle.word_rewriting.specs.Rewriting.{WordOrZero, RewriteRule, RewritesBy, Rewrites, stays, steps, multiple}
 use Rattle.word_rewriting.specs.laws.Rewriting.{rewrites_trans}
 use Rattle.word_rewriting.specs.laws.Confluence.{IsBelow, factor_monomial, step_below}
 use Rattle.word_rules.specs.Rules.{AreDecreasing, IsSmallWord, no_rule, rule_at}
-
--- a rule rewrites a multiple of its left side
-pub rewrites_multiple_to : (r : RewriteRule) (l k w : Exponents) (a : WordOrZero) → l ≡ r.left → product l k ≡ w → IsTrimmed k → multiple k r.right ≡ a → RewritesBy r w a
-rewrites_multiple_to r l k w a el e hk h = record { cofactor = k; trimmed = hk; word = product_comm k r.left ∙ (ap (λ x. product x k) (sym el) ∙ e); result = h }
 
 module _ (O : MonomialOrder) (LO : IsMonomialOrder O) (R : List RewriteRule) (decreasing : AreDecreasing O R) where
   pub below : (i : ℕ) (w : Exponents) (a : WordOrZero) → i < length R → IsMonomial O.places w → RewritesBy (rule_at R i) w a → IsBelow O w a

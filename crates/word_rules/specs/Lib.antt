@@ -1,3 +1,4 @@
 pub mod Rules
 pub mod Index
 pub mod Sharing
+pub mod Trimmed

@@ -12,6 +12,7 @@ mod marks;
 mod pairs;
 mod rewriting;
 mod rule_table;
+mod scratch;
 mod searching;
 mod sharing;
 mod table;

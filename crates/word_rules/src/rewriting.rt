@@ -1,57 +1,36 @@
 //! Normal forms of words and of critical pairs.
 ghost use Rattle.std.specs.Prelude.{◌≡◌, ◌<◌, length, IfOk, Some};
 ghost use Rattle.monomial_order.specs.Monomial.{least_common_multiple, Divides};
-ghost use Rattle.word_rewriting.specs.Rewriting.{IsNormalForm, RewritesBy};
-ghost use Rattle.word_rewriting.specs.laws.Confluence.{IsBelow};
+ghost use Rattle.word_rewriting.specs.Rewriting.{IsNormalForm};
+ghost use Rattle.word_rules.specs.Trimmed.{trim};
 ghost use Rattle.word_rules.specs.Rules.{rule_at, AreDecreasing, ArePairForms, IsFormAfter, IsSmallWord};
 
 use crate::RuleTable;
+use crate::scratch::{divide, multiply, spread};
 use monomial_order::{Memory, Monomial, Order};
 use std::alloc::Global;
 
 impl RuleTable {
-    /// What a rule rewrites a multiple of its left side to; None is zero.
-    fn step<O: Order>(
-        &self,
-        alloc: Global,
-        o: &O,
-        i: usize,
-        word: &Monomial,
-    ) -> Result<Option<Monomial>, Memory>
-        requires decreasing { AreDecreasing (O.order o.now) self.now }
-        requires inside { i < length self.now }
-        requires divides { Divides (rule_at self.now i).left word.now }
-        requires word { IsSmallWord (O.order o.now) word.now }
-        ensures by { IfOk result (RewritesBy (rule_at self.now i) word.now) }
-        ensures below { IfOk result (IsBelow (O.order o.now) word.now) }
-    {
-        let Some(cofactor) = word.quotient(alloc, self.left(i))? else {
-            unreachable!()
-        };
-        match self.right(i) {
-            None => Ok(None),
-            Some(right) => Ok(Some(cofactor.times(alloc, right)?)),
-        }
-    }
-
-    /// A normal form of a word.
+    /// A normal form of a word that may have zeros at the end.
     fn finish<O: Order>(
         &self,
         alloc: Global,
         o: &O,
-        mut word: Monomial,
+        mut word: Vec<u16>,
     ) -> Result<Option<Monomial>, Memory>
         requires decreasing { AreDecreasing (O.order o.now) self.now }
-        requires word { IsSmallWord (O.order o.now) word }
-        ensures { IfOk result (IsNormalForm self.now (Some word)) }
+        requires long { length word.items ≡ (O.order o.now).places }
+        requires word { IsSmallWord (O.order o.now) (trim word.items) }
+        ensures { IfOk result (IsNormalForm self.now (Some (trim word.items))) }
     {
-        'rewrite: while let Some(i) = self.find_left_divisor(&word) {
-            match self.step(alloc, o, i, &word)? {
-                Some(next) => word = next,
-                None => return Ok(None),
-            }
+        'rewrite: while let Some(i) = self.find(word.as_slice()) {
+            let Some(right) = self.right(i) else {
+                return Ok(None);
+            };
+            divide(&mut word, self.left(i).as_slice());
+            multiply(&mut word, right.as_slice());
         }
-        Ok(Some(word))
+        Ok(Some(Monomial::from_places(alloc, word.as_slice())?))
     }
 
     /// A normal form of what a rule rewrites a multiple of its left side to.
@@ -68,14 +47,18 @@ impl RuleTable {
         requires word { IsSmallWord (O.order o.now) word.now }
         ensures { IfOk result (IsFormAfter self.now (rule_at self.now i) word.now) }
     {
-        match self.step(alloc, o, i, word)? {
-            Some(next) => self.finish(alloc, o, next),
-            None => Ok(None),
-        }
+        let Some(right) = self.right(i) else {
+            return Ok(None);
+        };
+        let mut next = spread(alloc, word, o.places())?;
+        divide(&mut next, self.left(i).as_slice());
+        multiply(&mut next, right.as_slice());
+        let form = self.finish(alloc, o, next)?;
+        Ok(form)
     }
 
-    /// A normal form of a word; None is zero. The order is read by nothing: in it the rules rewrite to smaller words,
-    /// so the steps end and every exponent fits.
+    /// A normal form of a word; None is zero. In the order the rules rewrite to smaller words, so the steps end and
+    /// every exponent fits.
     pub fn rewrite<O: Order>(
         &self,
         alloc: Global,
@@ -86,8 +69,9 @@ impl RuleTable {
         requires word { IsSmallWord (O.order o.now) word.now }
         ensures { IfOk result (IsNormalForm self.now (Some word.now)) }
     {
-        let word = word.copy(alloc)?;
-        self.finish(alloc, o, word)
+        let spread = spread(alloc, word, o.places())?;
+        let normal_form = self.finish(alloc, o, spread)?;
+        Ok(normal_form)
     }
 
     /// The least common multiple of two left sides.

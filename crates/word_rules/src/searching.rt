@@ -77,13 +77,22 @@ impl Table {
 }
 
 impl RuleTable {
+    /// The index of a rule whose left side divides the word with these exponents.
+    pub(crate) fn find(&self, word: &[u16]) -> Option<usize>
+        ensures inside { IfSome result (λ i. i < length self.now) }
+        ensures divides { IfSome result (λ i. Divides (rule_at self.now i).left word.now) }
+        ensures none { IsNone result → ¬ HasLeftDivisor self.now word.now }
+    {
+        self.table.find(word)
+    }
+
     /// The index of a rule whose left side divides the word, if there is one. It takes no memory.
     pub fn find_left_divisor(&self, word: &Monomial) -> Option<usize>
         ensures inside { IfSome result (λ i. i < length self.now) }
         ensures divides { IfSome result (λ i. Divides (rule_at self.now i).left word.now) }
         ensures none { IsNone result → ¬ HasLeftDivisor self.now word.now }
     {
-        self.table.find(word.as_slice())
+        self.find(word.as_slice())
     }
 
     /// Whether a rule rewrites the word. It takes no memory.

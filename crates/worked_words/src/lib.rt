@@ -2,7 +2,7 @@
 #![tactic(auto)]
 
 #[cfg(test)]
-mod tables;
+mod rules;
 #[cfg(test)]
 mod walk;
 #[cfg(test)]

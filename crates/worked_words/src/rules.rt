@@ -1,0 +1,154 @@
+//! Tables of rules: x of degree 1, and letters for x^2 and x^3.
+ghost use Rattle.std.specs.Prelude.{◌≡◌, ◌∷◌, [], IfOk};
+ghost use Rattle.monomial_order.specs.Monomial.{IsTrimmed};
+ghost use Rattle.word_laws.specs.Words.{word_order_of};
+ghost use Rattle.word_rewriting.specs.Samples.{sample_rules, square_and_cube};
+ghost use Rattle.word_rules.specs.Rules.{IsSmallWord};
+
+use worked_rows::monomials::{is_word, word};
+use worked_rows::rows::{ensure, number, part};
+use monomial_order::{Monomial, WordOrder};
+use std::alloc::Global;
+use std::test::Fail;
+use word_rules::RuleTable;
+
+/// The order of the words in x, s1 and s2.
+fn order(alloc: Global) -> Result<WordOrder, Fail>
+    ensures x { IfOk result (λ o. o.x_degrees.items ≡ 1 ∷ []) }
+    ensures s { IfOk result (λ o. o.s_degrees.items ≡ 2 ∷ (3 ∷ [])) }
+{
+    let mut order = WordOrder::new(alloc, &[1])?;
+    order.push_place(2)?;
+    order.push_place(3)?;
+    Ok(order)
+}
+
+/// The word with these exponents.
+fn exact(alloc: Global, exponents: &[u16]) -> Result<Monomial, Fail>
+    requires { IsTrimmed exponents.now }
+    ensures { IfOk result (λ m. m ≡ exponents.now) }
+{
+    Ok(Monomial::from_places(alloc, exponents)?)
+}
+
+/// The rules x^2 to s1, x*s1 to s2, x*s2 to s1^2, and s1^3 to s2^2.
+fn table(alloc: Global) -> Result<RuleTable, Fail>
+    ensures { IfOk result (λ t. t ≡ sample_rules) }
+{
+    let mut table = RuleTable::new(alloc);
+    let (left, right) = (exact(alloc, &[2])?, exact(alloc, &[0, 1])?);
+    table.push(alloc, left, Some(right))?;
+    let (left, right) = (exact(alloc, &[1, 1])?, exact(alloc, &[0, 0, 1])?);
+    table.push(alloc, left, Some(right))?;
+    let (left, right) = (exact(alloc, &[1, 0, 1])?, exact(alloc, &[0, 2])?);
+    table.push(alloc, left, Some(right))?;
+    let (left, right) = (exact(alloc, &[0, 3])?, exact(alloc, &[0, 0, 2])?);
+    table.push(alloc, left, Some(right))?;
+    Ok(table)
+}
+
+/// Fails unless it is a word in x, s1 and s2 with exponents of at most 7.
+fn check_small(m: &Monomial) -> Result<(), Fail>
+    ensures { IfOk result (λ _. IsSmallWord (word_order_of square_and_cube) m.now) }
+{
+    ensure(m.places() <= 3, "a letter too many")?;
+    ensure(m.as_slice().iter().all(|e| *e <= 7), "a great exponent")?;
+    Ok(())
+}
+
+/// The normal form of a word.
+fn normal_form(alloc: Global, table: &RuleTable, text: &str) -> Result<Option<Monomial>, Fail>
+    requires { table.now ≡ sample_rules }
+{
+    word_rewriting::sample();
+    let order = order(alloc)?;
+    let m = word(alloc, 1, text)?;
+    check_small(&m)?;
+    Ok(table.rewrite(alloc, &order, &m)?)
+}
+
+/// The normal forms of the critical pair of two rules, after their least common multiple and its degree.
+fn pair_is(alloc: Global, table: &RuleTable, row: &str) -> Result<bool, Fail>
+    requires { table.now ≡ sample_rules }
+{
+    word_rewriting::sample();
+    let order = order(alloc)?;
+    let i = number(part(row, 0))? as usize;
+    let j = number(part(row, 1))? as usize;
+    ensure(i < table.len() && j < table.len(), "no such rule")?;
+    let multiple = table.lcm(alloc, i, j)?;
+    check_small(&multiple)?;
+    let degree = table.lcm_degree(&[1, 2, 3], i, j);
+    let (first, second) = table.pair_normal_forms(alloc, &order, i, j)?;
+    Ok(
+        is_word(alloc, 1, Some(&multiple), part(row, 2))?
+            && degree == number(part(row, 3))?
+            && is_word(alloc, 1, first.as_ref(), part(row, 4))?
+            && is_word(alloc, 1, second.as_ref(), part(row, 4))?,
+    )
+}
+
+/// Whether these are the indexes of the earlier rules that share a letter with a rule, in some order.
+fn shares(alloc: Global, table: &RuleTable, j: usize, row: &str) -> Result<bool, Fail> {
+    ensure(j < table.len(), "no such rule")?;
+    let mut indexes = table.sharing(alloc, j)?;
+    indexes.sort()?;
+    let mut out = String::new(alloc);
+    for i in &indexes {
+        out.push_str(if out.is_empty() { "" } else { " " })?;
+        out.push_str(format!(in alloc; "{i}")?.as_str())?;
+    }
+    Ok(out.as_str() == row)
+}
+
+#[test]
+fn words_have_normal_forms(rt: HostRuntime) -> Result<(), Fail> {
+    let alloc = rt.alloc();
+    let table = table(alloc)?;
+    for row in [
+        "1 | 1",
+        "x | x",
+        "x^2 | s1",
+        "x^7 | s1^2*s2",
+        "x^5*s2^3 | s1*s2^4",
+        "s1^7 | s1*s2^4",
+        "s2^7 | s2^7",
+    ] {
+        let found = normal_form(alloc, &table, part(row, 0))?;
+        ensure(is_word(alloc, 1, found.as_ref(), part(row, 1))?, row)?;
+    }
+    Ok(())
+}
+
+#[test]
+fn pairs_have_normal_forms(rt: HostRuntime) -> Result<(), Fail> {
+    let alloc = rt.alloc();
+    let table = table(alloc)?;
+    for row in [
+        "0 | 1 | x^2*s1 | 4 | s1^2",
+        "0 | 2 | x^2*s2 | 5 | s1*s2",
+        "1 | 2 | x*s1*s2 | 6 | s2^2",
+        "1 | 3 | x*s1^3 | 7 | s1^2*s2",
+    ] {
+        ensure(pair_is(alloc, &table, row)?, row)?;
+    }
+    Ok(())
+}
+
+#[test]
+fn rules_share_letters(rt: HostRuntime) -> Result<(), Fail> {
+    let alloc = rt.alloc();
+    let mut table = table(alloc)?;
+    for (j, row) in ["", "0", "0 1", "1"].iter().enumerate() {
+        ensure(shares(alloc, &table, j, row)?, row)?;
+    }
+    let last = exact(alloc, &[0, 1, 1])?;
+    table.push(alloc, last.copy(alloc)?, None)?;
+    ensure(shares(alloc, &table, 4, "1 2 3")?, "s1*s2")?;
+    ensure(
+        table.right(4).is_none() && table.is_reducible(&last),
+        "a rule to zero",
+    )?;
+    table.truncate(4);
+    ensure(!table.is_reducible(&last), "no rule to zero")
+}
