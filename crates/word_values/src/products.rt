@@ -108,7 +108,8 @@ pub(crate) fn times_letter<F: Field, O: Order>(
     requires last { split.now.letter < (O.order p.now.order).places + length elements.now }
     requires degree { let P = presented F.ops O.order p.now in
         (word_degree P (values_of elements.now) (whole split.now) ≤ q.now.degree) ⊎ (q.now.closed ≡ true) }
-    requires small { word_degree (presented F.ops O.order p.now) (values_of elements.now) (whole split.now) ≤ exponent_max }
+    requires small { let P = presented F.ops O.order p.now in
+        word_degree P (values_of elements.now) (whole split.now) ≤ exponent_max }
     requires value { IsWordValue (presented F.ops O.order p.now) (values_of elements.now) split.now.rest value.now }
     ensures { let P = presented F.ops O.order p.now in
         IfOk result (IsWordValue P (values_of elements.now) (whole split.now)) }

@@ -146,7 +146,8 @@ impl<F: Field> Values<F> {
             (word_degree P (values_of elements.now) w.now ≤ q.now.degree) ⊎ (q.now.closed ≡ true) }
         requires small { word_degree (presented F.ops O.order p.now) (values_of elements.now) w.now ≤ exponent_max }
         requires values { AreValues (presented F.ops O.order p.now) (values_of elements.now) self.old }
-        requires path { IsPath (presented F.ops O.order p.now) (values_of elements.now) w.now path.steps.items path.start }
+        requires path { let P = presented F.ops O.order p.now in
+            IsPath P (values_of elements.now) w.now path.steps.items path.start }
         requires ready { IsNone start → IsReady self.old path.start }
         requires made { let P = presented F.ops O.order p.now in
             IfSome start (IsWordValue P (values_of elements.now) path.start) }
@@ -209,7 +210,8 @@ impl<F: Field> Values<F> {
         requires presentation { IsValid F.ops O.order p.now }
         requires elements { AreHomogeneousElements (presented F.ops O.order p.now) (values_of elements.now) }
         requires values { AreValues (presented F.ops O.order p.now) (values_of elements.now) self.now }
-        requires split { (w : Exponents) × IsSplit (presented F.ops O.order p.now) (values_of elements.now) w split.now }
+        requires split { let P = presented F.ops O.order p.now in
+            (w : Exponents) × IsSplit P (values_of elements.now) w split.now }
     {
         match self.get(p, elements, &split.rest) {
             Some(value) => {
@@ -238,7 +240,8 @@ impl<F: Field> Values<F> {
         requires last { split.now.letter < (O.order p.now.order).places + length elements.now }
         requires degree { let P = presented F.ops O.order p.now in
             (word_degree P (values_of elements.now) (whole split.now) ≤ q.now.degree) ⊎ (q.now.closed ≡ true) }
-        requires small { word_degree (presented F.ops O.order p.now) (values_of elements.now) (whole split.now) ≤ exponent_max }
+        requires small { let P = presented F.ops O.order p.now in
+            word_degree P (values_of elements.now) (whole split.now) ≤ exponent_max }
         requires values { AreValues (presented F.ops O.order p.now) (values_of elements.now) self.now }
         requires ready { IsNone made.now → IsReady self.now split.now.rest }
         requires made { let P = presented F.ops O.order p.now in
