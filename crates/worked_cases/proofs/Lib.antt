@@ -3,3 +3,4 @@ pub mod ShortMonomials
 pub mod SmallWords
 pub mod Sums
 pub mod PairedNames
+pub mod GeneratorElements
