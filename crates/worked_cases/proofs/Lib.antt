@@ -2,5 +2,3 @@ pub mod LowPairs
 pub mod ShortMonomials
 pub mod SmallWords
 pub mod Sums
-pub mod PairedNames
-pub mod GeneratorElements
