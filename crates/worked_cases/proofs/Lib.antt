@@ -1,4 +1,3 @@
 pub mod LowPairs
 pub mod ShortMonomials
 pub mod SmallWords
-pub mod PairedNames

@@ -1,29 +1,15 @@
 -- Values with their witnesses, over presentations that tests read.
-use Rattle.std.specs.Prelude.{◌≡◌, ℕ, ◌<◌, List, length}
+use Rattle.std.specs.Prelude.{ℕ, ◌<◌, length}
 use Rattle.word_field.specs.Residues.{residues}
 use Rattle.word_field.specs.declared.WordField.{WordField}
 use Rattle.monomial_order.specs.MonomialOrder.{MonomialOrder}
 use Rattle.monomial_order.specs.declared.weight_order.WeightOrder.{WeightOrder}
 use Rattle.monomial_order.specs.declared.word_order.WordOrder.{WordOrder}
-use Rattle.poly_core.specs.Presentation.{presented, weight_order_of}
+use Rattle.poly_core.specs.Presentation.{weight_order_of}
 use Rattle.poly_core.specs.declared.presentations.Presentation.{Presentation}
-use Rattle.polynomials.specs.Polynomial.{Polynomial}
-use Rattle.polynomials.specs.Subalgebra.{Presented}
 use Rattle.polynomial_text.specs.Degrees.{IsLow}
-use Rattle.witness.specs.Tracking.{by_order, IsCanonicalPair, IsTrackedElement, IsWitnessOrder}
+use Rattle.witness.specs.Tracking.{by_order, IsCanonicalPair}
 use Rattle.witness.specs.declared.tracked.Tracked.{Tracked}
-
--- what it presents
-abbrev pub ring_of : Presentation WordField WeightOrder ℕ → Presented ℕ
-ring_of p = presented (λ f. residues f.modulus) weight_order_of p
-
-abbrev pub HasSixPlaces : WordOrder → Type 0
-HasSixPlaces w = let W : MonomialOrder = by_order w in W.places ≡ 6
-
--- a generator that is not zero, with its letter: an element over each list of elements in each order for it
-abbrev pub IsGeneratorElement : Presentation WordField WeightOrder ℕ → Tracked WordField ℕ → Type 0
-IsGeneratorElement p t = (S : List (Polynomial ℕ)) (w : WordOrder) → IsWitnessOrder (ring_of p) S w →
-    IsTrackedElement (ring_of p) (by_order w) S t
 
 module _ (p : Presentation WordField WeightOrder ℕ) (w : WordOrder) where
   -- the order has the places of the generators, and one for an element

@@ -5,8 +5,6 @@
 #[cfg(test)]
 mod chains;
 #[cfg(test)]
-mod expansions;
-#[cfg(test)]
 mod operations;
 #[cfg(test)]
 mod orders;

@@ -98,7 +98,7 @@ fn of_one(
 }
 
 /// The degree of a polynomial, and 0 for zero.
-pub(crate) fn degree(p: &Ring, a: &Poly<WordField>) -> u32
+fn degree(p: &Ring, a: &Poly<WordField>) -> u32
     requires { IsIn p.now a.now }
     ensures { result ≡ degree_of (weight_order_of p.now.order) a.now }
 {

@@ -1,13 +1,13 @@
 -- Letters as polynomials, and their degrees in an order of witnesses.
-use Rattle.std.proofs.Common.{◌≡◌, ℕ, zero, suc, ◌+◌, ◌-◌, ◌*◌, ◌<◌, ⊎_elim, refl, sym, ◌∙◌, ap, subst, List, [], ◌∷◌, ◌++◌, length, get_or, length-append, arith}
+use Rattle.std.proofs.Common.{◌≡◌, ◌≢◌, ℕ, zero, suc, ◌+◌, ◌-◌, ◌*◌, ◌<◌, ⊎_elim, refl, sym, ◌∙◌, ap, subst, List, [], ◌∷◌, ◌++◌, length, get_or, length-append, arith}
 use Rattle.std.specs.Prelude.{map}
 use Rattle.std.proofs.lemmas.List.{length-map, get_or-map, get_or_append_left, get_or-append-add}
 use Rattle.word_field.specs.Field.{FieldOps, IsField}
-use Rattle.monomial_order.specs.Monomial.{variable, weighted_degree}
+use Rattle.monomial_order.specs.Monomial.{Exponents, exponent, variable, weighted_degree}
 use Rattle.monomial_order.specs.MonomialOrder.{MonomialOrder, IsMonomialOrder, HasSmallDegrees}
 use Rattle.monomial_order.specs.declared.word_order.WordOrder.{WordOrder}
 use Rattle.monomial_order.specs.laws.Comparing.{le_or_not}
-use Rattle.monomial_order.specs.laws.Monomial.{variable_monomial, weighted_nil}
+use Rattle.monomial_order.specs.laws.Monomial.{variable_monomial, variable_off, weighted_nil}
 use Rattle.monomial_order.specs.laws.Orders.{word_laws, word_small}
 use Rattle.polynomials.specs.Polynomial.{Polynomial, coefficient, IsPoly, IsCanonical, degree_of}
 use Rattle.polynomials.specs.Subalgebra.{Presented}
@@ -19,6 +19,10 @@ use Rattle.witness.specs.Tracking.{by_order, letter_poly, IsGraded, IsWitnessOrd
 module _ {E : Type 0} (K : FieldOps E) (F : IsField K) where
   pub letter_is_poly : (n i : ℕ) → i < n → IsPoly K n (letter_poly K i)
   letter_is_poly n i l = (record { monomial = variable_monomial n i l; value = F.one_value }, tt)
+
+  -- the letter of a generator uses no letters after those of the k generators
+  pub letter_uses_none : (k i : ℕ) → i < k → (m : Exponents) → coefficient K (letter_poly K i) m ≢ K.zero → (j : ℕ) → exponent m (k + j) ≡ 0
+  letter_uses_none k i l m n j = subst (λ v. exponent v (k + j) ≡ 0) (single_term K F (variable i) K.one m n) (variable_off i (k + j) (λ e. omega arith))
 
   module _ (W : MonomialOrder) where
     pub canonical_letter : HasSmallDegrees W → (i : ℕ) → i < W.places → IsCanonical K W (letter_poly K i)
