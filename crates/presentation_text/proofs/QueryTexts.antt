@@ -22,7 +22,7 @@ use Rattle.presentation_text.specs.Giving.{fault_at, located}
 use Rattle.presentation_text.specs.Pending.{Pending, pending}
 use Rattle.presentation_text.proofs.NextLines.{at_ok, at_err, sums_push}
 use Rattle.presentation_text.proofs.PolyLines.{in_text_ok}
-use Rattle.presentation_text.proofs.TextTokens.{all_append}
+use Rattle.polynomial_text.specs.laws.CanonicalParts.{each_append}
 use Rattle.polynomials.specs.Polynomial.{Polynomial}
 
 -- what was made of a line
@@ -65,7 +65,7 @@ module _ {E : Type 0} (K : FieldOps E) (O : MonomialOrder) (names : Names) where
   come_next number bytes ls rest text ps p split h s low =
       let first : at_line read_line (number, bytes) ≡ Ok s.terms = at_ok read_line number bytes s.terms (in_text_ok (terms_of K O names bytes) s.terms s.read) in
       let step : with_sums h.sums (sums_of ls) ≡ with_sums (h.sums ++ s.terms ∷ []) (sums_of rest) = rw (split, first) (regroup h.sums s.terms (sums_of rest)) in
-      record { sums = h.sums ++ s.terms ∷ []; is = sym step ∙ h.is; same = sums_push K O h.sums ps s.terms p h.same (s.sum, s.canonical, tt); low = all_append (IsLow O) ps (p ∷ []) h.low (low, tt) }
+      record { sums = h.sums ++ s.terms ∷ []; is = sym step ∙ h.is; same = sums_push K O h.sums ps s.terms p h.same (s.sum, s.canonical, tt); low = each_append (IsLow O) ps (p ∷ []) h.low (low, tt) }
 
   pub come_stop : (number : ℕ) (bytes : List ℕ) (ls rest : List Line) (text : List ℕ) (ps : List (Polynomial E)) (e : LineFault TextKind)
       → ls ≡ (number, bytes) ∷ rest → HaveCome ls text ps → IsLineFaultOf (read_line bytes) e → IsFaultOf (queries K O names text) (fault_at number e)

@@ -5,6 +5,7 @@ use Rattle.std.proofs.lemmas.List.Elements.{All-from_recursion}
 use Rattle.std.proofs.lemmas.List.Splits.{slice_split_at, slice_split_none}
 use Rattle.presentation_text.specs.declared.text_kind.TextKind.{TextKind}
 use Rattle.polynomial_text.specs.Bytes.{is_blank, is_skipped, behind}
+use Rattle.polynomial_text.specs.laws.CanonicalParts.{each_append}
 use Rattle.presentation_text.specs.Lines.{lines, content_lines, tokens}
 use Rattle.presentation_text.specs.Reading.{next}
 use Rattle.presentation_text.specs.PresentationText.{line}
@@ -55,13 +56,9 @@ pub one_line : (w : List ℕ) → AllByRecursion (λ b. 32 ≤ b) w → IsOneLin
 one_line [] h = tt
 one_line (b ∷ w) h = (not_equal b 10 (omega (arith, h.0)), one_line w h.1)
 
-pub all_append : {A : Type 0} (P : A → Type 0) (xs ys : List A) → AllByRecursion P xs → AllByRecursion P ys → AllByRecursion P (xs ++ ys)
-all_append P [] ys h k = k
-all_append P (x ∷ xs) ys h k = (h.0, all_append P xs ys h.1 k)
-
 tokens_visible : (ws : List (List ℕ)) → AllByRecursion IsToken ws → AllByRecursion (λ b. 32 ≤ b) (flat_map (λ w. 32 ∷ w) ws)
 tokens_visible [] h = tt
-tokens_visible (w ∷ ws) h = (omega arith, all_append (λ b. 32 ≤ b) w (flat_map (λ w. 32 ∷ w) ws) (above 32 33 w (omega arith) h.0.visible) (tokens_visible ws h.1))
+tokens_visible (w ∷ ws) h = (omega arith, each_append (λ b. 32 ≤ b) w (flat_map (λ w. 32 ∷ w) ws) (above 32 33 w (omega arith) h.0.visible) (tokens_visible ws h.1))
 
 -- a line of tokens is read by its tokens
 pub next_tokens : {A : Type 0} (last n : ℕ) (f : List ℕ → Result A TextKind) (a : A) (first : List ℕ) (ws : List (List ℕ)) (rest : List ℕ) →
@@ -71,6 +68,6 @@ next_tokens last n f a first ws rest b h hs e =
     let body : List ℕ = first ++ flat_map (λ w. 32 ∷ w) ws in
     let regroup : line first ws ++ rest ≡ body ++ 10 ∷ rest =
     ap (λ (l : List ℕ). l ++ rest) (sym (append_assoc first (flat_map (λ w. 32 ∷ w) ws) (10 ∷ []))) ∙ append_assoc body (10 ∷ []) rest in
-    let low : AllByRecursion (λ c. 32 ≤ c) body = all_append (λ c. 32 ≤ c) first (flat_map (λ w. 32 ∷ w) ws) (above 32 33 first (omega arith) h.visible) (tokens_visible ws hs) in
+    let low : AllByRecursion (λ c. 32 ≤ c) body = each_append (λ c. 32 ≤ c) first (flat_map (λ w. 32 ∷ w) ws) (above 32 33 first (omega arith) h.visible) (tokens_visible ws hs) in
     ap (λ (t : List ℕ). next last f (content_lines n (lines t))) regroup ∙
     next_line last n f a body rest (one_line body low) (begins_not_skipped body (begins_append first (flat_map (λ w. 32 ∷ w) ws) b)) (e body (tokens_are first ws h hs))
