@@ -26,6 +26,10 @@ pub lack_from : (p q : ℕ → Bool) → ((b : ℕ) → p b ≡ true → q b ≡
 lack_from p q f [] h = tt
 lack_from p q f (x ∷ xs) h = let a = and_parts (p x) (list_all p xs) h in (f x a.0, lack_from p q f xs a.1)
 
+pub each_weaker : {A : Type 0} (P Q : A → Type 0) → ((x : A) → P x → Q x) → (xs : List A) → AllByRecursion P xs → AllByRecursion Q xs
+each_weaker P Q f [] h = tt
+each_weaker P Q f (x ∷ xs) h = (f x h.0, each_weaker P Q f xs h.1)
+
 pub each_append : {A : Type 0} (P : A → Type 0) (xs ys : List A) → AllByRecursion P xs → AllByRecursion P ys → AllByRecursion P (xs ++ ys)
 each_append P [] ys h k = k
 each_append P (x ∷ xs) ys h k = (h.0, each_append P xs ys h.1 k)
