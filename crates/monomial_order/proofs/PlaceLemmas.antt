@@ -1,5 +1,5 @@
 -- Lists of exponents, place by place.
-use Rattle.std.proofs.Common.{◌≡◌, ◌≢◌, ℕ, zero, suc, ◌+◌, ◌-◌, ◌<◌, ◌≤◌, refl, sym, ◌∙◌, ap, List, [], ◌∷◌, length, take, get_or, arith, ◌⊎◌, ⊎_elim}
+use Rattle.std.proofs.Common.{◌≡◌, ◌≢◌, ℕ, zero, suc, ◌+◌, ◌-◌, ◌<◌, ◌≤◌, refl, sym, ◌∙◌, ap, subst, List, [], ◌∷◌, length, take, get_or, arith, ◌⊎◌, ⊎_elim}
 use Rattle.std.specs.Prelude.{max}
 use Rattle.std.specs.List.{refill}
 use Rattle.std.proofs.lemmas.Grind.{same_number_lists, common_steps}
@@ -86,3 +86,7 @@ quotient_is n m differences used hn hm d minus trimmed zeros =
     let e = minus i in
     let l = d i in
     omega arith)
+
+-- a list that a trimmed list of its length is put into is trimmed
+pub trimmed_refill : (items new whole : List ℕ) → new ≡ whole → length whole ≡ length items → IsTrimmed whole → IsTrimmed (refill (length items) items new)
+trimmed_refill items new whole is same h = subst IsTrimmed (sym (refill_is items new (ap length is ∙ same) ∙ is)) h

@@ -1,5 +1,5 @@
 -- Summing up the terms of a line one after the other.
-use Rattle.std.proofs.Common.{◌≡◌, ℕ, suc, Bool, false, List, [], ◌∷◌, ◌++◌, length, Option, Some, None, Result, Ok, Err, refl, sym, ap, ◌∙◌, append_assoc}
+use Rattle.std.proofs.Common.{◌≡◌, ℕ, suc, Bool, false, List, [], ◌∷◌, ◌++◌, length, Option, Some, None, Result, Ok, Err, refl, sym, ap, subst, ◌∙◌, append_assoc}
 use Rattle.std.proofs.lemmas.List.{append-nil}
 use Rattle.word_field.specs.Field.{FieldOps, IsField}
 use Rattle.monomial_order.specs.declared.terms.Term.{Term}
@@ -9,11 +9,11 @@ use Rattle.polynomials.specs.laws.Same.{append_same}
 use Rattle.poly_core.specs.declared.place_names.Names.{Names}
 use Rattle.polynomial_text.specs.declared.line_fault.LineKind.{LineKind}
 use Rattle.polynomial_text.specs.declared.line_fault.LineFault.{LineFault}
-use Rattle.polynomial_text.specs.declared.line_fault.LineFault.TheVariants as faults
 use Rattle.polynomial_text.specs.Canonical.{IsLineFaultOf}
 use Rattle.polynomial_text.specs.Results.{◌>>=◌, each}
 use Rattle.polynomial_text.specs.PolyLine.{term_at, terms_of, signed_parts, behind_sign, IsPolyOf}
 use Rattle.polynomial_text.specs.LineReading.{AreCanonical, terms_together}
+use Rattle.polynomial_text.proofs.LineReading.{fault_passes}
 
 -- how many bytes are left, and one more if there is a part
 abbrev pub signed_len : Option (Bool × List ℕ) → ℕ
@@ -56,18 +56,14 @@ module _ {E : Type 0} (K : FieldOps E) (F : IsField K) (O : MonomialOrder) (name
     canonical = canonical;
     seen = h.seen ++ t ∷ [];
     same = λ m. added m ∙ append_same K F (terms_together stack) h.seen (t ∷ []) (t ∷ []) h.same (λ k. refl) m;
-    whole =
-        let one : each (term_at K O names) (part ∷ left) ≡ (each (term_at K O names) left >>= λ others. Ok (t ∷ others)) = rw here refl in
-        sym (front_more h.seen t (each (term_at K O names) left)) ∙ (ap (with_front h.seen) (sym (ap (each (term_at K O names)) split ∙ one)) ∙ h.whole);
+    whole = sym (front_more h.seen t (each (term_at K O names) left)) ∙ (rw (split, here) at h.whole);
   }
 
   pub stops : (line : List ℕ) (parts left : List (Bool × List ℕ)) (part : Bool × List ℕ) (stack : List (Polynomial E)) (e : LineFault LineKind) → parts ≡ part ∷ left → IsLineFaultOf (term_at K O names part) e →
       IsSummed line parts stack → IsLineFaultOf (terms_of K O names line) e
   unfolding each
-  stops line parts left part stack faults.Memory split here h = tt
-  stops line parts left part stack (faults.Kind kind) split here h =
-      let one : each (term_at K O names) (part ∷ left) ≡ Err kind = rw here refl in
-      sym h.whole ∙ ap (with_front h.seen) (ap (each (term_at K O names)) split ∙ one)
+  stops line parts left part stack e split here h =
+      subst (λ (r : Result (Polynomial E) LineKind). IsLineFaultOf r e) h.whole (rw split (fault_passes _ (λ more. Ok (h.seen ++ more)) e (fault_passes (term_at K O names part) _ e here)))
 
   pub ends : (line : List ℕ) (stack : List (Polynomial E)) (p : Polynomial E) → IsCanonical K O p → Same K p (terms_together stack) → IsSummed line [] stack → IsPolyOf K O names line p
   unfolding each

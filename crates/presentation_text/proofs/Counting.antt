@@ -2,7 +2,6 @@
 use Rattle.std.proofs.Common.{◌≡◌, ℕ, ◌≤◌, List, Ok, refl}
 use Rattle.word_field.specs.Field.{FieldOps}
 use Rattle.presentation_text.specs.declared.text_fault.TextFault.{TextFault}
-use Rattle.presentation_text.specs.declared.text_fault.TextFault.TheVariants as faults
 use Rattle.presentation_text.specs.declared.text_kind.TextKind.{TextKind}
 use Rattle.presentation_text.specs.declared.text_kind.TextKind.TheVariants.{CountLine}
 use Rattle.presentation_text.specs.Numbers.{number_within}
@@ -10,7 +9,7 @@ use Rattle.presentation_text.specs.Lines.{tokens}
 use Rattle.presentation_text.specs.Heading.{count_max, behind_key, only, count_of, count_line}
 use Rattle.presentation_text.specs.Reading.{Line, Head, next, several, poly_line, counted}
 use Rattle.presentation_text.specs.Meaning.{IsFaultOf}
-use Rattle.presentation_text.proofs.NextLines.{next_was}
+use Rattle.presentation_text.proofs.NextLines.{next_was, fault_passes}
 use Rattle.presentation_text.proofs.TakenTokens.{bind_some, number_between, or_fault_ok}
 
 module _ {E : Type 0} (K : FieldOps E) (last : ℕ) (h : Head) (key : List ℕ) (constant : TextKind) (ls : List Line) where
@@ -20,8 +19,7 @@ module _ {E : Type 0} (K : FieldOps E) (last : ℕ) (h : Head) (key : List ℕ) 
 
   pub counted_err : (e : TextFault) → IsFaultOf (next last (count_line key) ls) e → IsFaultOf (counted K last h key constant ls) e
   unfolding counted
-  counted_err faults.Memory h = tt
-  counted_err (faults.At kind line) h = rw h refl
+  counted_err e h = fault_passes (next last (count_line key) ls) _ e h
 
 pub count_small : (last : ℕ) (key : List ℕ) (ls : List Line) (x : ℕ × List Line) → next last (count_line key) ls ≡ Ok x → x.0 ≤ count_max
 unfolding count_of

@@ -24,6 +24,11 @@ module _ {E : Type 0} (K : FieldOps E) (O : MonomialOrder) where
   sums_push (s ∷ sums) [] sum p h k = absurd h
   sums_push (s ∷ sums) (q ∷ ps) sum p h k = (h.0, h.1, sums_push sums ps sum p h.2 k)
 
+-- the fault of a step is that of the steps that begin with it
+pub fault_passes : {A B : Type 0} (r : Result A Fault) (f : A → Result B Fault) (e : TextFault) → IsFaultOf r e → IsFaultOf (r >>= f) e
+fault_passes r f faults.Memory k = tt
+fault_passes r f (faults.At kind line) k = rw k refl
+
 module _ {Y : Type 0} (f : List ℕ → Result Y TextKind) where
   pub at_ok : (number : ℕ) (bytes : List ℕ) (y : Y) → f bytes ≡ Ok y → at_line f (number, bytes) ≡ Ok y
   unfolding at_line
@@ -40,11 +45,7 @@ module _ {Y : Type 0} (f : List ℕ → Result Y TextKind) where
 
   pub next_err : (last number : ℕ) (bytes : List ℕ) (ls rest : List Line) (e : LineFault TextKind) → ls ≡ (number, bytes) ∷ rest → IsLineFaultOf (f bytes) e → IsFaultOf (next last f ls) (fault_at number e)
   unfolding next
-  next_err last number bytes ls rest line_faults.Memory split h = tt
-  next_err last number bytes ls rest (line_faults.Kind kind) split h = stopped (at_err number bytes (line_faults.Kind kind) h)
-    where
-      stopped : at_line f (number, bytes) ≡ Err (kind, number) → next last f ls ≡ Err (kind, number)
-      stopped e = rw (split, e) refl
+  next_err last number bytes ls rest e split h = rw split (fault_passes (at_line f (number, bytes)) (λ a. Ok (a, rest)) (fault_at number e) (at_err number bytes e h))
 
   pub next_none : (last : ℕ) (ls : List Line) (e : TextFault) → ls ≡ [] → e ≡ faults.At Truncated last → IsFaultOf (next last f ls) e
   unfolding next

@@ -1,5 +1,5 @@
 -- The polynomials of the next lines.
-use Rattle.std.proofs.Common.{◌≡◌, ℕ, suc, ◌+◌, ◌-◌, ◌<◌, ◌≤◌, List, [], ◌∷◌, ◌++◌, length, Result, Ok, Err, refl, sym, ap, ◌∙◌, arith, append_assoc, length-append}
+use Rattle.std.proofs.Common.{◌≡◌, ℕ, suc, ◌+◌, ◌-◌, ◌<◌, ◌≤◌, List, [], ◌∷◌, ◌++◌, length, Result, Ok, Err, refl, sym, ap, subst, ◌∙◌, arith, append_assoc, length-append}
 use Rattle.std.specs.Prelude.{IfOk, IfErr}
 use Rattle.std.proofs.lemmas.List.{append-nil}
 use Rattle.word_field.specs.Field.{FieldOps}
@@ -7,7 +7,6 @@ use Rattle.monomial_order.specs.MonomialOrder.{MonomialOrder}
 use Rattle.poly_core.specs.Presentation.{AreCanonicalGenerators, IsCanonicalGenerator}
 use Rattle.polynomial_text.specs.declared.line_fault.LineFault.{LineFault}
 use Rattle.presentation_text.specs.declared.text_fault.TextFault.{TextFault}
-use Rattle.presentation_text.specs.declared.text_fault.TextFault.TheVariants as faults
 use Rattle.presentation_text.specs.declared.text_kind.TextKind.{TextKind}
 use Rattle.polynomial_text.specs.Results.{◌>>=◌}
 use Rattle.presentation_text.specs.Kinds.{Fault}
@@ -17,7 +16,7 @@ use Rattle.polynomial_text.specs.Canonical.{IsLineFaultOf}
 use Rattle.presentation_text.specs.Meaning.{AreSums, IsFaultOf}
 use Rattle.presentation_text.specs.Giving.{located}
 use Rattle.presentation_text.specs.PolySums.{IsSumIn, AreSumsIn}
-use Rattle.presentation_text.proofs.NextLines.{next_ok, next_err, sums_push}
+use Rattle.presentation_text.proofs.NextLines.{next_ok, next_err, fault_passes, sums_push}
 use Rattle.polynomials.specs.Polynomial.{Polynomial}
 
 pub poly_fails : {E X : Type 0} (f : List ℕ → Result (Polynomial E) TextKind) (last number : ℕ) (bytes : List ℕ) (ls rest : List Line) (r : Result X (LineFault TextKind)) (s : Result X TextFault)
@@ -67,10 +66,9 @@ module _ {E : Type 0} (K : FieldOps E) (O : MonomialOrder) (last : ℕ) (f : Lis
   unfolding several
   come_next i ls rest whole ps p lt h s =
       let k : count - i ≡ suc (count - (i + 1)) = omega arith in
-      let step : with_sums h.sums (several last f (count - i) ls) ≡ with_sums (h.sums ++ s.sum ∷ []) (several last f (count - (i + 1)) rest) = rw (k, s.is) (regroup h.sums s.sum (several last f (count - (i + 1)) rest)) in
       record {
         sums = h.sums ++ s.sum ∷ [];
-        is = sym step ∙ h.is;
+        is = sym (regroup h.sums s.sum (several last f (count - (i + 1)) rest)) ∙ (rw (k, s.is) at h.is);
         same = sums_push K O h.sums ps s.sum p h.same (s.same, s.generator.canonical, tt);
         generators = generators_push K O ps p h.generators s.generator;
         many = omega (arith, length-append ps (p ∷ []), h.many);
@@ -79,16 +77,13 @@ module _ {E : Type 0} (K : FieldOps E) (O : MonomialOrder) (last : ℕ) (f : Lis
   pub come_stop : (i : ℕ) (ls : List Line) (whole : Result (List (Polynomial E) × List Line) Fault) (ps : List (Polynomial E)) (e : TextFault)
       → i < count → HaveCome K O last f count i ls whole ps → IsFaultOf (next last f ls) e → IsFaultOf whole e
   unfolding several
-  come_stop i ls whole ps faults.Memory lt h s = tt
-  come_stop i ls whole ps (faults.At kind line) lt h s =
+  come_stop i ls whole ps e lt h s =
       let k : count - i ≡ suc (count - (i + 1)) = omega arith in
-      let step : with_sums h.sums (several last f (count - i) ls) ≡ Err (kind, line) = rw (k, s) refl in
-      sym h.is ∙ step
+      subst (λ (r : Result (List (Polynomial E) × List Line) Fault). IsFaultOf r e) h.is (rw k (fault_passes _ (λ x. Ok (h.sums ++ x.0, x.1)) e (fault_passes (next last f ls) _ e s)))
 
   pub come_all : (i : ℕ) (ls : List Line) (whole : Result (List (Polynomial E) × List Line) Fault) (ps : List (Polynomial E))
       → count ≤ i → i ≤ count_max → HaveCome K O last f count i ls whole ps → AreSumsIn K O (λ sums. whole ≡ Ok (sums, ls)) ps
   unfolding several
   come_all i ls whole ps le few h =
       let k : count - i ≡ 0 = omega arith in
-      let step : with_sums h.sums (several last f (count - i) ls) ≡ Ok (h.sums, ls) = rw k (ap (λ (l : List (Polynomial E)). Ok (l, ls)) (append-nil h.sums)) in
-      record { sums = h.sums; is = sym h.is ∙ step; same = h.same; canonical = record { each = h.generators; few = omega (arith, h.many, few) } }
+      record { sums = h.sums; is = sym (rw k at h.is) ∙ ap (λ (l : List (Polynomial E)). Ok (l, ls)) (append-nil h.sums); same = h.same; canonical = record { each = h.generators; few = omega (arith, h.many, few) } }

@@ -44,5 +44,4 @@ module _ {E : Type 0} (K : FieldOps E) (h : Head) (named : AreNames (length h.or
   line_err constant line (line_faults.Kind kind) k = line_is constant line ∙ ap (λ (r : Result (Polynomial E) TextKind). r >>= judged K (order_in h) constant) k
 
   pub line_fault : (constant : TextKind) (line : List ℕ) (sum : Polynomial E) (e : LineFault TextKind) → terms line ≡ Ok sum → IsLineFaultOf (judged K (order_in h) constant sum) e → IsLineFaultOf (poly_line K (head_of h) constant line) e
-  line_fault constant line sum line_faults.Memory is k = tt
-  line_fault constant line sum (line_faults.Kind kind) is k = line_judged constant line sum is ∙ k
+  line_fault constant line sum e is k = rw (line_judged constant line sum is) k

@@ -9,7 +9,6 @@ use Rattle.monomial_order.specs.MonomialOrder.{MonomialOrder}
 use Rattle.poly_core.specs.declared.place_names.Names.{Names}
 use Rattle.polynomial_text.specs.declared.line_fault.LineFault.{LineFault}
 use Rattle.presentation_text.specs.declared.text_fault.TextFault.{TextFault}
-use Rattle.presentation_text.specs.declared.text_fault.TextFault.TheVariants as faults
 use Rattle.polynomial_text.specs.Results.{◌>>=◌, each}
 use Rattle.presentation_text.specs.declared.text_kind.TextKind.{TextKind}
 use Rattle.presentation_text.specs.Kinds.{Fault, in_text}
@@ -20,9 +19,9 @@ use Rattle.polynomial_text.specs.Canonical.{IsLineFaultOf}
 use Rattle.presentation_text.specs.Meaning.{AreSums, AreQueries, IsFaultOf}
 use Rattle.presentation_text.specs.Giving.{fault_at, located}
 use Rattle.presentation_text.specs.Pending.{Pending, pending}
-use Rattle.presentation_text.proofs.NextLines.{at_ok, at_err, sums_push}
+use Rattle.presentation_text.proofs.NextLines.{at_ok, at_err, fault_passes, sums_push}
 use Rattle.presentation_text.proofs.PolyLines.{in_text_ok}
-use Rattle.presentation_text.proofs.TextTokens.{all_append}
+use Rattle.polynomial_text.specs.laws.CanonicalParts.{each_append}
 use Rattle.polynomials.specs.Polynomial.{Polynomial}
 
 -- what was made of a line
@@ -65,24 +64,18 @@ module _ {E : Type 0} (K : FieldOps E) (O : MonomialOrder) (names : Names) where
   come_next number bytes ls rest text ps p split h s low =
       let first : at_line read_line (number, bytes) ≡ Ok s.terms = at_ok read_line number bytes s.terms (in_text_ok (terms_of K O names bytes) s.terms s.read) in
       let step : with_sums h.sums (sums_of ls) ≡ with_sums (h.sums ++ s.terms ∷ []) (sums_of rest) = rw (split, first) (regroup h.sums s.terms (sums_of rest)) in
-      record { sums = h.sums ++ s.terms ∷ []; is = sym step ∙ h.is; same = sums_push K O h.sums ps s.terms p h.same (s.sum, s.canonical, tt); low = all_append (IsLow O) ps (p ∷ []) h.low (low, tt) }
+      record { sums = h.sums ++ s.terms ∷ []; is = sym step ∙ h.is; same = sums_push K O h.sums ps s.terms p h.same (s.sum, s.canonical, tt); low = each_append (IsLow O) ps (p ∷ []) h.low (low, tt) }
 
   pub come_stop : (number : ℕ) (bytes : List ℕ) (ls rest : List Line) (text : List ℕ) (ps : List (Polynomial E)) (e : LineFault TextKind)
       → ls ≡ (number, bytes) ∷ rest → HaveCome ls text ps → IsLineFaultOf (read_line bytes) e → IsFaultOf (queries K O names text) (fault_at number e)
   unfolding each
-  come_stop number bytes ls rest text ps e split h k = stopped (fault_at number e) (at_err read_line number bytes e k)
-    where
-      stopped : (f : TextFault) → IsFaultOf (at_line read_line (number, bytes)) f → IsFaultOf (queries K O names text) f
-      stopped faults.Memory k = tt
-      stopped (faults.At kind line) k =
-          let step : with_sums h.sums (sums_of ls) ≡ Err (kind, line) = rw (split, k) refl in
-          sym h.is ∙ step
+  come_stop number bytes ls rest text ps e split h k =
+      let line_fails = fault_passes (at_line read_line (number, bytes)) _ (fault_at number e) (at_err read_line number bytes e k) in
+      subst (λ (r : Result (List (Polynomial E)) Fault). IsFaultOf r (fault_at number e)) h.is (rw split (fault_passes _ (λ x. Ok (h.sums ++ x)) (fault_at number e) line_fails))
 
   pub come_all : (ls : List Line) (text : List ℕ) (ps : List (Polynomial E)) → ls ≡ [] → HaveCome ls text ps → AreQueries K O names text ps
   unfolding each
-  come_all ls text ps none h =
-      let step : with_sums h.sums (sums_of ls) ≡ Ok h.sums = rw none (ap (λ (l : List (Polynomial E)). Ok l) (append-nil h.sums)) in
-      record { sums = h.sums; read = sym h.is ∙ step; polys = h.same }
+  come_all ls text ps none h = record { sums = h.sums; read = sym (rw none at h.is) ∙ ap (λ (l : List (Polynomial E)). Ok l) (append-nil h.sums); polys = h.same }
 
   pub come_low : (ls : List Line) (text : List ℕ) (ps : List (Polynomial E)) → HaveCome ls text ps → All (IsLow O) ps
   come_low ls text ps h = All-from_recursion (IsLow O) ps h.low

@@ -1,11 +1,12 @@
 -- Where a reading that knows the prime sizes alone differs from one that knows all sizes.
 use Rattle.std.proofs.Common.{◌≡◌, ℕ, Bool, true, false, cond, ◌⊎◌, inl, inr, ⊎_elim, List, [], ◌∷◌, Option, Some, None, Result, Ok, Err, refl, sym, ap, ◌∙◌}
 use Rattle.std.specs.Prelude.{codes}
+use Rattle.std.proofs.lemmas.Bool.{false_from_ne_true}
 use Rattle.word_field.specs.Residues.{is_listed}
 use Rattle.ext_field.specs.PairField.{is_pair_size}
 use Rattle.polynomial_text.specs.declared.line_fault.LineFault.TheVariants as line_faults
 use Rattle.presentation_text.specs.declared.text_kind.TextKind.{TextKind}
-use Rattle.presentation_text.specs.declared.text_kind.TextKind.TheVariants.{FieldUnknown, Truncated}
+use Rattle.presentation_text.specs.declared.text_kind.TextKind.TheVariants.{FieldUnknown}
 use Rattle.presentation_text.specs.FieldLines.{HasFieldLine}
 use Rattle.presentation_text.specs.Heading.{◌>>=◌, behind_key, only, size, is_size, header_line, field_line}
 use Rattle.presentation_text.specs.Kinds.{Fault, or_fault}
@@ -55,16 +56,8 @@ next_same : (f g : List ℕ → Result ℕ TextKind) (last : ℕ) (line : Line) 
 unfolding next
 next_same f g last line rest e = rw (at_same f g line e) refl
 
-next_missing : (f : List ℕ → Result ℕ TextKind) (last : ℕ) → next last f [] ≡ Err (Truncated, last)
-unfolding next
-next_missing f last = refl
-
 unlisted : (n : ℕ) → is_pair_size n ≡ true → is_listed n ≡ false
-unlisted n pair =
-    elim (is_listed n) as (λ b. is_listed n ≡ b → b ≡ false) [
-      | true ↦ λ e. let no : is_pair_size n ≡ false = no_pair_size n e in absurd cc
-      | false ↦ λ e. refl
-    ] refl
+unlisted n pair = false_from_ne_true (is_listed n) (λ e. let no : is_pair_size n ≡ false = no_pair_size n e in cc)
 
 no_pair : (n : ℕ) → is_pair_size n ≡ false → is_size n ≡ is_listed n
 no_pair n e =
@@ -73,6 +66,29 @@ no_pair n e =
       | false ↦ λ l. rw (l, e) refl
     ] refl
 
+-- what is made of the next line is the same, or the line has a size of pairs
+abbrev FieldDiffers : ℕ → List Line → Type 0
+FieldDiffers last ls =
+    (next last (field_line is_listed) ls ≡ next last (field_line is_size) ls)
+    ⊎ ((line : Line) × (rest : List Line) × (n : ℕ) × (ls ≡ line ∷ rest) × (field_line is_pair_size line.1 ≡ Ok n) × (next last (field_line is_listed) ls ≡ Err (FieldUnknown, line.0)))
+
+field_differs : (last : ℕ) (ls : List Line) → FieldDiffers last ls
+unfolding next
+field_differs last [] = inl refl
+field_differs last (line ∷ rest) = by_size (size_of line.1)
+  where
+    by_pair : (n : ℕ) → ((known : ℕ → Bool) → field_line known line.1 ≡ or_fault FieldUnknown (cond (known n) (Some n) None)) → (b : Bool) → is_pair_size n ≡ b → FieldDiffers last (line ∷ rest)
+    by_pair n judged true is =
+        let unknown : field_line is_listed line.1 ≡ Err FieldUnknown = judged is_listed ∙ rw (unlisted n is) refl in
+        inr (line, rest, n, refl, judged is_pair_size ∙ rw is refl, next_err (field_line is_listed) last line.0 line.1 (line ∷ rest) rest (line_faults.Kind FieldUnknown) refl unknown)
+    by_pair n judged false is =
+        let same = ap (λ (b : Bool). or_fault FieldUnknown (cond b (Some n) None)) (sym (no_pair n is)) in
+        inl (next_same (field_line is_listed) (field_line is_size) last line rest (judged is_listed ∙ same ∙ sym (judged is_size)))
+
+    by_size : SizeOf line.1 → FieldDiffers last (line ∷ rest)
+    by_size (inl unknown) = inl (next_same (field_line is_listed) (field_line is_size) last line rest (unknown is_listed ∙ sym (unknown is_size)))
+    by_size (inr (n, judged)) = by_pair n judged (is_pair_size n) refl
+
 -- the answers are the same, or the size is one of pairs
 abbrev pub Differs : List ℕ → Type 0
 Differs text =
@@ -80,36 +96,17 @@ Differs text =
     ⊎ ((line : ℕ) × HasFieldLine is_pair_size text line × (reading_with is_listed text ≡ Err (FieldUnknown, line)))
 
 module _ (text : List ℕ) where
-  by_size : (none : List (List ℕ)) (line : Line) (rest : List Line) → next (end_line text) header_line (content text) ≡ Ok (none, line ∷ rest) → SizeOf line.1 → Differs text
-  by_size none line rest header (inl unknown) =
-      let failed = λ (known : ℕ → Bool). field_err (end_line text) (content text) none (line ∷ rest) header known (FieldUnknown, line.0)
-      (next_err (field_line known) (end_line text) line.0 line.1 (line ∷ rest) rest (line_faults.Kind FieldUnknown) refl (unknown known)) in
-      inl (failed is_listed ∙ sym (failed is_size))
-  by_size none line rest header (inr (n, judged)) = by (is_pair_size n) refl
-    where
-      by : (b : Bool) → is_pair_size n ≡ b → Differs text
-      by true is =
-          let unknown : field_line is_listed line.1 ≡ Err FieldUnknown = judged is_listed ∙ rw (unlisted n is) refl in
-          let field : field_line is_pair_size line.1 ≡ Ok n = judged is_pair_size ∙ rw is refl in
-          inr (
-            line.0,
-            record { bytes = line.1; behind = rest; none = none; header = header; size = n; field = field },
-            field_err (end_line text) (content text) none (line ∷ rest) header is_listed (FieldUnknown, line.0)
-                (next_err (field_line is_listed) (end_line text) line.0 line.1 (line ∷ rest) rest (line_faults.Kind FieldUnknown) refl unknown),
-          )
-      by false is =
-          let same : field_line is_listed line.1 ≡ field_line is_size line.1 = judged is_listed ∙ (ap (λ (b : Bool). or_fault FieldUnknown (cond b (Some n) None)) (sym (no_pair n is)) ∙ sym (judged is_size)) in
-          inl (field_same (end_line text) (content text) none (line ∷ rest) header is_listed is_size (next_same (field_line is_listed) (field_line is_size) (end_line text) line rest same))
-
-  by_lines : (none : List (List ℕ)) (ls : List Line) → next (end_line text) header_line (content text) ≡ Ok (none, ls) → Differs text
-  by_lines none [] header =
-      let failed = λ (known : ℕ → Bool). field_err (end_line text) (content text) none [] header known (Truncated, end_line text) (next_missing (field_line known) (end_line text)) in
-      inl (failed is_listed ∙ sym (failed is_size))
-  by_lines none (line ∷ rest) header = by_size none line rest header (size_of line.1)
-
   by_header : (r : Result (List (List ℕ) × List Line) Fault) → next (end_line text) header_line (content text) ≡ r → Differs text
   by_header (Err e) is = inl (header_err (end_line text) (content text) is_listed e is ∙ sym (header_err (end_line text) (content text) is_size e is))
-  by_header (Ok x) is = by_lines x.0 x.1 is
+  by_header (Ok (none, ls)) is = by_field (field_differs (end_line text) ls)
+    where
+      by_field : FieldDiffers (end_line text) ls → Differs text
+      by_field (inl same) = inl (field_same (end_line text) (content text) none ls is is_listed is_size same)
+      by_field (inr (line, rest, n, split, field, failed)) = inr (
+        line.0,
+        record { bytes = line.1; behind = rest; none = none; header = is ∙ ap (λ (l : List Line). Ok (none, l)) split; size = n; field = field },
+        field_err (end_line text) (content text) none ls is is_listed (FieldUnknown, line.0) failed,
+      )
 
   pub readings_differ : Differs text
   readings_differ = by_header (next (end_line text) header_line (content text)) refl

@@ -17,7 +17,8 @@ use Rattle.presentation_text.specs.Lines.{tokens}
 use Rattle.presentation_text.specs.Heading.{count_max, entry_max, name_max, names_max, rows_max, weight_max, numbers_first, behind_key, header, size, is_size, is_name, names_of, weights_of, tie_of, tie_alone, row_at, rows_of, order_of, count_of, closing, header_line, field_line, vars_line, weights_line, order_line, count_line, closing_line}
 use Rattle.presentation_text.specs.PresentationText.{row_tokens, tie_token}
 use Rattle.presentation_text.proofs.NameTokens.{different}
-use Rattle.presentation_text.proofs.TextTokens.{IsToken, not_equal, all_append}
+use Rattle.presentation_text.proofs.TextTokens.{IsToken, not_equal}
+use Rattle.polynomial_text.specs.laws.CanonicalParts.{each_append}
 use Rattle.presentation_text.proofs.TextNumbers.{decimal_number, decimal_within, between_first, between_tokens}
 
 pub reads_header : (l : List ℕ) → tokens l ≡ codes "subalgebra" ∷ (codes "1" ∷ []) → header_line l ≡ Ok []
@@ -133,7 +134,7 @@ row_line_tokens n (row ∷ rows) tie h =
     let q = and_parts (eqb (length row) n) (all_between 0 entry_max row) p.0 in
     let semicolon : IsToken (codes ";") = record { some = refl; visible = (omega arith, tt) } in
     subst (AllByRecursion IsToken) (sym (row_line_step row rows tie))
-    (all_append IsToken (map decimal row) (codes ";" ∷ row_line rows tie) (between_tokens 0 entry_max row (omega arith) q.1) (semicolon, row_line_tokens n rows tie p.1))
+    (each_append IsToken (map decimal row) (codes ";" ∷ row_line rows tie) (between_tokens 0 entry_max row (omega arith) q.1) (semicolon, row_line_tokens n rows tie p.1))
 
 -- ---- counts, and the end
 

@@ -1,7 +1,5 @@
 -- The lines of the polynomials of a canonical text are read.
-use Rattle.std.proofs.Common.{◌≡◌, ℕ, suc, ◌≤◌, ◌^◌, true, false, not, eqb, List, [], ◌∷◌, ◌++◌, length, Ok, refl, ◌∙◌, append_assoc}
-use Rattle.std.specs.List.{list_all}
-use Rattle.std.proofs.lemmas.Bool.{and_parts, not-true}
+use Rattle.std.proofs.Common.{◌≡◌, ℕ, suc, ◌≤◌, ◌^◌, true, false, List, [], ◌∷◌, ◌++◌, length, Ok, refl, ◌∙◌, append_assoc}
 use Rattle.word_field.specs.Field.{FieldOps, IsField}
 use Rattle.monomial_order.specs.MonomialOrder.{MonomialOrder, IsMonomialOrder}
 use Rattle.monomial_order.specs.Ranges.{all_between, are_rows}
@@ -28,12 +26,6 @@ use Rattle.presentation_text.proofs.PolyLines.{in_text_ok}
 use Rattle.presentation_text.proofs.TextLines.{IsOneLine, next_line}
 
 -- ---- lines
-
-no_feed : (bytes : List ℕ) → list_all (λ b. not (eqb b 10)) bytes ≡ true → IsOneLine bytes
-no_feed [] h = tt
-no_feed (b ∷ bytes) h =
-    let p = and_parts (not (eqb b 10)) (list_all (λ b. not (eqb b 10)) bytes) h in
-    (not-true (eqb b 10) p.0, no_feed bytes p.1)
 
 -- what makes a heading sound
 pub record IsSound (h : Head) : Type 0 where
@@ -67,7 +59,7 @@ module _ {E : Type 0} (field : FieldOps E) (laws : IsField field) (few : field.s
         record {
           read = rw (in_text_ok (terms_of field order (Listed h.names) (poly_text field (Listed h.names) f)) ts.0 ts.1) judge;
           sum = ts.2;
-          one = no_feed (poly_text field (Listed h.names) f) (canonical_line field laws few order S.order (Listed h.names) different f g.canonical named small);
+          one = canonical_line field laws few order S.order (Listed h.names) different f g.canonical named small;
           content = canonical_not_skipped field laws few order S.order (Listed h.names) different f g.canonical named small;
         },
       )

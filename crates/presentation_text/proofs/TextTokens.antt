@@ -1,10 +1,12 @@
 -- Tokens with a space between them.
 use Rattle.std.proofs.Common.{◌≡◌, ℕ, suc, ◌≤◌, false, eqb, List, [], ◌∷◌, ◌++◌, length, Result, Ok, refl, sym, ap, ◌∙◌, arith, append_assoc, append-nil}
+use Rattle.std.specs.Prelude.{All}
 use Rattle.std.specs.List.{AllByRecursion, flat_map}
 use Rattle.std.proofs.lemmas.List.Elements.{All-from_recursion}
 use Rattle.std.proofs.lemmas.List.Splits.{slice_split_at, slice_split_none}
 use Rattle.presentation_text.specs.declared.text_kind.TextKind.{TextKind}
 use Rattle.polynomial_text.specs.Bytes.{is_blank, is_skipped, behind}
+use Rattle.polynomial_text.specs.laws.CanonicalParts.{each_append, each_weaker}
 use Rattle.presentation_text.specs.Lines.{lines, content_lines, tokens}
 use Rattle.presentation_text.specs.Reading.{next}
 use Rattle.presentation_text.specs.PresentationText.{line}
@@ -35,33 +37,23 @@ pub begins_append : (w more : List ℕ) → Begins w → Begins (w ++ more)
 begins_append [] more h = absurd h
 begins_append (b ∷ w) more h = h
 
-all_blank : (w : List ℕ) → AllByRecursion (λ b. 33 ≤ b) w → AllByRecursion (λ b. is_blank b ≡ false) w
-all_blank [] h = tt
-all_blank (b ∷ w) h = (no_blank b h.0, all_blank w h.1)
+without_blanks : (w : List ℕ) → AllByRecursion (λ b. 33 ≤ b) w → All (λ b. is_blank b ≡ false) w
+without_blanks w h = All-from_recursion (λ b. is_blank b ≡ false) w (each_weaker (λ b. 33 ≤ b) (λ b. is_blank b ≡ false) no_blank w h)
 
 pub tokens_are : (first : List ℕ) (ws : List (List ℕ)) → IsToken first → AllByRecursion IsToken ws → tokens (first ++ flat_map (λ w. 32 ∷ w) ws) ≡ first ∷ ws
 tokens_are first [] h hs =
-    let split = slice_split_none is_blank first (All-from_recursion (λ b. is_blank b ≡ false) first (all_blank first h.visible)) in
+    let split = slice_split_none is_blank first (without_blanks first h.visible) in
     ap tokens (append-nil first) ∙ rw (split, h.some) refl
 tokens_are first (w ∷ ws) h hs =
-    let split = slice_split_at is_blank first 32 (w ++ flat_map (λ w. 32 ∷ w) ws) (All-from_recursion (λ b. is_blank b ≡ false) first (all_blank first h.visible)) refl in
+    let split = slice_split_at is_blank first 32 (w ++ flat_map (λ w. 32 ∷ w) ws) (without_blanks first h.visible) refl in
     rw (split, h.some) (ap (λ (l : List (List ℕ)). first ∷ l) (tokens_are w ws hs.0 hs.1))
 
-above : (n m : ℕ) (w : List ℕ) → n ≤ m → AllByRecursion (λ b. m ≤ b) w → AllByRecursion (λ b. n ≤ b) w
-above n m [] l h = tt
-above n m (b ∷ w) l h = (omega (arith, h.0), above n m w l h.1)
-
 pub one_line : (w : List ℕ) → AllByRecursion (λ b. 32 ≤ b) w → IsOneLine w
-one_line [] h = tt
-one_line (b ∷ w) h = (not_equal b 10 (omega (arith, h.0)), one_line w h.1)
-
-pub all_append : {A : Type 0} (P : A → Type 0) (xs ys : List A) → AllByRecursion P xs → AllByRecursion P ys → AllByRecursion P (xs ++ ys)
-all_append P [] ys h k = k
-all_append P (x ∷ xs) ys h k = (h.0, all_append P xs ys h.1 k)
+one_line = each_weaker (λ b. 32 ≤ b) (λ b. eqb b 10 ≡ false) (λ b h. not_equal b 10 (omega arith))
 
 tokens_visible : (ws : List (List ℕ)) → AllByRecursion IsToken ws → AllByRecursion (λ b. 32 ≤ b) (flat_map (λ w. 32 ∷ w) ws)
 tokens_visible [] h = tt
-tokens_visible (w ∷ ws) h = (omega arith, all_append (λ b. 32 ≤ b) w (flat_map (λ w. 32 ∷ w) ws) (above 32 33 w (omega arith) h.0.visible) (tokens_visible ws h.1))
+tokens_visible (w ∷ ws) h = (omega arith, each_append (λ b. 32 ≤ b) w (flat_map (λ w. 32 ∷ w) ws) (each_weaker (λ b. 33 ≤ b) (λ b. 32 ≤ b) (λ b k. omega arith) w h.0.visible) (tokens_visible ws h.1))
 
 -- a line of tokens is read by its tokens
 pub next_tokens : {A : Type 0} (last n : ℕ) (f : List ℕ → Result A TextKind) (a : A) (first : List ℕ) (ws : List (List ℕ)) (rest : List ℕ) →
@@ -71,6 +63,6 @@ next_tokens last n f a first ws rest b h hs e =
     let body : List ℕ = first ++ flat_map (λ w. 32 ∷ w) ws in
     let regroup : line first ws ++ rest ≡ body ++ 10 ∷ rest =
     ap (λ (l : List ℕ). l ++ rest) (sym (append_assoc first (flat_map (λ w. 32 ∷ w) ws) (10 ∷ []))) ∙ append_assoc body (10 ∷ []) rest in
-    let low : AllByRecursion (λ c. 32 ≤ c) body = all_append (λ c. 32 ≤ c) first (flat_map (λ w. 32 ∷ w) ws) (above 32 33 first (omega arith) h.visible) (tokens_visible ws hs) in
+    let low : AllByRecursion (λ c. 32 ≤ c) body = each_append (λ c. 32 ≤ c) first (flat_map (λ w. 32 ∷ w) ws) (each_weaker (λ b. 33 ≤ b) (λ b. 32 ≤ b) (λ b k. omega arith) first h.visible) (tokens_visible ws hs) in
     ap (λ (t : List ℕ). next last f (content_lines n (lines t))) regroup ∙
     next_line last n f a body rest (one_line body low) (begins_not_skipped body (begins_append first (flat_map (λ w. 32 ∷ w) ws) b)) (e body (tokens_are first ws h hs))

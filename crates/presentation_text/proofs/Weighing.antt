@@ -9,6 +9,7 @@ use Rattle.monomial_order.specs.declared.order_fault.OrderFault.TheVariants as o
 use Rattle.monomial_order.specs.declared.tie_break.Tie.{Tie}
 use Rattle.monomial_order.specs.Faults.{IsNth, IsFault, IsWeighing}
 use Rattle.poly_core.specs.Names.{IsNameList}
+use Rattle.polynomial_text.specs.laws.CanonicalParts.{each_weaker}
 use Rattle.presentation_text.specs.declared.text_kind.TextKind.TheVariants.{OrderLine, WeightsLine}
 use Rattle.presentation_text.specs.Numbers.{number_within}
 use Rattle.presentation_text.specs.Lines.{tokens}
@@ -106,11 +107,7 @@ weights_taken n line ws e =
     chosen false ns h is = absurd cc
 
 each : {A : Type 0} (P Q : A → Type 0) → ((x : A) → P x → Q x) → (xs : List A) → AllByRecursion P xs → All Q xs
-each {A} P Q f xs h = All-from_recursion Q xs (along xs h)
-  where
-    along : (xs : List A) → AllByRecursion P xs → AllByRecursion Q xs
-    along [] h = tt
-    along (x ∷ xs) h = (f x h.0, along xs h.1)
+each P Q f xs h = All-from_recursion Q xs (each_weaker P Q f xs h)
 
 -- ---- the head
 

@@ -11,7 +11,6 @@ use Rattle.poly_core.specs.Presentation.{IsValid, weight_order_of}
 use Rattle.poly_core.specs.laws.Presentation.{canonical_presentation}
 use Rattle.presentation_text.specs.declared.head.Head.{Head as Opening}
 use Rattle.presentation_text.specs.declared.text_fault.TextFault.{TextFault}
-use Rattle.presentation_text.specs.declared.text_fault.TextFault.TheVariants as faults
 use Rattle.presentation_text.specs.declared.text_kind.TextKind.TheVariants.{UnitIdeal, ConstantGenerator}
 use Rattle.presentation_text.specs.Lines.{lines, end_line}
 use Rattle.polynomial_text.specs.Results.{◌>>=◌}
@@ -22,13 +21,9 @@ use Rattle.presentation_text.specs.Giving.{order_in, head_of}
 use Rattle.presentation_text.specs.Pending.{Pending, pending}
 use Rattle.presentation_text.specs.PolySums.{AreListsIn, IsMadeOf, lists}
 use Rattle.presentation_text.proofs.FieldKinds.{IsKind}
+use Rattle.presentation_text.proofs.NextLines.{fault_passes}
 use Rattle.presentation_text.proofs.TableNames.{is_listed}
 use Rattle.polynomials.specs.Polynomial.{Polynomial}
-
--- the fault of a step is that of the steps that begin with it
-fault_passes : {A B : Type 0} (r : Result A Fault) (f : A → Result B Fault) (e : TextFault) → IsFaultOf r e → IsFaultOf (r >>= f) e
-fault_passes r f faults.Memory k = tt
-fault_passes r f (faults.At kind line) k = rw k refl
 
 module _ {E : Type 0} (K : FieldOps E) (last : ℕ) (h : Head) (ls : List Line) where
   pub ideal_err : (e : TextFault) → IsFaultOf (counted K last h (codes "ideal") UnitIdeal ls) e → IsFaultOf (lists K last h ls) e

@@ -2,6 +2,7 @@
 use Rattle.std.proofs.Common.{◌≡◌, ◌≢◌, ℕ, zero, suc, ◌+◌, ◌-◌, ◌*◌, ◌≤◌, refl, sym, ◌∙◌, ap, subst, List, [], ◌∷◌, ◌++◌, ◌⊎◌, inl, inr, ⊎_elim, length, length-append, take, arith, append-nil, append_assoc, Bool, true, false, cond}
 use Rattle.std.specs.Prelude.{map, Contains, sum, ◌&&◌, ◌||◌, nat_eq, nat_le}
 use Rattle.std.proofs.Math.Nat.{mul-le-mul_left}
+use Rattle.std.proofs.Math.Bool.{or-true}
 use Rattle.std.proofs.Math.Seq.{take-nil}
 use Rattle.std.proofs.lemmas.Bool.{eqb-true}
 use Rattle.std.proofs.lemmas.Bool.Decides.{nat_tests}
@@ -60,10 +61,6 @@ module _ {A : Type 0} (Q : List A → A → List A → Type 0) where
   pub each_part : (xs : List A) → EachPart [] xs → (before after : List A) (s : A) → xs ≡ before ++ (s ∷ after) → Q before s after
   each_part xs h before after s e = part before [] xs s after h e
 
-or_true : (b : Bool) → b || true ≡ true
-or_true true = refl
-or_true false = refl
-
 -- tests of a list
 module _ {A : Type 0} (p : A → Bool) where
   abbrev any : List A → Bool
@@ -72,7 +69,7 @@ module _ {A : Type 0} (p : A → Bool) where
 
   any_true : (xs : List A) (x : A) → Contains xs x → p x ≡ true → any xs ≡ true
   any_true [] x k h = absurd (contains_none x k)
-  any_true (y ∷ xs) x k h = ⊎_elim (λ e. ap (λ b. b || any xs) (ap p e ∙ h)) (λ i. ap (λ b. p y || b) (any_true xs x i h) ∙ or_true (p y)) (contains_cases y xs x k)
+  any_true (y ∷ xs) x k h = ⊎_elim (λ e. ap (λ b. b || any xs) (ap p e ∙ h)) (λ i. ap (λ b. p y || b) (any_true xs x i h) ∙ or-true (p y)) (contains_cases y xs x k)
 
   abbrev passing : List A → List A
   passing [] = []
@@ -166,7 +163,7 @@ module _ {E : Type 0} (P : Presented E) (H : IsPresentation P) (S : List (Polyno
   pub reducible_listed : EachOf (λ d. 1 ≤ d) (lead_degrees (letters P S)) → ((m : List ℕ) → LeadsIdeal P m → leads m ≡ true) →
       (u : List ℕ) → IsSWord (letters P S) u → (word_order_of (letters P S)).degree u ≤ c → IsReducibleWord P S u → Contains reducible_words u
   reducible_listed pos sees u hu le r = passing_has reduces (s_words_to (length (letter_degrees P S)) (lead_degrees (letters P S)) c) u (listed u hu le)
-      (⊎_elim (λ l. ap (λ b. b || any smaller words) (sees (image_of (letters P S) u) l)) (λ s. ap (λ b. leads (image_of (letters P S) u) || b) (by_smaller s.0 s.1) ∙ or_true (leads (image_of (letters P S) u))) r)
+      (⊎_elim (λ l. ap (λ b. b || any smaller words) (sees (image_of (letters P S) u) l)) (λ s. ap (λ b. leads (image_of (letters P S) u) || b) (by_smaller s.0 s.1) ∙ or-true (leads (image_of (letters P S) u))) r)
     where
       words : List (List ℕ)
       words = s_words_to (length (letter_degrees P S)) (lead_degrees (letters P S)) c

@@ -26,9 +26,16 @@ pub lack_from : (p q : ℕ → Bool) → ((b : ℕ) → p b ≡ true → q b ≡
 lack_from p q f [] h = tt
 lack_from p q f (x ∷ xs) h = let a = and_parts (p x) (list_all p xs) h in (f x a.0, lack_from p q f xs a.1)
 
+pub each_weaker : {A : Type 0} (P Q : A → Type 0) → ((x : A) → P x → Q x) → (xs : List A) → AllByRecursion P xs → AllByRecursion Q xs
+each_weaker P Q f [] h = tt
+each_weaker P Q f (x ∷ xs) h = (f x h.0, each_weaker P Q f xs h.1)
+
+pub each_append : {A : Type 0} (P : A → Type 0) (xs ys : List A) → AllByRecursion P xs → AllByRecursion P ys → AllByRecursion P (xs ++ ys)
+each_append P [] ys h k = k
+each_append P (x ∷ xs) ys h k = (h.0, each_append P xs ys h.1 k)
+
 pub lack_append : (q : ℕ → Bool) (xs ys : List ℕ) → Lack q xs → Lack q ys → Lack q (xs ++ ys)
-lack_append q [] ys h k = k
-lack_append q (x ∷ xs) ys h k = (h.0, lack_append q xs ys h.1 k)
+lack_append q = each_append (λ b. q b ≡ false)
 
 -- the list has a first member, and it passes
 abbrev pub Begins : (ℕ → Bool) → List ℕ → Type 0

@@ -1,6 +1,5 @@
 -- The canonical text of a polynomial is one line that is not skipped, and is read as the polynomial.
-use Rattle.std.proofs.Common.{◌≡◌, ℕ, ◌≤◌, ◌^◌, Bool, cond, List, [], ◌∷◌, ◌++◌, map, not, ◌==◌, true, false, Ok, codes, refl, sym, ap, ◌∙◌, inl, append_assoc, arith}
-use Rattle.std.specs.List.{list_all}
+use Rattle.std.proofs.Common.{◌≡◌, ℕ, ◌≤◌, ◌^◌, Bool, cond, List, [], ◌∷◌, ◌++◌, map, ◌==◌, true, false, Ok, codes, refl, sym, ap, ◌∙◌, inl, append_assoc, arith}
 use Rattle.std.specs.Fmt.{decimal}
 use Rattle.std.proofs.lemmas.Fmt.{decimal_digit}
 use Rattle.word_field.specs.Field.{FieldOps, IsField}
@@ -16,7 +15,7 @@ use Rattle.polynomial_text.specs.Degrees.{IsLow}
 use Rattle.polynomial_text.specs.PolyLine.{terms_of}
 use Rattle.polynomial_text.specs.Canonical.{AreDifferent}
 use Rattle.polynomial_text.specs.Grammar.{AreBlanks, IsSum, one_term, terms}
-use Rattle.polynomial_text.specs.laws.CanonicalParts.{Begins, begins_append, differs, name_no_blank}
+use Rattle.polynomial_text.specs.laws.CanonicalParts.{Lack, Begins, begins_append, differs, name_no_blank}
 use Rattle.polynomial_text.specs.laws.GrammarReads.{line_derived, sum_in_line}
 use Rattle.polynomial_text.specs.laws.CanonicalTerms.{IsTextOfTerm, blanks_before, blanks_after, text_of_term}
 use Rattle.polynomials.specs.laws.ReducedBasis.{degree_one}
@@ -84,8 +83,8 @@ module _ {E : Type 0} (K : FieldOps E) (F : IsField K) (few : K.size ≤ 2 ^ 32)
 
   -- it has no line feed
   pub canonical_line : (p : Polynomial E) → IsCanonical K O p → AreNamed names p → IsLow O p →
-      list_all (λ b. not (b == 10)) (poly_text K names p) ≡ true
-  canonical_line [] canonical named small = refl
+      Lack (λ b. b == 10) (poly_text K names p)
+  canonical_line [] canonical named small = (refl, tt)
   canonical_line (t ∷ p) canonical named small = sum_in_line K O names D false (poly_text K names (t ∷ p)) (t ∷ p) (derived K O names t p (texts (t ∷ p) canonical.decreasing named small))
 
   -- it is not skipped

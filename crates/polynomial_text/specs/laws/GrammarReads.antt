@@ -1,7 +1,8 @@
 -- What the grammar derives from a line is read.
-use Rattle.std.proofs.Common.{◌≡◌, ℕ, ◌<◌, ◌≤◌, Bool, true, false, not, ◌&&◌, eqb, List, [], ◌∷◌, ◌++◌, length, Some, Ok, refl, sym, ap, subst, ◌∙◌, append_assoc, inl, inr, le-leb, arith}
+use Rattle.std.proofs.Common.{◌≡◌, ℕ, ◌<◌, ◌≤◌, Bool, true, false, ◌&&◌, eqb, List, [], ◌∷◌, ◌++◌, length, Some, Ok, refl, sym, ap, subst, ◌∙◌, append_assoc, inl, inr, le-leb, arith}
 use Rattle.std.specs.Prelude.{◌⊎◌}
 use Rattle.std.specs.List.{list_all, slice_split}
+use Rattle.std.proofs.Math.Bool.{and-false}
 use Rattle.std.proofs.lemmas.Bool.{and_parts}
 use Rattle.std.proofs.lemmas.List.Elements.{All-from_recursion}
 use Rattle.std.proofs.lemmas.List.Splits.{slice_split_none, slice_split_at}
@@ -114,10 +115,6 @@ sign_apart = record { blank = blank_no_sign; name = λ b h. rw (differs is_name_
 feed_apart : IsApart (λ b. eqb b 10)
 feed_apart = record { blank = differs is_blank 10 refl; name = differs is_name_byte 10 refl; raised = refl }
 
-all_lack : (p : ℕ → Bool) (xs : List ℕ) → Lack p xs → list_all (λ b. not (p b)) xs ≡ true
-all_lack p [] h = refl
-all_lack p (x ∷ xs) h = rw h.0 (all_lack p xs h.1)
-
 module _ (q : ℕ → Bool) (A : IsApart q) where
   number_lacks : (bytes : List ℕ) (n : ℕ) → IsNumber bytes n → Lack q bytes
   number_lacks bytes n h = lack_from is_digit q (λ b d. A.name b (digit_in_name b d)) bytes h.digits
@@ -132,11 +129,7 @@ module _ (q : ℕ → Bool) (A : IsApart q) where
 
 rest_fails : (p : ℕ → Bool) (xs ys : List ℕ) → list_all p ys ≡ false → list_all p (xs ++ ys) ≡ false
 rest_fails p [] ys h = h
-rest_fails p (x ∷ xs) ys h = rw (rest_fails p xs ys h) (last (p x))
-  where
-    last : (b : Bool) → (b && false) ≡ false
-    last true = refl
-    last false = refl
+rest_fails p (x ∷ xs) ys h = rw (rest_fails p xs ys h) (and-false (p x))
 
 front_fails : (p : ℕ → Bool) (xs ys : List ℕ) → list_all p xs ≡ false → list_all p (xs ++ ys) ≡ false
 front_fails p [] ys h = absurd cc
@@ -279,8 +272,8 @@ module _ {E : Type 0} (K : FieldOps E) (O : MonomialOrder) (names : Names) (D : 
       rw is (lack_append q part (sign_byte next ∷ rest) (product_lacks q A star (term_of [] (sign K O names minus)) t part h) (signs next, sum_lacks q A star signs next rest us more))
 
   -- no line feed is in a sum
-  pub sum_in_line : (minus : Bool) (bytes : List ℕ) (ts : Polynomial E) → IsSum K O names minus bytes ts → list_all (λ b. not (eqb b 10)) bytes ≡ true
-  sum_in_line minus bytes ts h = all_lack (λ b. eqb b 10) bytes (sum_lacks (λ b. eqb b 10) feed_apart refl signs minus bytes ts h)
+  pub sum_in_line : (minus : Bool) (bytes : List ℕ) (ts : Polynomial E) → IsSum K O names minus bytes ts → Lack (λ b. eqb b 10) bytes
+  sum_in_line minus bytes ts h = sum_lacks (λ b. eqb b 10) feed_apart refl signs minus bytes ts h
     where
       signs : (next : Bool) → eqb (sign_byte next) 10 ≡ false
       signs true = refl
