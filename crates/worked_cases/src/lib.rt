@@ -1,5 +1,5 @@
-//! Tests of monomials, orders, polynomials, chains of terms and witnesses: cases that were worked out by hand, as rows of
-//! text.
+//! Tests of monomials, orders, polynomials, chains of terms and witnesses: cases that were worked out by hand, as rows
+//! of text.
 #![tactic(auto)]
 
 #[cfg(test)]
