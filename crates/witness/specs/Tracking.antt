@@ -1,5 +1,5 @@
 -- Values with their witnesses.
-use Rattle.std.specs.Prelude.{◌≡◌, ◌≢◌, ◌⊎◌, ℕ, ◌+◌, ◌<◌, ◌≤◌, List, [], ◌∷◌, ◌++◌, length, get_or, map}
+use Rattle.std.specs.Prelude.{◌≡◌, ◌≢◌, ◌⊎◌, ℕ, ◌+◌, ◌<◌, ◌≤◌, List, [], ◌∷◌, ◌++◌, length, get_or, map, All}
 use Rattle.word_field.specs.Field.{FieldOps}
 use Rattle.monomial_order.specs.Monomial.{Exponents, exponent, variable}
 use Rattle.monomial_order.specs.MonomialOrder.{MonomialOrder}
@@ -77,6 +77,10 @@ module _ {F E : Type 0} (P : Presented E) where
     pub canonical : IsCanonicalPair P.field P.order W t
     pub graded : IsGradedPair P.field P.order W (degree_of P.order t.value) t
     pub lower : UsesLower S t
+
+-- each of the list is one over its values
+abbrev pub AreTrackedElements : {F E : Type 0} → Presented E → MonomialOrder → List (Tracked F E) → Type 0
+AreTrackedElements P W ts = All (IsTrackedElement P W (values_of ts)) ts
 
 -- a single letter of the first k, or a monomial in the other letters
 abbrev pub IsShortMonomial : ℕ → Exponents → Type 0

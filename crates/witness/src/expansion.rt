@@ -1,12 +1,12 @@
 //! Witnesses in the generators alone.
-ghost use Rattle.std.specs.Prelude.{◌≡◌, ℕ, ◌+◌, ◌-◌, ◌≤◌, ◌<◌, ◌↔◌, [], All, IfOk, length, get_or};
+ghost use Rattle.std.specs.Prelude.{◌≡◌, ℕ, ◌+◌, ◌-◌, ◌≤◌, ◌<◌, ◌↔◌, [], IfOk, length, get_or};
 ghost use Rattle.monomial_order.specs.Limits.{degree_max};
 ghost use Rattle.monomial_order.specs.Monomial.{IsMonomial};
 ghost use Rattle.monomial_order.specs.MonomialOrder.{MonomialOrder};
 ghost use Rattle.polynomials.specs.Polynomial.{AllAt, IsCanonical};
 ghost use Rattle.poly_core.specs.Presentation.{IsValid, presented};
 ghost use Rattle.witness.specs.Expansion.{IsReplaced, IsReplacement, UsesUpTo};
-ghost use Rattle.witness.specs.Tracking.{by_order, letter_poly, values_of, Expands, HasDegreesUpTo, IsGraded, IsTrackedElement, IsWitnessOrder};
+ghost use Rattle.witness.specs.Tracking.{by_order, letter_poly, values_of, Expands, AreTrackedElements, HasDegreesUpTo, IsGraded, IsWitnessOrder};
 
 use crate::Tracked;
 use crate::letters::letter;
@@ -27,7 +27,7 @@ pub fn expand<F: Field, O: Order>(
 ) -> Result<Poly<F>, Memory>
     requires valid { IsValid F.ops O.order p.now }
     requires order { IsWitnessOrder (presented F.ops O.order p.now) (values_of s.now) w.now }
-    requires elements { All (IsTrackedElement (presented F.ops O.order p.now) (by_order w.now) (values_of s.now)) s.now }
+    requires elements { AreTrackedElements (presented F.ops O.order p.now) (by_order w.now) s.now }
     requires canonical { IsCanonical (F.ops p.now.field) (by_order w.now) h.now }
     requires small { HasDegreesUpTo (F.ops p.now.field) (by_order w.now) degree_max h.now }
     ensures canonical { IfOk result (IsCanonical (F.ops p.now.field) (by_order p.now.gen_order)) }
@@ -61,7 +61,7 @@ fn replace_degree<F: Field, O: Order>(
 ) -> Result<Poly<F>, Memory>
     requires valid { IsValid F.ops O.order p.now }
     requires order { IsWitnessOrder (presented F.ops O.order p.now) (values_of s.now) w.now }
-    requires elements { All (IsTrackedElement (presented F.ops O.order p.now) (by_order w.now) (values_of s.now)) s.now }
+    requires elements { AreTrackedElements (presented F.ops O.order p.now) (by_order w.now) s.now }
     requires canonical { IsCanonical (F.ops p.now.field) (by_order w.now) e.now }
     requires small { HasDegreesUpTo (F.ops p.now.field) (by_order w.now) degree_max e.now }
     requires positive { 1 ≤ degree }
@@ -87,7 +87,7 @@ fn replacements<F: Field, O: Order>(
 ) -> Result<Vec<Poly<F>>, Memory>
     requires valid { IsValid F.ops O.order p.now }
     requires order { IsWitnessOrder (presented F.ops O.order p.now) (values_of s.now) w.now }
-    requires elements { All (IsTrackedElement (presented F.ops O.order p.now) (by_order w.now) (values_of s.now)) s.now }
+    requires elements { AreTrackedElements (presented F.ops O.order p.now) (by_order w.now) s.now }
     requires positive { 1 ≤ degree }
     ensures length { IfOk result (λ at. length at.items ≡ length p.now.generators.items + length s.now) }
     ensures each { let P = presented F.ops O.order p.now in IfOk result (λ at. (i : ℕ) → i < length at.items →
@@ -127,7 +127,7 @@ fn replacement<F: Field, O: Order>(
 ) -> Result<Poly<F>, Memory>
     requires valid { IsValid F.ops O.order p.now }
     requires order { IsWitnessOrder (presented F.ops O.order p.now) (values_of s.now) w.now }
-    requires elements { All (IsTrackedElement (presented F.ops O.order p.now) (by_order w.now) (values_of s.now)) s.now }
+    requires elements { AreTrackedElements (presented F.ops O.order p.now) (by_order w.now) s.now }
     requires element { i < length s.now }
     requires positive { 1 ≤ degree }
     ensures { let P = presented F.ops O.order p.now in

@@ -1,3 +1,3 @@
-//! Tests of witnesses in the generators, of values of words and of bases: cases that were worked out by hand, as rows of
-//! text.
+//! Tests of witnesses in the generators, of values of words and of bases: cases that were worked out by hand, as rows
+//! of text.
 #![tactic(auto)]
