@@ -1,0 +1,20 @@
+use Rattle.std.proofs.Common.{◌≤◌, sym, subst, arith}
+use Rattle.word_field.specs.Residues.{residues}
+use Rattle.polynomials.specs.Polynomial.{IsCanonical, IsZeroOrHomogeneous}
+use Rattle.polynomials.specs.Subalgebra.{IsNormalForm}
+use Rattle.poly_core.specs.Presentation.{presented, weight_order_of}
+use Rattle.word_values.specs.Values.{IsHomogeneousElement}
+use Rattle.worked_bases.proofs.Elements.{homogeneous_element}
+use Rattle.worked_bases.proofs.values.element.Goals as goal
+
+pub returns : goal.returns
+returns c =
+    let P = presented (λ f. residues f.modulus) weight_order_of c.args.p.now in
+    let v = c.in_ok-value.value in
+    let t = c.in-Some-first.first.now in
+    let is = c.in-Some-first.ensures.first in
+    let zero_or = (c.is_homogeneous.ensures c.args.p.now.field c.in_ok-value.ensures.canonical).0 c.in_ok-ensure.ensures in
+    let positive : 1 ≤ P.order.degree t.at = let d = c.degree.ensures in let e = c.in_ok-ensure-2.ensures in omega arith in
+    subst (IsHomogeneousElement P) (sym is.1)
+    (homogeneous_element P c.requires.valid.presentation t is.0 c.in_ok-a.a (subst (IsCanonical P.field P.order) is.1 c.in_ok-value.ensures.canonical)
+    (subst (IsNormalForm P c.in_ok-a.a) is.1 c.in_ok-value.ensures.normal) (subst (IsZeroOrHomogeneous P.field P.order) is.1 zero_or) positive)
