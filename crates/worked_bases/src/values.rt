@@ -47,8 +47,7 @@ fn element(
     requires valid { IsRing p.now }
     requires quotient { IsQuotientOf (presented (λ f. residues f.modulus) weight_order_of p.now) quotient.now }
     requires closed { quotient.now.closed ≡ true }
-    ensures {
-        IfOk result (λ t. IsHomogeneousElement (presented (λ f. residues f.modulus) weight_order_of p.now) t.value) }
+    ensures { IfOk result (λ t. IsHomogeneousElement (presented (λ f. residues f.modulus) weight_order_of p.now) t.value) }
 {
     let a = polynomial(alloc, p, text)?;
     let value = quotient.normal_form(alloc, p, &a)?;
@@ -86,8 +85,7 @@ fn elements(
 
 /// The degree of an element.
 fn letter_degree(p: &Ring, elements: &[Tracked<WordField>], letter: usize) -> Result<u32, Fail>
-    requires elements {
-        AreHomogeneousElements (presented (λ f. residues f.modulus) weight_order_of p.now) (values_of elements.now) }
+    requires elements { AreHomogeneousElements (presented (λ f. residues f.modulus) weight_order_of p.now) (values_of elements.now) }
     requires letter { letter < length elements.now }
     ensures { IfOk result (λ d. d ≡
         (weight_order_of p.now.order).degree (lead_monomial (get_or (values_of elements.now) letter []))) }
@@ -109,13 +107,10 @@ fn longer(
     _degree: u32,
 ) -> Result<Monomial, Fail>
     requires valid { IsRing p.now }
-    requires elements {
-        AreHomogeneousElements (presented (λ f. residues f.modulus) weight_order_of p.now) (values_of _elements.now) }
+    requires elements { AreHomogeneousElements (presented (λ f. residues f.modulus) weight_order_of p.now) (values_of _elements.now) }
     requires letter { letter < length _elements.now }
-    requires degree {
-        _degree ≡ (weight_order_of p.now.order).degree (lead_monomial (get_or (values_of _elements.now) letter [])) }
-    requires word {
-        IsWordTo (presented (λ f. residues f.modulus) weight_order_of p.now) (values_of _elements.now) _bound word.now }
+    requires degree { _degree ≡ (weight_order_of p.now.order).degree (lead_monomial (get_or (values_of _elements.now) letter [])) }
+    requires word { IsWordTo (presented (λ f. residues f.modulus) weight_order_of p.now) (values_of _elements.now) _bound word.now }
     requires small { _bound + _degree ≤ 60000 }
     ensures { let P = presented (λ f. residues f.modulus) weight_order_of p.now in
         IfOk result (IsWordTo P (values_of _elements.now) (_bound + _degree)) }
@@ -132,8 +127,7 @@ fn word_of(
     list: &str,
 ) -> Result<Monomial, Fail>
     requires valid { IsRing p.now }
-    requires elements {
-        AreHomogeneousElements (presented (λ f. residues f.modulus) weight_order_of p.now) (values_of elements.now) }
+    requires elements { AreHomogeneousElements (presented (λ f. residues f.modulus) weight_order_of p.now) (values_of elements.now) }
     ensures { let P = presented (λ f. residues f.modulus) weight_order_of p.now in
         IfOk result (IsWordTo P (values_of elements.now) 60000) }
 {
@@ -163,12 +157,9 @@ fn value_of(
     requires valid { IsRing p.now }
     requires quotient { IsQuotientOf (presented (λ f. residues f.modulus) weight_order_of p.now) quotient.now }
     requires closed { quotient.now.closed ≡ true }
-    requires elements {
-        AreHomogeneousElements (presented (λ f. residues f.modulus) weight_order_of p.now) (values_of elements.now) }
-    requires values {
-        AreValues (presented (λ f. residues f.modulus) weight_order_of p.now) (values_of elements.now) values.old }
-    ensures {
-        AreValues (presented (λ f. residues f.modulus) weight_order_of p.now) (values_of elements.now) values.new }
+    requires elements { AreHomogeneousElements (presented (λ f. residues f.modulus) weight_order_of p.now) (values_of elements.now) }
+    requires values { AreValues (presented (λ f. residues f.modulus) weight_order_of p.now) (values_of elements.now) values.old }
+    ensures { AreValues (presented (λ f. residues f.modulus) weight_order_of p.now) (values_of elements.now) values.new }
 {
     let word = word_of(alloc, p, elements, list)?;
     match values.prepare(alloc, p, quotient, elements, &word)? {
@@ -189,8 +180,7 @@ fn values_of_words(
     requires valid { IsRing p.now }
     requires quotient { IsQuotientOf (presented (λ f. residues f.modulus) weight_order_of p.now) quotient.now }
     requires closed { quotient.now.closed ≡ true }
-    requires elements {
-        AreHomogeneousElements (presented (λ f. residues f.modulus) weight_order_of p.now) (values_of elements.now) }
+    requires elements { AreHomogeneousElements (presented (λ f. residues f.modulus) weight_order_of p.now) (values_of elements.now) }
 {
     let mut values = Values::new(alloc, limit);
     let mut text = String::new(alloc);
@@ -207,7 +197,14 @@ fn answer(alloc: Global, presentation: &str, row: &str, limit: u32) -> Result<St
     let p = ring(alloc, presentation)?;
     let quotient = closed_quotient(alloc, &p)?;
     let elements = elements(alloc, &p, &quotient, part(row, 0))?;
-    values_of_words(alloc, &p, &quotient, elements.as_slice(), part(row, 1), limit)
+    values_of_words(
+        alloc,
+        &p,
+        &quotient,
+        elements.as_slice(),
+        part(row, 1),
+        limit,
+    )
 }
 
 #[test]

@@ -4,5 +4,5 @@ use Rattle.witness.specs.Tracking.{values_of}
 use Rattle.word_values.specs.Values.{AreHomogeneousElements}
 use Rattle.worked_bases.proofs.values.elements.Given as goal
 
-abbrev pub invariant-texts : goal.invariant-elements
+abbrev pub invariant-texts : goal.invariant-texts
 invariant-texts l = AreHomogeneousElements (presented (λ f. residues f.modulus) weight_order_of l.p) (values_of l.elements.items)

@@ -19,5 +19,5 @@ returns c =
     let P = presented (λ f. residues f.modulus) weight_order_of c.args.p.now in
     let t = get_or c.args.elements.now c.args.letter c.index-elements-letter.result in
     let h = c.requires.elements t.value (contains_map (λ t. t.value) c.args.elements.now t (Contains-get_or c.args.elements.now c.args.letter c.index-elements-letter.result c.requires.letter)) in
-    element_degree P t.value h c.in-Some-degree.degree (c.in-Some-degree.ensures.greatest c.args.p.now.field h.canonical) ∙
+    element_degree P t.value h c.in-Some.degree (c.in-Some.ensures.greatest c.args.p.now.field h.canonical) ∙
     ap (λ s. P.order.degree (lead_monomial s)) (sym (get_or-map (λ t. t.value) c.args.elements.now c.args.letter c.index-elements-letter.result [] c.requires.letter))
