@@ -1,5 +1,5 @@
 -- The values of words over a list of elements, as a table keeps them.
-use Rattle.std.specs.Prelude.{◌≡◌, ◌≢◌, ℕ, ◌≤◌, ◌<◌, ◌+◌, ◌⊎◌, List, [], ◌∷◌, Option, Some, IsSome, map, length, Contains, nat_eq, if◌then◌else◌}
+use Rattle.std.specs.Prelude.{◌≡◌, ◌≢◌, ℕ, ◌≤◌, ◌<◌, ◌+◌, ◌⊎◌, List, [], ◌∷◌, Option, Some, IsSome, length, Contains, nat_eq, if◌then◌else◌}
 use Rattle.std.specs.Map.{lookup}
 use lib.Pointwise.{pointwise}
 use Rattle.monomial_order.specs.Monomial.{Exponents, product, variable}
@@ -7,7 +7,6 @@ use Rattle.word_laws.specs.Words.{word_order_of, IsSWord}
 use Rattle.polynomials.specs.Polynomial.{Polynomial, coefficient, IsCanonical, IsHomogeneous, lead_monomial}
 use Rattle.polynomials.specs.Subalgebra.{Presented, IsStandard, IsNormalForm}
 use Rattle.subalgebra_laws.specs.Words.{letters, word_value}
-use Rattle.witness.specs.declared.tracked.Tracked.{Tracked}
 use Rattle.word_values.specs.declared.products.Split.{Split}
 use Rattle.word_values.specs.declared.paths.Step.{Step}
 

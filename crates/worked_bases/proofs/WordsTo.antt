@@ -1,16 +1,15 @@
 -- Words over elements that tests make letter by letter.
-use Rattle.std.proofs.Common.{◌≡◌, ℕ, zero, suc, ◌+◌, ◌<◌, ◌≤◌, ap, List, [], ◌++◌, length, get_or, arith}
-use Rattle.std.specs.Prelude.{sum}
-use Rattle.std.proofs.Math.Seq.{take-nil}
+use Rattle.std.proofs.Common.{◌≡◌, ℕ, zero, suc, ◌+◌, ◌<◌, ◌≤◌, subst, List, [], ◌++◌, length, get_or, arith}
 use Rattle.std.proofs.lemmas.List.Elements.{Contains-get_or}
 use Rattle.monomial_order.specs.Monomial.{exponent, product, variable}
 use Rattle.monomial_order.specs.laws.Monomial.{weighted_nil, exponent-product}
 use Rattle.polynomials.specs.Polynomial.{Polynomial, lead_monomial}
 use Rattle.polynomials.specs.Subalgebra.{Presented, IsPresentation}
-use Rattle.word_laws.specs.Words.{lead_degrees}
+use Rattle.word_laws.specs.Words.{lead_degrees, IsSWord}
 use Rattle.subalgebra_laws.specs.Words.{letters}
+use Rattle.subalgebra_laws.specs.laws.Letters.{letter_degrees, letter, letter_at, letter_word, s_one, s_product}
 use Rattle.word_values.specs.Values.{AreHomogeneousElements, word_degree}
-use Rattle.word_values.specs.laws.Letters.{xs, product_degree, letter_degree, longer_word}
+use Rattle.word_values.specs.laws.Letters.{product_degree, letter_degree}
 use Rattle.worked_bases.specs.WordsTo.{IsWordTo}
 
 variable_most : (i j : ℕ) → exponent (variable i) j ≤ 1
@@ -22,8 +21,8 @@ variable_most (suc i) (suc j) = variable_most i j
 module _ {E : Type 0} (P : Presented E) (S : List (Polynomial E)) where
   pub one_to : IsWordTo P S 0 []
   one_to = record {
-    word = (record { trimmed = tt; within = omega arith }, ap sum (take-nil (length (xs P S))));
-    degree = let z = weighted_nil (xs P S ++ lead_degrees (letters P S)) in omega arith;
+    word = s_one P S;
+    degree = let z = weighted_nil (letter_degrees P S ++ lead_degrees (letters P S)) in omega arith;
     exponents = λ i. omega arith;
   }
 
@@ -33,7 +32,7 @@ module _ {E : Type 0} (P : Presented E) (S : List (Polynomial E)) where
 
     pub longer_to : IsPresentation P → AreHomogeneousElements P S → (n j : ℕ) → j < length S → n ≡ P.order.degree (lead_monomial (get_or S j [])) → IsWordTo P S (d + n) (product (variable (P.order.places + j)) w)
     longer_to H hs n j l e = record {
-      word = longer_word P S j w l h.word;
+      word = subst (λ x. IsSWord (letters P S) (product x w)) (letter_at P S j) (s_product P S (letter P S j) w (letter_word P S j l) h.word);
       degree = let a = product_degree P S (variable (P.order.places + j)) w in let b = letter_degree P S H hs j l in let c = h.degree in omega arith;
       exponents = λ i.
           let a = variable_most (P.order.places + j) i in
