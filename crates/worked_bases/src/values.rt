@@ -1,12 +1,11 @@
 //! Values of words over elements, worked out by hand.
 ghost use Rattle.std.specs.Prelude.{◌≡◌, ◌≤◌, ◌<◌, ◌+◌, [], true, length, get_or, IfOk};
-ghost use Rattle.word_field.specs.Residues.{residues};
 ghost use Rattle.polynomials.specs.Polynomial.{lead_monomial};
-ghost use Rattle.poly_core.specs.Presentation.{weight_order_of, presented};
 ghost use Rattle.quotient_gb.specs.Quotient.{IsQuotientOf};
 ghost use Rattle.witness.specs.Tracking.{values_of};
 ghost use Rattle.word_values.specs.Values.{AreHomogeneousElements, AreValues, IsHomogeneousElement};
 ghost use Rattle.worked_rows.specs.Rings.{IsRing};
+ghost use Rattle.worked_bases.specs.Rings.{of_ring};
 ghost use Rattle.worked_bases.specs.WordsTo.{IsWordTo};
 
 use monomial_order::{Monomial, Order, WeightOrder};
@@ -27,7 +26,7 @@ const LINES: &str =
 /// A quotient that is known to be closed.
 fn closed_quotient(alloc: Global, p: &Ring) -> Result<Quotient<WordField, WeightOrder>, Fail>
     requires { IsRing p.now }
-    ensures quotient { IfOk result (IsQuotientOf (presented (λ f. residues f.modulus) weight_order_of p.now)) }
+    ensures quotient { IfOk result (IsQuotientOf (of_ring p.now)) }
     ensures closed { IfOk result (λ q. q.closed ≡ true) }
 {
     let mut quotient = Quotient::new(alloc, p)?;
@@ -45,9 +44,9 @@ fn element(
     text: &str,
 ) -> Result<Tracked<WordField>, Fail>
     requires valid { IsRing p.now }
-    requires quotient { IsQuotientOf (presented (λ f. residues f.modulus) weight_order_of p.now) quotient.now }
+    requires quotient { IsQuotientOf (of_ring p.now) quotient.now }
     requires closed { quotient.now.closed ≡ true }
-    ensures { IfOk result (λ t. IsHomogeneousElement (presented (λ f. residues f.modulus) weight_order_of p.now) t.value) }
+    ensures { IfOk result (λ t. IsHomogeneousElement (of_ring p.now) t.value) }
 {
     let a = polynomial(alloc, p, text)?;
     let value = quotient.normal_form(alloc, p, &a)?;
@@ -70,9 +69,9 @@ fn elements(
     list: &str,
 ) -> Result<Vec<Tracked<WordField>>, Fail>
     requires valid { IsRing p.now }
-    requires quotient { IsQuotientOf (presented (λ f. residues f.modulus) weight_order_of p.now) quotient.now }
+    requires quotient { IsQuotientOf (of_ring p.now) quotient.now }
     requires closed { quotient.now.closed ≡ true }
-    ensures { let P = presented (λ f. residues f.modulus) weight_order_of p.now in
+    ensures { let P = of_ring p.now in
         IfOk result (λ r. AreHomogeneousElements P (values_of r.items)) }
 {
     let mut elements = Vec::new(alloc);
@@ -85,10 +84,10 @@ fn elements(
 
 /// The degree of an element.
 fn letter_degree(p: &Ring, elements: &[Tracked<WordField>], letter: usize) -> Result<u32, Fail>
-    requires elements { AreHomogeneousElements (presented (λ f. residues f.modulus) weight_order_of p.now) (values_of elements.now) }
+    requires elements { AreHomogeneousElements (of_ring p.now) (values_of elements.now) }
     requires letter { letter < length elements.now }
     ensures { IfOk result (λ d. d ≡
-        (weight_order_of p.now.order).degree (lead_monomial (get_or (values_of elements.now) letter []))) }
+        (of_ring p.now).order.degree (lead_monomial (get_or (values_of elements.now) letter []))) }
 {
     let Some(degree) = Poly::degree(&p.order, &elements[letter].value) else {
         return Err(Fail::new("zero"));
@@ -107,12 +106,13 @@ fn longer(
     _degree: u32,
 ) -> Result<Monomial, Fail>
     requires valid { IsRing p.now }
-    requires elements { AreHomogeneousElements (presented (λ f. residues f.modulus) weight_order_of p.now) (values_of _elements.now) }
+    requires elements { AreHomogeneousElements (of_ring p.now) (values_of _elements.now) }
     requires letter { letter < length _elements.now }
-    requires degree { _degree ≡ (weight_order_of p.now.order).degree (lead_monomial (get_or (values_of _elements.now) letter [])) }
-    requires word { IsWordTo (presented (λ f. residues f.modulus) weight_order_of p.now) (values_of _elements.now) _bound word.now }
+    requires degree { let S = values_of _elements.now in
+        _degree ≡ (of_ring p.now).order.degree (lead_monomial (get_or S letter [])) }
+    requires word { IsWordTo (of_ring p.now) (values_of _elements.now) _bound word.now }
     requires small { _bound + _degree ≤ 60000 }
-    ensures { let P = presented (λ f. residues f.modulus) weight_order_of p.now in
+    ensures { let P = of_ring p.now in
         IfOk result (IsWordTo P (values_of _elements.now) (_bound + _degree)) }
 {
     let variable = Monomial::variable(alloc, p.order.places() + letter)?;
@@ -127,8 +127,8 @@ fn word_of(
     list: &str,
 ) -> Result<Monomial, Fail>
     requires valid { IsRing p.now }
-    requires elements { AreHomogeneousElements (presented (λ f. residues f.modulus) weight_order_of p.now) (values_of elements.now) }
-    ensures { let P = presented (λ f. residues f.modulus) weight_order_of p.now in
+    requires elements { AreHomogeneousElements (of_ring p.now) (values_of elements.now) }
+    ensures { let P = of_ring p.now in
         IfOk result (IsWordTo P (values_of elements.now) 60000) }
 {
     let mut word = Monomial::one(alloc);
@@ -155,11 +155,11 @@ fn value_of(
     list: &str,
 ) -> Result<String, Fail>
     requires valid { IsRing p.now }
-    requires quotient { IsQuotientOf (presented (λ f. residues f.modulus) weight_order_of p.now) quotient.now }
+    requires quotient { IsQuotientOf (of_ring p.now) quotient.now }
     requires closed { quotient.now.closed ≡ true }
-    requires elements { AreHomogeneousElements (presented (λ f. residues f.modulus) weight_order_of p.now) (values_of elements.now) }
-    requires values { AreValues (presented (λ f. residues f.modulus) weight_order_of p.now) (values_of elements.now) values.old }
-    ensures { AreValues (presented (λ f. residues f.modulus) weight_order_of p.now) (values_of elements.now) values.new }
+    requires elements { AreHomogeneousElements (of_ring p.now) (values_of elements.now) }
+    requires values { AreValues (of_ring p.now) (values_of elements.now) values.old }
+    ensures { AreValues (of_ring p.now) (values_of elements.now) values.new }
 {
     let word = word_of(alloc, p, elements, list)?;
     match values.prepare(alloc, p, quotient, elements, &word)? {
@@ -178,9 +178,9 @@ fn values_of_words(
     limit: u32,
 ) -> Result<String, Fail>
     requires valid { IsRing p.now }
-    requires quotient { IsQuotientOf (presented (λ f. residues f.modulus) weight_order_of p.now) quotient.now }
+    requires quotient { IsQuotientOf (of_ring p.now) quotient.now }
     requires closed { quotient.now.closed ≡ true }
-    requires elements { AreHomogeneousElements (presented (λ f. residues f.modulus) weight_order_of p.now) (values_of elements.now) }
+    requires elements { AreHomogeneousElements (of_ring p.now) (values_of elements.now) }
 {
     let mut values = Values::new(alloc, limit);
     let mut text = String::new(alloc);

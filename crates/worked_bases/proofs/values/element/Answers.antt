@@ -1,15 +1,14 @@
 use Rattle.std.proofs.Common.{◌≤◌, sym, subst, arith, rules}
-use Rattle.word_field.specs.Residues.{residues}
 use Rattle.polynomials.specs.Polynomial.{IsCanonical, IsZeroOrHomogeneous}
 use Rattle.polynomials.specs.Subalgebra.{IsNormalForm}
-use Rattle.poly_core.specs.Presentation.{presented, weight_order_of}
 use Rattle.word_values.specs.Values.{IsHomogeneousElement}
+use Rattle.worked_bases.specs.Rings.{of_ring}
 use Rattle.worked_bases.proofs.Elements.{homogeneous_element}
 use Rattle.worked_bases.proofs.values.element.Goals as goal
 
 pub returns : goal.returns
 returns c =
-    let P = presented (λ f. residues f.modulus) weight_order_of c.args.p.now in
+    let P = of_ring c.args.p.now in
     let v = c.in_ok-value.value in
     let t = c.in-Some.first.now in
     let is = c.in-Some.ensures.first in

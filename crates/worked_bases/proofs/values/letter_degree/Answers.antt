@@ -1,10 +1,9 @@
 use Rattle.std.proofs.Common.{sym, ◌∙◌, ap, [], get_or}
 use Rattle.std.proofs.lemmas.List.{get_or-map}
 use Rattle.std.proofs.lemmas.List.Elements.{Contains-get_or}
-use Rattle.word_field.specs.Residues.{residues}
 use Rattle.monomial_order.specs.laws.Lists.{contains_map}
 use Rattle.polynomials.specs.Polynomial.{lead_monomial}
-use Rattle.poly_core.specs.Presentation.{presented, weight_order_of}
+use Rattle.worked_bases.specs.Rings.{of_ring}
 use Rattle.worked_bases.proofs.Elements.{element_degree}
 use Rattle.worked_bases.proofs.values.letter_degree.Goals as goal
 
@@ -16,7 +15,7 @@ degree-requires c =
 
 pub returns : goal.returns
 returns c =
-    let P = presented (λ f. residues f.modulus) weight_order_of c.args.p.now in
+    let P = of_ring c.args.p.now in
     let t = get_or c.args.elements.now c.args.letter c.index-elements-letter.result in
     let h = c.requires.elements t.value (contains_map (λ t. t.value) c.args.elements.now t (Contains-get_or c.args.elements.now c.args.letter c.index-elements-letter.result c.requires.letter)) in
     element_degree P t.value h c.in-Some.degree (c.in-Some.ensures.greatest c.args.p.now.field h.canonical) ∙
