@@ -14,7 +14,8 @@ use Rattle.polynomials.specs.laws.NormalForm.{multiple_leads, zeros_decide}
 use Rattle.subalgebra_laws.specs.Words.{letters, IsReducibleWord}
 use Rattle.subalgebra_laws.specs.Bases.{AreMonicElements, IsIdealClosedAt}
 use Rattle.polynomials.specs.laws.Coefficients.{found_monomial}
-use Rattle.subalgebra_laws.proofs.Letters.{letter_degrees, word_monic, letter_laws, word_degree, are_letters}
+use Rattle.subalgebra_laws.specs.laws.Letters.{letter_degrees}
+use Rattle.subalgebra_laws.proofs.Letters.{word_monic, letter_laws, word_degree, are_letters}
 use Rattle.polynomials.specs.Polynomial.{Polynomial}
 
 -- the members of a list with a decided property

@@ -1,10 +1,9 @@
 -- Products of leads are images of s-words, and the values of s-words are members of the subalgebra.
-use Rattle.std.proofs.Common.{◌≡◌, ◌≢◌, ℕ, zero, suc, ◌+◌, ◌-◌, ◌<◌, ◌≤◌, refl, sym, ◌∙◌, ap, subst, List, [], ◌∷◌, ⊎_elim, length, get_or, take, arith}
-use Rattle.std.specs.Prelude.{map, sum}
+use Rattle.std.proofs.Common.{◌≡◌, ◌≢◌, ℕ, zero, suc, ◌+◌, ◌-◌, ◌<◌, ◌≤◌, refl, sym, ◌∙◌, ap, subst, List, [], ◌∷◌, ⊎_elim, length, get_or, arith}
+use Rattle.std.specs.Prelude.{map}
 use Rattle.std.proofs.lemmas.List.{get_or_default}
 use Rattle.std.proofs.lemmas.List.Elements.{Contains-get_or}
-use Rattle.std.proofs.lemmas.List.Sums.{sum_by-cons}
-use Rattle.monomial_order.specs.Monomial.{product, exponent, variable, Divides}
+use Rattle.monomial_order.specs.Monomial.{product, variable, Divides}
 use Rattle.monomial_order.specs.laws.Lists.{contains_map}
 use Rattle.monomial_order.specs.laws.Monomial.{product_comm, product-one, variable_divides, variable_trimmed}
 use Rattle.monomial_order.specs.laws.Cofactors.{cofactor, Divides-product, length-product_right}
@@ -25,16 +24,10 @@ use Rattle.subalgebra_laws.specs.Words.{letters, letter_values, word_value}
 use Rattle.subalgebra_laws.specs.Bases.{AreMonicElements, AreMembers}
 use Rattle.subalgebra_laws.specs.laws.Members.{sub_constant, sub_zero}
 use Rattle.subalgebra_laws.specs.Statements.{SWordsAreMembers, SumsOfSWordsAreMembers, StandardProductsLead}
-use Rattle.subalgebra_laws.proofs.Letters.{letter_degrees, letter_laws, are_letters, places_letters, s_one, s_product, letter, letter_word, letter_image, letter_value, word_monic}
+use Rattle.subalgebra_laws.specs.laws.Letters.{none_before, letter_degrees, places_letters, s_one, s_product, letter, letter_word, letter_value}
+use Rattle.subalgebra_laws.proofs.Letters.{letter_laws, are_letters, letter_image, word_monic}
 use Rattle.polynomials.specs.laws.Coefficients.{constant_poly}
 use Rattle.subalgebra_laws.proofs.MonicProducts.{monic_lead}
-
--- in a word without x each x has the exponent 0
-none_before : (n : ℕ) (w : List ℕ) → sum (take n w) ≡ 0 → (i : ℕ) → i < n → exponent w i ≡ 0
-none_before n [] h i l = refl
-none_before zero (e ∷ w) h i l = absurd (omega arith)
-none_before (suc n) (e ∷ w) h zero l = let c = sum_by-cons (λ (y : ℕ). y) e (take n w) in omega arith
-none_before (suc n) (e ∷ w) h (suc i) l = none_before n w (let c = sum_by-cons (λ (y : ℕ). y) e (take n w) in omega arith) i (omega arith)
 
 module _ {E : Type 0} (P : Presented E) (H : IsPresentation P) where
   module _ (S : List (Polynomial E)) (HS : AreMonicElements P S) where

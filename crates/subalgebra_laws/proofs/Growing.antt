@@ -1,20 +1,20 @@
 -- Elements are added at the end of a list: which words stay reducible, minimal or irreducible, and what stays a combination.
-use Rattle.std.proofs.Common.{◌≡◌, ◌≢◌, ℕ, suc, ◌+◌, ◌-◌, ◌<◌, ◌≤◌, refl, sym, ◌∙◌, ap, subst, List, [], ◌∷◌, ◌++◌, inl, inr, ⊎_elim, length, take, get_or, length-append, append_assoc, arith}
+use Rattle.std.proofs.Common.{◌≡◌, ℕ, ◌+◌, ◌-◌, ◌<◌, ◌≤◌, refl, sym, ◌∙◌, ap, subst, List, [], ◌∷◌, ◌++◌, inl, inr, ⊎_elim, length, take, get_or, length-append, append_assoc, arith}
 use Rattle.std.specs.Prelude.{map, drop, sum, Contains}
 use Rattle.std.proofs.lemmas.List.{length-map, map-append, get_or-append-add, get_or_default}
 use Rattle.std.proofs.lemmas.List.Elements.{Contains-get_or}
 use Rattle.std.specs.Ordering.{nat_cmp, ordering_then, on, then_cmp}
 use Rattle.std.specs.declared.cmp.Ordering.{Ordering}
 use Rattle.std.specs.declared.cmp.Ordering.TheVariants.{Less}
-use Rattle.monomial_order.specs.Monomial.{product, exponent, variable, IsTrimmed, weighted_degree}
+use Rattle.monomial_order.specs.Monomial.{product, variable, IsTrimmed}
 use Rattle.monomial_order.specs.Orders.{lex}
 use Rattle.monomial_order.specs.laws.Lists.{contains_left}
 use Rattle.monomial_order.specs.laws.Monomial.{last_place, product-one, length-product, variable_divides, variable_trimmed, variable_length}
 use Rattle.monomial_order.specs.laws.Cofactors.{cofactor, length-product_right}
 use Rattle.monomial_order.specs.laws.Comparing.{le_or_not, equal_or_not, some_exponent, not_below_self, divisor_degree}
-use Rattle.word_laws.specs.Words.{image_of, image, variables, lead_degrees, IsWord, IsSWord, IsSmaller}
+use Rattle.word_laws.specs.Words.{image_of, image, variables, IsWord, IsSWord, IsSmaller}
 use Rattle.word_laws.specs.laws.Words.{degree_same, s_smaller, s_divisor}
-use Rattle.word_laws.specs.laws.Images.{weighted_front, image_front, length-variables}
+use Rattle.word_laws.specs.laws.Images.{image_front, length-variables}
 use Rattle.polynomials.specs.Polynomial.{Polynomial, coefficient, Same, term_of, times, constant, AllAt, IsPoly, IsHomogeneous, lead_monomial}
 use Rattle.polynomials.specs.Ideal.{Congruent}
 use Rattle.polynomials.specs.Value.{monomial_value, value, term_value}
@@ -26,7 +26,8 @@ use Rattle.subalgebra_laws.specs.Bases.{AreMonicElements, HaveLeadsFrom, AreAfte
 use Rattle.subalgebra_laws.specs.laws.Members.{generator_poly}
 use Rattle.subalgebra_laws.specs.laws.Fronts.{monomial_value_front, decreasing_over}
 use Rattle.subalgebra_laws.specs.Statements.{ValuesStay, SumsStay, SumsWithoutNewLettersStay, CombinationsStay, ElementsAreCombinations, MinimalWordsStay, OrderDoesNotMatter, NextAreCombinations}
-use Rattle.subalgebra_laws.proofs.Letters.{order_over, letter_degrees, places_letters, letter, letter_word, letter_image, letter_value, are_letters, letter_laws, word_degree, word_monic}
+use Rattle.subalgebra_laws.specs.laws.Letters.{word_grows, degree_stays, letter_degrees, places_letters, letter, letter_word, letter_value}
+use Rattle.subalgebra_laws.proofs.Letters.{order_over, letter_image, are_letters, letter_laws, word_degree, word_monic}
 use Rattle.subalgebra_laws.proofs.Combinations.{combination_same, combination_congruent, combination_word, combination_linear, sum_low}
 use Rattle.subalgebra_laws.proofs.Generated.{generated_images}
 use Rattle.subalgebra_laws.proofs.ReducedBases.{word_low}
@@ -36,19 +37,7 @@ word_terms P S [] h = tt
 word_terms P S (t ∷ p) h = (h.0.monomial, word_terms P S p h.1)
 
 module _ {E : Type 0} (P : Presented E) (S T : List (Polynomial E)) where
-  -- a word over S is one over S and T
-  pub word_grows : (w : List ℕ) → IsWord (letters P S) w → IsWord (letters P (S ++ T)) w
-  word_grows w h = record { trimmed = h.trimmed; within = let l = h.within in let a = places_letters P S in let b = places_letters P (S ++ T) in let c = length-append S T in omega arith }
-
-  degrees_split : letter_degrees P (S ++ T) ++ lead_degrees (letters P (S ++ T)) ≡ (letter_degrees P S ++ lead_degrees (letters P S)) ++ map (weighted_degree (letter_degrees P S)) (map lead_monomial T)
-  degrees_split =
-      ap (λ ds. letter_degrees P S ++ ds) (ap (map (weighted_degree (letter_degrees P S))) (map-append lead_monomial S T) ∙ map-append (weighted_degree (letter_degrees P S)) (map lead_monomial S) (map lead_monomial T)) ∙
-      sym (append_assoc (letter_degrees P S) (lead_degrees (letters P S)) (map (weighted_degree (letter_degrees P S)) (map lead_monomial T)))
-
   module _ (w : List ℕ) (h : length w ≤ (order_over P S).places) where
-    pub degree_stays : (order_over P (S ++ T)).degree w ≡ (order_over P S).degree w
-    degree_stays = ap (λ ws. weighted_degree ws w) degrees_split ∙ weighted_front (letter_degrees P S ++ lead_degrees (letters P S)) (map (weighted_degree (letter_degrees P S)) (map lead_monomial T)) w h
-
     pub image_stays : image_of (letters P (S ++ T)) w ≡ image_of (letters P S) w
     image_stays =
         let xs = variables 0 (length (letter_degrees P S)) in
@@ -77,7 +66,7 @@ module _ {E : Type 0} (P : Presented E) (S T : List (Polynomial E)) where
 
   compare_stays : (v w : List ℕ) → length v ≤ (order_over P S).places → length w ≤ (order_over P S).places → (order_over P (S ++ T)).compare v w ≡ (order_over P S).compare v w
   compare_stays v w hv hw =
-      ap (λ d. ordering_then (nat_cmp d ((order_over P (S ++ T)).degree w)) (rest v w)) (degree_stays v hv) ∙ ap (λ d. ordering_then (nat_cmp ((order_over P S).degree v) d) (rest v w)) (degree_stays w hw)
+      ap (λ d. ordering_then (nat_cmp d ((order_over P (S ++ T)).degree w)) (rest v w)) (degree_stays P S T v hv) ∙ ap (λ d. ordering_then (nat_cmp ((order_over P S).degree v) d) (rest v w)) (degree_stays P S T w hw)
 
 module _ {E : Type 0} (P : Presented E) (H : IsPresentation P) (S T : List (Polynomial E)) (HT : AreMonicElements P (S ++ T)) where
   open P use {field as K, order as O}

@@ -1,27 +1,24 @@
 -- The letters over a list of monic elements: what they stand for, their order and their images.
-use Rattle.std.proofs.Common.{◌≡◌, ℕ, zero, suc, ◌+◌, ◌<◌, ◌≤◌, refl, sym, ◌∙◌, ap, subst, List, [], ◌∷◌, ◌++◌, length, length-append, take, get_or, arith, cond, ⊎_elim}
-use Rattle.std.specs.Prelude.{map, Contains, sum}
+use Rattle.std.proofs.Common.{◌≡◌, ℕ, zero, suc, ◌+◌, ◌<◌, ◌≤◌, sym, ◌∙◌, ap, subst, List, [], ◌∷◌, ◌++◌, length, length-append, get_or, arith, cond, ⊎_elim}
+use Rattle.std.specs.Prelude.{map, Contains}
 use Rattle.std.proofs.lemmas.List.{length-map, get_or-append-add, get_or-map}
-use Rattle.std.proofs.lemmas.List.Sums.{sum_by-cons}
-use Rattle.std.proofs.Math.Seq.{take-nil}
-use Rattle.word_field.specs.Field.{IsField}
-use Rattle.monomial_order.specs.Monomial.{product, variable, IsMonomial, weighted_degree}
+use Rattle.monomial_order.specs.Monomial.{product, variable, IsMonomial}
 use Rattle.monomial_order.specs.MonomialOrder.{MonomialOrder, IsMonomialOrder}
 use Rattle.monomial_order.specs.laws.Lists.{contains_cases, contains_here, contains_none, contains_there}
-use Rattle.monomial_order.specs.laws.Monomial.{product-one, IsMonomial-product, variable_monomial}
-use Rattle.monomial_order.specs.laws.Orders.{take-product, sum-product}
-use Rattle.word_laws.specs.Words.{AreLetters, word_order_of, image_of, image, variables, lead_degrees, IsSWord}
+use Rattle.monomial_order.specs.laws.Monomial.{product-one, variable_monomial}
+use Rattle.word_laws.specs.Words.{AreLetters, word_order_of, image_of, image, variables}
 use Rattle.word_laws.specs.laws.Images.{length-variables, degree_weighted}
-use Rattle.word_laws.specs.laws.Words.{no_x_variable, word_laws, degree_image, degree_x, image_x}
+use Rattle.word_laws.specs.laws.Words.{word_laws, degree_image, degree_x, image_x}
 use Rattle.monomial_order.specs.laws.Comparing.{degree_one}
-use Rattle.polynomials.specs.Polynomial.{Polynomial, coefficient, Same, term_of, lead_monomial}
+use Rattle.polynomials.specs.Polynomial.{Polynomial, coefficient, term_of, lead_monomial}
 use Rattle.polynomials.specs.Subalgebra.{Presented, IsPresentation}
 use Rattle.polynomials.specs.laws.ReducedBasis.{map_contains}
 use Rattle.polynomials.specs.laws.Same.{same_refl}
 use Rattle.polynomials.specs.laws.Decreasing.{IsDecreasing_IsPoly, IsLead_first}
 use Rattle.subalgebra_laws.specs.Words.{letters, letter_values, word_value}
+use Rattle.subalgebra_laws.specs.laws.Letters.{places_x, letter}
 use Rattle.subalgebra_laws.specs.Bases.{IsMonicElement, AreMonicElements}
-use Rattle.polynomials.specs.laws.Coefficients.{single_term, value_variable}
+use Rattle.polynomials.specs.laws.Coefficients.{single_term}
 use Rattle.subalgebra_laws.proofs.MonicProducts.{IsMonic, AreMonic, monic_value}
 
 -- a variable stands for the member of the list at its index
@@ -31,59 +28,21 @@ image_variable (m ∷ ms) zero l = product-one (product m []) ∙ product-one m
 image_variable (m ∷ ms) (suc j) l = image_variable ms j (omega arith)
 
 module _ {E : Type 0} (P : Presented E) (S : List (Polynomial E)) where
-  abbrev pub letter_degrees : List ℕ
-  letter_degrees = map P.order.degree (variables 0 P.order.places)
-
   abbrev pub letter_images : List (List ℕ)
   letter_images = variables 0 P.order.places ++ map lead_monomial S
 
   abbrev pub order_over : MonomialOrder
   order_over = word_order_of (letters P S)
 
-  -- how many x there are, and how many letters
-  pub places_x : length letter_degrees ≡ P.order.places
-  places_x = length-map (variables 0 P.order.places) P.order.degree ∙ length-variables 0 P.order.places
-
-  pub places_letters : (word_order_of (letters P S)).places ≡ length letter_degrees + length S
-  places_letters =
-      length-append letter_degrees (lead_degrees (letters P S)) ∙
-      ap (λ n. length letter_degrees + n) (length-map (map lead_monomial S) (weighted_degree letter_degrees) ∙ length-map S lead_monomial)
-
   pub image_is : (w : List ℕ) → image_of (letters P S) w ≡ image w letter_images
-  image_is w = ap (λ k. image w (variables 0 k ++ map lead_monomial S)) places_x
+  image_is w = ap (λ k. image w (variables 0 k ++ map lead_monomial S)) (places_x P S)
 
-  -- 1 and products of s-words are s-words
-  pub s_one : IsSWord (letters P S) []
-  s_one = (record { trimmed = tt; within = omega arith }, ap sum (take-nil (length letter_degrees)))
-
-  pub s_product : (u v : List ℕ) → IsSWord (letters P S) u → IsSWord (letters P S) v → IsSWord (letters P S) (product u v)
-  s_product u v h k = (
-    IsMonomial-product (word_order_of (letters P S)).places u v h.0 k.0,
-    ap sum (take-product (length letter_degrees) u v) ∙ (sum-product (take (length letter_degrees) u) (take (length letter_degrees) v) ∙ (let a = h.1 in let b = k.1 in omega arith)),
-  )
-
-  -- the letter of the j-th element
-  abbrev pub letter : ℕ → List ℕ
-  letter j = variable (length letter_degrees + j)
-
-  module _ (j : ℕ) (l : j < length S) where
-    pub letter_word : IsSWord (letters P S) (letter j)
-    letter_word = (variable_monomial (word_order_of (letters P S)).places (length letter_degrees + j) (let p = places_letters in omega arith), no_x_variable (length letter_degrees) j)
-
-    pub letter_image : image_of (letters P S) (letter j) ≡ lead_monomial (get_or S j [])
-    letter_image =
-        image_is (letter j) ∙ (ap (λ n. image (variable (n + j)) letter_images) (places_x ∙ sym (length-variables 0 P.order.places)) ∙
-        (image_variable letter_images (length (variables 0 P.order.places) + j)
-        (let a = length-append (variables 0 P.order.places) (map lead_monomial S) in let b : length (map lead_monomial S) ≡ length S = length-map S lead_monomial in omega arith) ∙
-        (get_or-append-add (variables 0 P.order.places) (map lead_monomial S) j [] ∙ get_or-map lead_monomial S j [] [] l)))
-
-    pub letter_value : IsField P.field → Same P.field (word_value P S (letter j)) (get_or S j [])
-    letter_value F m =
-        let xs = map (λ k. term_of k P.field.one ∷ []) (variables 0 P.order.places) in
-        let e : length xs ≡ length (variables 0 P.order.places) = length-map (variables 0 P.order.places) (λ k. term_of k P.field.one ∷ []) in
-        ap (λ n. coefficient P.field (word_value P S (variable (n + j))) m) (places_x ∙ sym (e ∙ length-variables 0 P.order.places)) ∙
-        (value_variable P.field F (letter_values P S) (length xs + j) (let a = length-append xs S in omega arith) m ∙
-        ap (λ p. coefficient P.field p m) (get_or-append-add xs S j []))
+  pub letter_image : (j : ℕ) → j < length S → image_of (letters P S) (letter P S j) ≡ lead_monomial (get_or S j [])
+  letter_image j l =
+      image_is (letter P S j) ∙ (ap (λ n. image (variable (n + j)) letter_images) (places_x P S ∙ sym (length-variables 0 P.order.places)) ∙
+      (image_variable letter_images (length (variables 0 P.order.places) + j)
+      (let a = length-append (variables 0 P.order.places) (map lead_monomial S) in let b : length (map lead_monomial S) ≡ length S = length-map S lead_monomial in omega arith) ∙
+      (get_or-append-add (variables 0 P.order.places) (map lead_monomial S) j [] ∙ get_or-map lead_monomial S j [] [] l)))
 
 module _ {E : Type 0} (P : Presented E) (H : IsPresentation P) where
   single_monic : (m : List ℕ) → IsMonomial P.order.places m → IsMonic P.field P.order (term_of m P.field.one ∷ []) m

@@ -1,49 +1,36 @@
 -- What a table keeps, as elements come to the end of a list or are exchanged there.
-use Rattle.std.proofs.Common.{◌≡◌, ◌≢◌, ℕ, ◌+◌, ◌-◌, ◌<◌, ◌≤◌, sym, ◌∙◌, ap, subst, List, [], ◌++◌, length, length-append, append_assoc, get_or, ⊎_elim, arith, Some}
-use Rattle.std.specs.Prelude.{map, Contains}
-use Rattle.std.proofs.lemmas.List.{map-append, get_or-append-add}
+use Rattle.std.proofs.Common.{◌≡◌, ◌≢◌, ℕ, ◌+◌, ◌-◌, ◌<◌, ◌≤◌, sym, ◌∙◌, ap, subst, List, [], ◌++◌, length, length-append, get_or, ⊎_elim, arith, Some}
+use Rattle.std.specs.Prelude.{Contains}
+use Rattle.std.proofs.lemmas.List.{get_or-append-add}
 use Rattle.std.proofs.lemmas.List.Elements.{Contains-get_or}
-use Rattle.monomial_order.specs.Monomial.{exponent, product, variable, weighted_degree}
+use Rattle.monomial_order.specs.Monomial.{exponent, product, variable}
 use Rattle.monomial_order.specs.laws.Cofactors.{cofactor}
 use Rattle.monomial_order.specs.laws.Comparing.{le_or_not}
 use Rattle.monomial_order.specs.laws.Monomial.{last_place, variable_divides, variable_trimmed, product-one}
-use Rattle.word_laws.specs.Words.{lead_degrees, IsSWord}
-use Rattle.word_laws.specs.laws.Images.{weighted_front}
+use Rattle.word_laws.specs.Words.{IsSWord}
 use Rattle.polynomials.specs.Polynomial.{Polynomial, lead_monomial}
 use Rattle.polynomials.specs.Subalgebra.{Presented, IsPresentation, IsNormalForm}
 use Rattle.subalgebra_laws.specs.Words.{letters}
+use Rattle.subalgebra_laws.specs.laws.Letters.{places_x, places_letters, word_grows, degree_stays}
 use Rattle.subalgebra_laws.specs.Statements.{ValuesStay}
 use Rattle.word_values.specs.Values.{Table, AreHomogeneousElements, AreValues, AreWordsTo, word_degree, value_in}
-use Rattle.word_values.specs.laws.Letters.{xs, places_letters, rest_word, letter_range, product_degree, letter_degree}
+use Rattle.word_values.specs.laws.Letters.{rest_word, letter_range, product_degree, letter_degree}
 
 module _ {E : Type 0} (P : Presented E) (S T : List (Polynomial E)) where
-  word_grows : (w : List ℕ) → IsSWord (letters P S) w → IsSWord (letters P (S ++ T)) w
-  word_grows w h = (record { trimmed = h.0.trimmed; within = let l = h.0.within in let a = places_letters P S in let b = places_letters P (S ++ T) in let c = length-append S T in omega arith }, h.1)
-
   word_back : (w : List ℕ) → length w ≤ P.order.places + length S → IsSWord (letters P (S ++ T)) w → IsSWord (letters P S) w
-  word_back w l h = (record { trimmed = h.0.trimmed; within = let a = places_letters P S in omega arith }, h.1)
-
-  degrees_split : xs P (S ++ T) ++ lead_degrees (letters P (S ++ T)) ≡ (xs P S ++ lead_degrees (letters P S)) ++ map (weighted_degree (xs P S)) (map lead_monomial T)
-  degrees_split =
-      ap (λ ds. xs P S ++ ds) (ap (map (weighted_degree (xs P S))) (map-append lead_monomial S T) ∙ map-append (weighted_degree (xs P S)) (map lead_monomial S) (map lead_monomial T)) ∙
-      sym (append_assoc (xs P S) (lead_degrees (letters P S)) (map (weighted_degree (xs P S)) (map lead_monomial T)))
-
-  degree_stays : (w : List ℕ) → IsSWord (letters P S) w → word_degree P (S ++ T) w ≡ word_degree P S w
-  degree_stays w h =
-      ap (λ ws. weighted_degree ws w) degrees_split ∙
-      weighted_front (xs P S ++ lead_degrees (letters P S)) (map (weighted_degree (xs P S)) (map lead_monomial T)) w h.0.within
+  word_back w l h = (record { trimmed = h.0.trimmed; within = let a = places_letters P S in let x = places_x P S in omega arith }, h.1)
 
   module _ (stay : ValuesStay P S T) where
     pub values_grow : (kept : Table E) → AreValues P S kept → AreValues P (S ++ T) kept
     values_grow kept h w v e =
         let k = h w v e in
         record {
-          word = word_grows w k.word;
+          word = (word_grows P S T w k.word.0, k.word.1);
           long = k.long;
           value = record {
             canonical = k.value.canonical;
             normal = subst (λ a. IsNormalForm P a v) (sym (stay w k.word.0)) k.value.normal;
-            graded = λ m n. k.value.graded m n ∙ sym (degree_stays w k.word);
+            graded = λ m n. k.value.graded m n ∙ sym (degree_stays P S T w k.word.0.within);
           };
         }
 
@@ -58,16 +45,16 @@ module _ {E : Type 0} (P : Presented E) (S T : List (Polynomial E)) where
           value = record {
             canonical = k.value.canonical;
             normal = subst (λ a. IsNormalForm P a v) (stay w word.0) k.value.normal;
-            graded = λ m n. k.value.graded m n ∙ degree_stays w word;
+            graded = λ m n. k.value.graded m n ∙ degree_stays P S T w word.0.within;
           };
         }
 
   pub degrees_grow : (kept : Table E) (d : ℕ) → AreValues P S kept → AreWordsTo P S d kept → AreWordsTo P (S ++ T) d kept
-  degrees_grow kept d h le w v e = let a = degree_stays w (h w v e).word in let b = le w v e in omega arith
+  degrees_grow kept d h le w v e = let a = degree_stays P S T w (h w v e).word.0.within in let b = le w v e in omega arith
 
   pub degrees_back : (kept : Table E) (d : ℕ) → ((w : List ℕ) (v : Polynomial E) → value_in kept w ≡ Some v → length w ≤ P.order.places + length S) →
       AreValues P (S ++ T) kept → AreWordsTo P (S ++ T) d kept → AreWordsTo P S d kept
-  degrees_back kept d short h le w v e = let a = degree_stays w (word_back w (short w v e) (h w v e).word) in let b = le w v e in omega arith
+  degrees_back kept d short h le w v e = let a = degree_stays P S T w (word_back w (short w v e) (h w v e).word).0.within in let b = le w v e in omega arith
 
 module _ {E : Type 0} (P : Presented E) (H : IsPresentation P) (S : List (Polynomial E)) (hs : AreHomogeneousElements P S) where
   -- a letter of an s-word, and the word without it

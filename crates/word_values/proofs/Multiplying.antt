@@ -15,10 +15,11 @@ use Rattle.polynomials.specs.laws.Terms.{small_times}
 use Rattle.polynomials.specs.laws.Value.{monomial_value-product}
 use Rattle.monomial_order.specs.laws.Comparing.{degree_one}
 use Rattle.subalgebra_laws.specs.Words.{letters, letter_values, word_value}
+use Rattle.subalgebra_laws.specs.laws.Letters.{letter_degrees, letter_at, letter_value}
 use Rattle.word_values.specs.Values.{IsHomogeneousElement, AreHomogeneousElements, IsWordValue, word_degree}
 use Rattle.monomial_order.specs.laws.Monomial.{weighted_nil}
 use Rattle.word_laws.specs.Words.{lead_degrees}
-use Rattle.word_values.specs.laws.Letters.{xs, product_degree, letter_value, letter_degree}
+use Rattle.word_values.specs.laws.Letters.{product_degree, letter_degree}
 
 -- 1 as a polynomial of the program
 pub one_canonical : {E : Type 0} (P : Presented E) → IsPresentation P → IsCanonical P.field P.order (constant P.field P.field.one)
@@ -48,12 +49,16 @@ module _ {E : Type 0} (P : Presented E) (H : IsPresentation P) where
     normal = subst (λ a. IsNormalForm P a b) e n;
     graded = λ m k.
         normal_graded 0 (constant K K.one) b (one_canonical P H).decreasing (λ i z. ap O.degree (sym (single_term K F [] K.one i z)) ∙ degree_one O L) (subst (λ a. IsNormalForm P a b) e n) m k ∙
-        sym (weighted_nil (xs P S ++ lead_degrees (letters P S)));
+        sym (weighted_nil (letter_degrees P S ++ lead_degrees (letters P S)));
   }
 
 module _ {E : Type 0} (P : Presented E) (H : IsPresentation P) (S : List (Polynomial E)) (hs : AreHomogeneousElements P S) where
   open P use {field as K, order as O}
   open H use {field as F, order as L}
+
+  -- the letter of an element has it for its value
+  place_value : (j : ℕ) → j < length S → Same K (word_value P S (variable (O.places + j))) (get_or S j [])
+  place_value j l = subst (λ w. Same K (word_value P S w) (get_or S j [])) (letter_at P S j) (letter_value P S j l F)
 
   module _ (j : ℕ) (l : j < length S) (v : Exponents) (a : Polynomial E) (h : IsWordValue P S v a) where
     abbrev s : Polynomial E
@@ -112,7 +117,7 @@ module _ {E : Type 0} (P : Presented E) (H : IsPresentation P) (S : List (Polyno
               congruent_trans K F O.places P.ideal (word_value P S w) (times K s (word_value P S v)) r
               (congruent_same K F O.places P.ideal (word_value P S w) (times K s (word_value P S v))
               (λ m. monomial_value-product K F (variable (O.places + j)) v (letter_values P S) m ∙
-              times_same_left K F (word_value P S (variable (O.places + j))) s (word_value P S v) (letter_value P S F j l) m))
+              times_same_left K F (word_value P S (variable (O.places + j))) s (word_value P S v) (place_value j l) m))
               (congruent_trans K F O.places P.ideal (times K s (word_value P S v)) (times K s a) r
               (congruent_times_left K F O.places P.ideal s (word_value P S v) a poly_s h.normal.inside)
               (congruent_same K F O.places P.ideal (times K s a) r (λ m. sym (same m))))
@@ -126,7 +131,7 @@ module _ {E : Type 0} (P : Presented E) (H : IsPresentation P) (S : List (Polyno
         canonical = h.canonical;
         normal = record {
           poly = IsDecreasing_IsPoly K O s h.canonical.decreasing;
-          inside = congruent_same K F O.places P.ideal (word_value P S (variable (O.places + j))) s (letter_value P S F j l);
+          inside = congruent_same K F O.places P.ideal (word_value P S (variable (O.places + j))) s (place_value j l);
           standard = h.standard;
         };
         graded = λ m k. h.homogeneous.each m k ∙ sym (letter_degree P S H hs j l);

@@ -1,13 +1,14 @@
 -- The values of words over a list of elements, as a table keeps them.
-use Rattle.std.specs.Prelude.{◌≡◌, ◌≢◌, ℕ, ◌≤◌, ◌<◌, ◌+◌, ◌⊎◌, List, [], ◌∷◌, Option, Some, IsSome, map, length, Contains, nat_eq, if◌then◌else◌}
+use Rattle.std.specs.Prelude.{◌≡◌, ◌≢◌, ℕ, ◌≤◌, ◌<◌, ◌+◌, ◌⊎◌, List, [], ◌∷◌, Option, Some, IsSome, true, length, Contains, nat_eq, if◌then◌else◌}
 use Rattle.std.specs.Map.{lookup}
 use lib.Pointwise.{pointwise}
+use Rattle.monomial_order.specs.Limits.{exponent_max}
 use Rattle.monomial_order.specs.Monomial.{Exponents, product, variable}
 use Rattle.word_laws.specs.Words.{word_order_of, IsSWord}
 use Rattle.polynomials.specs.Polynomial.{Polynomial, coefficient, IsCanonical, IsHomogeneous, lead_monomial}
 use Rattle.polynomials.specs.Subalgebra.{Presented, IsStandard, IsNormalForm}
+use Rattle.quotient_gb.specs.Quotient.{QuotientState, IsQuotientOf}
 use Rattle.subalgebra_laws.specs.Words.{letters, word_value}
-use Rattle.witness.specs.declared.tracked.Tracked.{Tracked}
 use Rattle.word_values.specs.declared.products.Split.{Split}
 use Rattle.word_values.specs.declared.paths.Step.{Step}
 
@@ -55,6 +56,13 @@ module _ {E : Type 0} (P : Presented E) where
       pub canonical : IsCanonical P.field P.order v
       pub normal : IsNormalForm P (word_value P S w) v
       pub graded : (m : Exponents) → coefficient P.field v m ≢ P.field.zero → P.order.degree m ≡ word_degree w
+
+    -- what the value of w is made with: elements, and the quotient, to the degree of w or known to be closed
+    pub record CanMake (q : QuotientState E) (w : Exponents) : Type 0 where
+      pub quotient : IsQuotientOf P q
+      pub elements : AreHomogeneousElements S
+      pub degree : (word_degree w ≤ q.degree) ⊎ (q.closed ≡ true)
+      pub small : word_degree w ≤ exponent_max
 
     -- an s-word, and not one letter alone, with its value
     pub record IsKept (w : Exponents) (v : Polynomial E) : Type 0 where

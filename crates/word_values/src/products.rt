@@ -1,13 +1,12 @@
 //! Products of values and elements.
-ghost use Rattle.std.specs.Prelude.{◌≡◌, ◌≤◌, ◌<◌, ◌+◌, ℕ, ◌⊎◌, ◌≢◌, [], length, get_or, true, IfOk, IfSome, IsNone};
-ghost use Rattle.monomial_order.specs.Limits.{exponent_max};
+ghost use Rattle.std.specs.Prelude.{◌≡◌, ◌≤◌, ◌<◌, ◌+◌, ℕ, ◌≢◌, [], length, get_or, IfOk, IfSome, IsNone};
 ghost use Rattle.monomial_order.specs.Monomial.{exponent};
 ghost use Rattle.word_laws.specs.Words.{IsSWord};
 ghost use Rattle.poly_core.specs.Presentation.{presented, IsValid};
 ghost use Rattle.quotient_gb.specs.Quotient.{IsQuotientOf};
 ghost use Rattle.subalgebra_laws.specs.Words.{letters};
 ghost use Rattle.witness.specs.Tracking.{values_of};
-ghost use Rattle.word_values.specs.Values.{AreHomogeneousElements, IsWordValue, word_degree, whole, IsSplit};
+ghost use Rattle.word_values.specs.Values.{CanMake, IsWordValue, whole, IsSplit};
 
 use crate::words::without;
 use monomial_order::{Memory, Monomial, Order};
@@ -101,15 +100,8 @@ pub(crate) fn times_letter<F: Field, O: Order>(
     value: &Poly<F>,
 ) -> Result<Poly<F>, Memory>
     requires presentation { IsValid F.ops O.order p.now }
-    requires quotient { IsQuotientOf (presented F.ops O.order p.now) q.now }
-    requires elements { AreHomogeneousElements (presented F.ops O.order p.now) (values_of elements.now) }
-    requires word { IsSWord (letters (presented F.ops O.order p.now) (values_of elements.now)) split.now.rest }
-    requires first { (O.order p.now.order).places ≤ split.now.letter }
-    requires last { split.now.letter < (O.order p.now.order).places + length elements.now }
-    requires degree { let P = presented F.ops O.order p.now in
-        (word_degree P (values_of elements.now) (whole split.now) ≤ q.now.degree) ⊎ (q.now.closed ≡ true) }
-    requires small { let P = presented F.ops O.order p.now in
-        word_degree P (values_of elements.now) (whole split.now) ≤ exponent_max }
+    requires making { CanMake (presented F.ops O.order p.now) (values_of elements.now) q.now (whole split.now) }
+    requires split { IsSplit (presented F.ops O.order p.now) (values_of elements.now) (whole split.now) split.now }
     requires value { IsWordValue (presented F.ops O.order p.now) (values_of elements.now) split.now.rest value.now }
     ensures { let P = presented F.ops O.order p.now in
         IfOk result (IsWordValue P (values_of elements.now) (whole split.now)) }

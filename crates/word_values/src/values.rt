@@ -8,7 +8,7 @@ ghost use Rattle.poly_core.specs.Presentation.{presented, IsValid};
 ghost use Rattle.quotient_gb.specs.Quotient.{IsQuotientOf};
 ghost use Rattle.subalgebra_laws.specs.Words.{letters};
 ghost use Rattle.witness.specs.Tracking.{values_of};
-ghost use Rattle.word_values.specs.Values.{IsReady, AreHomogeneousElements, IsWordValue, AreValues, AreWordsTo, word_degree, IsLetter, IsPath, IsSplit, Puts, whole};
+ghost use Rattle.word_values.specs.Values.{IsReady, CanMake, AreHomogeneousElements, IsWordValue, AreValues, AreWordsTo, word_degree, IsLetter, IsPath, IsSplit, Puts, whole};
 
 use crate::paths::{Path, Step};
 use crate::products::{Split, element, take_off, times_letter, value_of_start};
@@ -140,11 +140,7 @@ impl<F: Field> Values<F> {
         start: Option<Poly<F>>,
     ) -> Result<Option<Poly<F>>, Memory>
         requires presentation { IsValid F.ops O.order p.now }
-        requires quotient { IsQuotientOf (presented F.ops O.order p.now) q.now }
-        requires elements { AreHomogeneousElements (presented F.ops O.order p.now) (values_of elements.now) }
-        requires degree { let P = presented F.ops O.order p.now in
-            (word_degree P (values_of elements.now) w.now ≤ q.now.degree) ⊎ (q.now.closed ≡ true) }
-        requires small { word_degree (presented F.ops O.order p.now) (values_of elements.now) w.now ≤ exponent_max }
+        requires making { CanMake (presented F.ops O.order p.now) (values_of elements.now) q.now w.now }
         requires values { AreValues (presented F.ops O.order p.now) (values_of elements.now) self.old }
         requires path { let P = presented F.ops O.order p.now in
             IsPath P (values_of elements.now) w.now path.steps.items path.start }
@@ -233,15 +229,8 @@ impl<F: Field> Values<F> {
         made: &Option<Poly<F>>,
     ) -> Result<Poly<F>, Memory>
         requires presentation { IsValid F.ops O.order p.now }
-        requires quotient { IsQuotientOf (presented F.ops O.order p.now) q.now }
-        requires elements { AreHomogeneousElements (presented F.ops O.order p.now) (values_of elements.now) }
-        requires word { IsSWord (letters (presented F.ops O.order p.now) (values_of elements.now)) split.now.rest }
-        requires first { (O.order p.now.order).places ≤ split.now.letter }
-        requires last { split.now.letter < (O.order p.now.order).places + length elements.now }
-        requires degree { let P = presented F.ops O.order p.now in
-            (word_degree P (values_of elements.now) (whole split.now) ≤ q.now.degree) ⊎ (q.now.closed ≡ true) }
-        requires small { let P = presented F.ops O.order p.now in
-            word_degree P (values_of elements.now) (whole split.now) ≤ exponent_max }
+        requires making { CanMake (presented F.ops O.order p.now) (values_of elements.now) q.now (whole split.now) }
+        requires split { IsSplit (presented F.ops O.order p.now) (values_of elements.now) (whole split.now) split.now }
         requires values { AreValues (presented F.ops O.order p.now) (values_of elements.now) self.now }
         requires ready { IsNone made.now → IsReady self.now split.now.rest }
         requires made { let P = presented F.ops O.order p.now in

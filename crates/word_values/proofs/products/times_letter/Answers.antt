@@ -1,5 +1,4 @@
 use Rattle.std.proofs.Common.{◌≡◌, ◌≤◌, ◌<◌, ◌-◌, ◌+◌, sym, subst, inl, inr, ⊎_elim, length, arith}
-use Rattle.std.proofs.lemmas.List.{length-map}
 use Rattle.monomial_order.specs.Monomial.{product, variable}
 use Rattle.polynomials.specs.Polynomial.{Same, times, IsCanonical, IsSmall}
 use Rattle.poly_core.specs.Presentation.{presented}
@@ -13,44 +12,44 @@ mul-requires-clause-a g c =
     let P = presented g.F.Field.ops g.O.Order.order c.args.p.now in
     let S = values_of c.args.elements.now in
     let j = c.args.split.now.letter - P.order.places in
-    let e : c.args.split.now.letter ≡ P.order.places + j = let f = c.requires.first in omega arith in
-    let l : j < length S = let n = length-map c.args.elements.now (λ t. t.value) in let k = c.requires.last in omega arith in
+    let e : c.args.split.now.letter ≡ P.order.places + j = let f = c.requires.split.first in omega arith in
+    let l : j < length S = let k = c.requires.split.last in omega arith in
     subst (IsCanonical P.field P.order) (sym (c.element-factor.ensures j e))
-    (element_is P c.requires.presentation.presentation S c.requires.elements j l c.args.split.now.rest c.args.value.now c.requires.value).canonical
+    (element_is P c.requires.presentation.presentation S c.requires.making.elements j l c.args.split.now.rest c.args.value.now c.requires.value).canonical
 
 pub mul-requires-clause-small : goal.mul-requires-clause-small
 mul-requires-clause-small g c =
     let P = presented g.F.Field.ops g.O.Order.order c.args.p.now in
     let S = values_of c.args.elements.now in
     let j = c.args.split.now.letter - P.order.places in
-    let e : c.args.split.now.letter ≡ P.order.places + j = let f = c.requires.first in omega arith in
-    let l : j < length S = let n = length-map c.args.elements.now (λ t. t.value) in let k = c.requires.last in omega arith in
+    let e : c.args.split.now.letter ≡ P.order.places + j = let f = c.requires.split.first in omega arith in
+    let l : j < length S = let k = c.requires.split.last in omega arith in
     subst (λ s. IsSmall P.order (times P.field s c.args.value.now)) (sym (c.element-factor.ensures j e))
-    (product_small P c.requires.presentation.presentation S c.requires.elements j l c.args.split.now.rest c.args.value.now c.requires.value
-    (subst (λ i. word_degree P S (product (variable i) c.args.split.now.rest) ≤ 65535) e c.requires.small))
+    (product_small P c.requires.presentation.presentation S c.requires.making.elements j l c.args.split.now.rest c.args.value.now c.requires.value
+    (subst (λ i. word_degree P S (product (variable i) c.args.split.now.rest) ≤ 65535) e c.requires.making.small))
 
 pub normal_form-requires-clause-degree : goal.normal_form-requires-clause-degree
 normal_form-requires-clause-degree g c =
     let P = presented g.F.Field.ops g.O.Order.order c.args.p.now in
     let S = values_of c.args.elements.now in
     let j = c.args.split.now.letter - P.order.places in
-    let e : c.args.split.now.letter ≡ P.order.places + j = let f = c.requires.first in omega arith in
-    let l : j < length S = let n = length-map c.args.elements.now (λ t. t.value) in let k = c.requires.last in omega arith in
+    let e : c.args.split.now.letter ≡ P.order.places + j = let f = c.requires.split.first in omega arith in
+    let l : j < length S = let k = c.requires.split.last in omega arith in
     let same = subst (λ s. Same P.field c.in_ok-product.product (times P.field s c.args.value.now)) (c.element-factor.ensures j e) c.in_ok-product.ensures.product in
     ⊎_elim
-    (λ d. inl (product_degree_to P c.requires.presentation.presentation S c.requires.elements j l c.args.split.now.rest c.args.value.now c.requires.value
+    (λ d. inl (product_degree_to P c.requires.presentation.presentation S c.requires.making.elements j l c.args.split.now.rest c.args.value.now c.requires.value
     c.in_ok-product.product same c.in_ok-product.ensures.canonical.decreasing c.args.q.now.degree
     (subst (λ i. word_degree P S (product (variable i) c.args.split.now.rest) ≤ c.args.q.now.degree) e d)))
-    (λ z. inr z) c.requires.degree
+    (λ z. inr z) c.requires.making.degree
 
 pub returns : goal.returns
 returns g c =
     let P = presented g.F.Field.ops g.O.Order.order c.args.p.now in
     let S = values_of c.args.elements.now in
     let j = c.args.split.now.letter - P.order.places in
-    let e : c.args.split.now.letter ≡ P.order.places + j = let f = c.requires.first in omega arith in
-    let l : j < length S = let n = length-map c.args.elements.now (λ t. t.value) in let k = c.requires.last in omega arith in
+    let e : c.args.split.now.letter ≡ P.order.places + j = let f = c.requires.split.first in omega arith in
+    let l : j < length S = let k = c.requires.split.last in omega arith in
     let same = subst (λ s. Same P.field c.in_ok-product.product (times P.field s c.args.value.now)) (c.element-factor.ensures j e) c.in_ok-product.ensures.product in
     subst (λ i. IsWordValue P S (product (variable i) c.args.split.now.rest) c.in_ok-next.next) (sym e)
-    (product_value P c.requires.presentation.presentation S c.requires.elements j l c.args.split.now.rest c.args.value.now c.requires.value
+    (product_value P c.requires.presentation.presentation S c.requires.making.elements j l c.args.split.now.rest c.args.value.now c.requires.value
     c.in_ok-product.product same c.in_ok-product.ensures.canonical.decreasing c.in_ok-next.next c.in_ok-next.ensures.canonical c.in_ok-next.ensures.normal)

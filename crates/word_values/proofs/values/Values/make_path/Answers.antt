@@ -1,41 +1,27 @@
-use Rattle.std.proofs.Common.{◌≤◌, subst, inl, inr, ⊎_elim, arith}
-use Rattle.std.proofs.lemmas.List.{length-map}
+use Rattle.std.proofs.Common.{◌≤◌, refl, subst, inl, inr, ⊎_elim, arith}
 use Rattle.poly_core.specs.Presentation.{presented}
 use Rattle.witness.specs.Tracking.{values_of}
 use Rattle.word_values.specs.Values.{IsWordValue, word_degree}
 use Rattle.word_values.proofs.Following.{next_of, next_values, next_degrees, next_stays, reach_next}
 use Rattle.word_values.proofs.values.Values.make_path.Goals as goal
 
-pub next_value-requires-clause-word : goal.next_value-requires-clause-word
-next_value-requires-clause-word g c =
-    let P = presented g.F.Field.ops g.O.Order.order c.args.p.now in
-    (next_of P (values_of c.args.elements.now) c.args.w.now c.steps.steps.items c.pop.new.self.items c.in-Some.step c.steps.made c.args.self.now c.steps.self c.in-Some.ensures.items c.steps.invariant).step.split.word
-
-pub next_value-requires-clause-first : goal.next_value-requires-clause-first
-next_value-requires-clause-first g c =
-    let P = presented g.F.Field.ops g.O.Order.order c.args.p.now in
-    (next_of P (values_of c.args.elements.now) c.args.w.now c.steps.steps.items c.pop.new.self.items c.in-Some.step c.steps.made c.args.self.now c.steps.self c.in-Some.ensures.items c.steps.invariant).step.split.first
-
-pub next_value-requires-clause-last : goal.next_value-requires-clause-last
-next_value-requires-clause-last g c =
-    let P = presented g.F.Field.ops g.O.Order.order c.args.p.now in
-    let l = (next_of P (values_of c.args.elements.now) c.args.w.now c.steps.steps.items c.pop.new.self.items c.in-Some.step c.steps.made c.args.self.now c.steps.self c.in-Some.ensures.items c.steps.invariant).step.split.last in
-    let n = length-map c.args.elements.now (λ t. t.value) in
-    omega arith
-
-pub next_value-requires-clause-degree : goal.next_value-requires-clause-degree
-next_value-requires-clause-degree g c =
+pub next_value-requires-clause-making : goal.next_value-requires-clause-making
+next_value-requires-clause-making g c =
     let P = presented g.F.Field.ops g.O.Order.order c.args.p.now in
     let S = values_of c.args.elements.now in
     let l = (next_of P S c.args.w.now c.steps.steps.items c.pop.new.self.items c.in-Some.step c.steps.made c.args.self.now c.steps.self c.in-Some.ensures.items c.steps.invariant).degree in
-    ⊎_elim {A = word_degree P S c.args.w.now ≤ c.args.q.now.degree} (λ d. inl (omega arith)) (λ z. inr z) c.requires.degree
+    record {
+      quotient = c.requires.making.quotient;
+      elements = c.requires.making.elements;
+      degree = ⊎_elim {A = word_degree P S c.args.w.now ≤ c.args.q.now.degree} (λ d. inl (omega arith)) (λ z. inr z) c.requires.making.degree;
+      small = let s = c.requires.making.small in omega arith;
+    }
 
-pub next_value-requires-clause-small : goal.next_value-requires-clause-small
-next_value-requires-clause-small g c =
+pub next_value-requires-clause-split : goal.next_value-requires-clause-split
+next_value-requires-clause-split g c =
     let P = presented g.F.Field.ops g.O.Order.order c.args.p.now in
-    let l = (next_of P (values_of c.args.elements.now) c.args.w.now c.steps.steps.items c.pop.new.self.items c.in-Some.step c.steps.made c.args.self.now c.steps.self c.in-Some.ensures.items c.steps.invariant).degree in
-    let s = c.requires.small in
-    omega arith
+    let t = (next_of P (values_of c.args.elements.now) c.args.w.now c.steps.steps.items c.pop.new.self.items c.in-Some.step c.steps.made c.args.self.now c.steps.self c.in-Some.ensures.items c.steps.invariant).step.split in
+    record { word = t.word; first = t.first; last = t.last; whole_is = refl }
 
 pub next_value-requires-clause-ready : goal.next_value-requires-clause-ready
 next_value-requires-clause-ready g c =
