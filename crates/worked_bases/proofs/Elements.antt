@@ -1,8 +1,9 @@
 -- Generators with their letters, letters of elements and what is made of them.
-use Rattle.std.proofs.Common.{◌≡◌, ◌≢◌, ℕ, ◌+◌, ◌-◌, ◌<◌, ◌≤◌, refl, sym, ◌∙◌, ap, subst, ⊎_elim, List, [], ◌∷◌, ◌++◌, length, get_or, length-append, nat_lt, arith}
+use Rattle.std.proofs.Common.{◌≡◌, ◌≢◌, ℕ, ◌+◌, ◌-◌, ◌<◌, ◌≤◌, refl, sym, ◌∙◌, ap, subst, ⊎_elim, List, [], ◌∷◌, ◌++◌, length, get_or, append_assoc, length-append, nat_eq, nat_lt, arith}
 use Rattle.std.proofs.lemmas.Bool.Decides.{nat_tests}
-use Rattle.std.proofs.lemmas.List.{get_or_append_left, get_or_past}
-use Rattle.std.specs.Prelude.{IsTrue}
+use Rattle.std.proofs.lemmas.List.{get_or_append_left, get_or_past, get_or-map, length-map, map-append}
+use Rattle.std.proofs.lemmas.List.Elements.{All-push}
+use Rattle.std.specs.Prelude.{All, IsTrue, map}
 use Rattle.word_field.specs.Residues.{residues}
 use Rattle.word_field.specs.declared.WordField.{WordField}
 use Rattle.monomial_order.specs.MonomialOrder.{MonomialOrder}
@@ -14,12 +15,19 @@ use Rattle.polynomials.specs.Polynomial.{Polynomial, coefficient, degree_of, All
 use Rattle.polynomials.specs.laws.Degrees.{all_found}
 use Rattle.poly_core.specs.Presentation.{generator_degree, weight_order_of}
 use Rattle.poly_core.specs.declared.presentations.Presentation.{Presentation}
-use Rattle.witness.specs.Tracking.{by_order, letter_poly, values_of, HasPlaces, IsCanonicalPair, IsGradedPair, IsTrackedElement, IsWitnessOrder, Tracks}
+use Rattle.witness.specs.Tracking.{by_order, letter_poly, values_of, HasDegreesUpTo, HasPlaces, IsCanonicalPair, IsGradedPair, IsTrackedElement, IsWitnessOrder, Tracks}
 use Rattle.witness.specs.declared.tracked.Tracked.{Tracked}
-use Rattle.witness.specs.laws.Letters.{by_laws, by_places, element_weight, letter_uses_none}
+use Rattle.witness.specs.laws.Letters.{by_laws, by_places, by_small, element_weight, letter_uses_none}
 use Rattle.worked_rows.specs.Rings.{IsRing, IsIn, IsLowIn}
 use Rattle.worked_rows.specs.laws.Generators.{low_generators}
-use Rattle.worked_bases.specs.Elements.{ring_of, IsGeneratorElement, IsMade, IsNext, IsPair, UsesBelow}
+use Rattle.polynomial_text.specs.Degrees.{IsLow}
+use Rattle.worked_bases.specs.Elements.{ring_of, IsBasis, IsGeneratorElement, IsMade, IsNext, IsPair, UsesBelow}
+
+pub same_test : (a b : ℕ) → IsTrue (nat_eq a b) → a ≡ b
+same_test a b h = grind (arith, nat_tests)
+
+pub inside_test : (a b : ℕ) → IsTrue (nat_lt a b) → a < b
+inside_test a b h = grind (arith, nat_tests)
 
 pub positive_test : (d : ℕ) → IsTrue (nat_lt 0 d) → 0 < d
 positive_test d h = grind (arith, nat_tests)
@@ -75,3 +83,42 @@ module _ (p : Presentation WordField WeightOrder ℕ) (V : IsRing p) where
           omega arith;
     };
   }
+
+  pub letter_low : (w : WordOrder) (i : ℕ) → HasPlaces (i + 1) w → (h : Polynomial ℕ) → h ≡ letter_poly (residues p.field.modulus) i → IsLow (by_order w) h
+  letter_low w i l h e = subst (IsLow (by_order w)) (sym e) (by_small w i (omega arith), tt)
+
+  module _ (s : List (Tracked WordField ℕ)) where
+    -- an element of a list stands in each longer list
+    module _ (i : ℕ) (inside : i < length s) (x : Tracked WordField ℕ) (is : x ≡ get_or s i x) (more : List (Polynomial ℕ)) where
+      pub value_at : get_or (values_of s ++ more) (i + 1 - 1) [] ≡ x.value
+      value_at =
+          ap (λ j. get_or (values_of s ++ more) j []) (let e : i + 1 - 1 ≡ i = omega arith in e) ∙
+          (get_or_append_left (values_of s) more [] i (let n = length-map s (λ t. t.value) in omega arith) ∙
+          (get_or-map (λ t. t.value) s i x [] inside ∙ ap (λ t. t.value) (sym is)))
+
+      pub long_enough : i + 1 ≤ length (values_of s ++ more)
+      long_enough = let n = length-map s (λ t. t.value) in let m = length-append (values_of s) more in omega arith
+
+    module _ (t : Tracked WordField ℕ) (d : ℕ) (degree : degree_of (weight_order_of p.order) t.value ≡ d) where
+      pub push_order : (w v : WordOrder) → IsWitnessOrder (ring_of p) (values_of s) w → v.x_degrees.items ≡ w.x_degrees.items → v.s_degrees.items ≡ w.s_degrees.items ++ d ∷ [] →
+          IsWitnessOrder (ring_of p) (values_of (s ++ t ∷ [])) v
+      push_order w v h ex es = record {
+        no_x = ex ∙ h.no_x;
+        degrees = es ∙ (ap (λ ds. ds ++ d ∷ []) h.degrees ∙
+            (append_assoc (map (generator_degree (weight_order_of p.order)) p.generators.items) (map (degree_of (weight_order_of p.order)) (values_of s)) (d ∷ []) ∙
+            ap (λ ds. map (generator_degree (weight_order_of p.order)) p.generators.items ++ ds)
+            (sym (ap (map (degree_of (weight_order_of p.order))) (map-append (λ t. t.value) s (t ∷ [])) ∙
+            (map-append (degree_of (weight_order_of p.order)) (values_of s) (t.value ∷ []) ∙ ap (λ n. map (degree_of (weight_order_of p.order)) (values_of s) ++ n ∷ []) degree)))));
+      }
+
+    pub push_basis : (t : Tracked WordField ℕ) (w : WordOrder) (d : ℕ) → All (IsGeneratorElement p) s → IsNext p w (values_of s) d t →
+        IsWitnessOrder (ring_of p) (values_of (s ++ t ∷ [])) w → IsBasis p w (s ++ t ∷ [])
+    push_basis t w d each next h = record {
+      order = h;
+      elements = All-push (IsTrackedElement (ring_of p) (by_order w) (values_of (s ++ t ∷ []))) s t
+          (λ i z l. let g = each i z l in g.each (values_of (s ++ t ∷ [])) w h)
+          (subst (λ S. IsWitnessOrder (ring_of p) S w → IsTrackedElement (ring_of p) (by_order w) S t) (sym (map-append (λ t. t.value) s (t ∷ []))) (next.element (t.value ∷ [])) h);
+    }
+
+  pub low_degrees : (w : WordOrder) (h : Polynomial ℕ) → IsLow (by_order w) h → HasDegreesUpTo (residues p.field.modulus) (by_order w) 30000 h
+  low_degrees w h low m n = all_found (residues p.field.modulus) V.presentation.field (by_order w) (by_laws w) (λ m. let W : MonomialOrder = by_order w in W.degree m ≤ 30000) h low m n

@@ -5,7 +5,6 @@ ghost use Rattle.word_field.specs.Residues.{residues};
 ghost use Rattle.monomial_order.specs.declared.word_order.WordOrder.{WordOrder};
 ghost use Rattle.polynomials.specs.Polynomial.{Polynomial, AllAt, IsCanonical};
 ghost use Rattle.polynomial_text.specs.Degrees.{IsLow};
-ghost use Rattle.poly_core.specs.declared.place_names.Names.TheVariants.{Paired};
 ghost use Rattle.witness.specs.Tracking.{by_order, values_of, HasPlaces, IsWitnessOrder};
 ghost use Rattle.worked_rows.specs.Rings.{IsIn, IsRing};
 ghost use Rattle.worked_bases.specs.Elements.{ring_of, IsBasis, IsGeneratorElement, IsLowPair, IsMade, IsNext, IsPair, UsesBelow};
@@ -22,6 +21,9 @@ use worked_rows::rows::{ensure, judge, part};
 
 /// The generators x + y, x*y and x*y^2 over the field of 101 elements.
 const SUM_AND_PRODUCTS: &str = "subalgebra 1\nfield 101\nvars x y\nweights 1 1\norder lex\nideal 0\ngenerators 3\nx + y\nx*y\nx*y^2\nend\n";
+
+/// The names of the letters.
+const LETTERS: &str = "subalgebra 1\nfield 101\nvars g1 g2 g3 s1 s2 s3 s4\nweights 1 1 1 1 1 1 1\norder lex\nideal 0\ngenerators 0\nend\n";
 
 /// Elements, and the order of witnesses over them.
 #[derive(Drop)]
@@ -85,8 +87,9 @@ fn letter(
     ensures made { IfOk result (IsMade p.now w.now (values_of s.now) d) }
 {
     ensure(i < s.len(), "no such element")?;
-    ensure(degree(p, &s[i].value) == d, "another degree")?;
-    Ok(element(alloc, p, &s[i].value, i + 1)?)
+    let x = &s[i];
+    ensure(degree(p, &x.value) == d, "another degree")?;
+    Ok(element(alloc, p, &x.value, i + 1)?)
 }
 
 /// The product of two letters.
@@ -155,6 +158,29 @@ fn uses_below(terms: &[Term<u32>], degrees: &[u32], d: u32) -> bool
     }
 }
 
+/// The text of a witness.
+fn witness_text(alloc: Global, p: &Ring, h: &Poly<WordField>) -> Result<String, Fail>
+    requires { (w : WordOrder) × IsCanonical (residues p.now.field.modulus) (by_order w) h.now }
+{
+    let names = Names::Paired {
+        first: b'g',
+        count: 3,
+        second: b's',
+    };
+    Ok(String::from_utf8(Poly::write(alloc, &p.field, h, &names)?)?)
+}
+
+/// Compares the value and its witness with a text.
+fn judge_element(alloc: Global, p: &Ring, t: &Tracked<WordField>, text: &str) -> Result<(), Fail>
+    requires valid { IsRing p.now }
+    requires pair { (w : WordOrder) × IsPair p.now w t.now }
+{
+    let value = text_of(alloc, p, &t.value)?;
+    let by = witness_text(alloc, p, &t.by)?;
+    let found = format!(in alloc; "{value} by {by}")?;
+    judge(text, found.as_str())
+}
+
 /// The element s1*s3 + 100*s2^2, which is x*y^3.
 fn fourth(
     alloc: Global,
@@ -170,9 +196,11 @@ fn fourth(
     let a = letter(alloc, p, w, s, 0, 1)?;
     let b = letter(alloc, p, w, s, 1, 2)?;
     let c = letter(alloc, p, w, s, 2, 3)?;
+    judge_element(alloc, p, &a, "x + y by s1")?;
     let first = letter_product(alloc, p, w, &a, &c)?;
     let second = letter_product(alloc, p, w, &b, &b)?;
     let t = difference(alloc, p, w, &first, &second)?;
+    judge_element(alloc, p, &t, "x*y^3 by s1*s3 + 100*s2^2")?;
     ensure(degree(p, &t.value) == 4, "another degree")?;
     ensure(uses_below(t.by.terms(), w.s_degrees.as_slice(), 4), "a letter of no smaller degree")?;
     Ok(t)
@@ -191,61 +219,41 @@ fn four_elements(alloc: Global, p: &Ring) -> Result<Basis, Fail>
     Ok(Basis { order, elements })
 }
 
-/// The names of the letters.
-fn names() -> Names
-    ensures { result ≡ Paired 103 3 115 }
-{
-    Names::Paired {
-        first: b'g',
-        count: 3,
-        second: b's',
-    }
-}
-
-/// The witness of a text.
-fn witness(alloc: Global, p: &Ring, w: &WordOrder, text: &str) -> Result<Poly<WordField>, Fail>
+/// The witness of a text. The letters are named as the variables of the other presentation.
+fn witness(
+    alloc: Global,
+    p: &Ring,
+    letters: &Ring,
+    w: &WordOrder,
+    text: &str,
+) -> Result<Poly<WordField>, Fail>
+    requires { IsRing letters.now }
     ensures canonical { IfOk result (IsCanonical (residues p.now.field.modulus) (by_order w.now)) }
     ensures low { IfOk result (IsLow (by_order w.now)) }
 {
-    ensure(w.places() <= 7, "more letters")?;
-    match read_poly(alloc, &p.field, w, &names(), text.as_bytes()) {
+    ensure(w.places() == letters.order.places(), "other letters")?;
+    match read_poly(alloc, &p.field, w, &letters.names, text.as_bytes()) {
         Ok(h) => Ok(h),
         Err(_) => Err(Fail::new("no witness")),
     }
-}
-
-/// The text of a witness.
-fn witness_text(alloc: Global, p: &Ring, h: &Poly<WordField>) -> Result<String, Fail>
-    requires { (w : WordOrder) × IsCanonical (residues p.now.field.modulus) (by_order w) h.now }
-{
-    Ok(String::from_utf8(Poly::write(alloc, &p.field, h, &names())?)?)
 }
 
 /// The expansion of the witness of a text.
 fn expansion(
     alloc: Global,
     p: &Ring,
+    letters: &Ring,
     w: &WordOrder,
     s: &[Tracked<WordField>],
     text: &str,
 ) -> Result<String, Fail>
     requires valid { IsRing p.now }
+    requires letters { IsRing letters.now }
     requires basis { IsBasis p.now w.now s.now }
 {
-    let h = witness(alloc, p, w, text)?;
+    let h = witness(alloc, p, letters, w, text)?;
     let e = expand(alloc, p, w, s, &h)?;
     witness_text(alloc, p, &e)
-}
-
-/// The value and the witness of the fourth element.
-fn fourth_text(alloc: Global, p: &Ring, s: &[Tracked<WordField>]) -> Result<String, Fail>
-    requires valid { IsRing p.now }
-    requires basis { (w : WordOrder) × IsBasis p.now w s.now }
-{
-    ensure(s.len() == 4, "other elements")?;
-    let value = text_of(alloc, p, &s[3].value)?;
-    let by = witness_text(alloc, p, &s[3].by)?;
-    Ok(format!(in alloc; "{value} by {by}")?)
 }
 
 #[test]
@@ -253,8 +261,7 @@ fn witnesses_in_the_generators_alone(rt: HostRuntime) -> Result<(), Fail> {
     let alloc = rt.alloc();
     let p = ring(alloc, SUM_AND_PRODUCTS)?;
     let b = four_elements(alloc, &p)?;
-    let found = fourth_text(alloc, &p, b.elements.as_slice())?;
-    judge("x*y^3 by s1*s3 + 100*s2^2", found.as_str())?;
+    let letters = ring(alloc, LETTERS)?;
     for row in [
         "s1*s3 + 100*s2^2 | g1*g3 + 100*g2^2",
         // two steps: a letter of degree 4, and letters of smaller degrees
@@ -268,7 +275,8 @@ fn witnesses_in_the_generators_alone(rt: HostRuntime) -> Result<(), Fail> {
         "s1^2*s3^2 + s2^3 + 5 | g1^2*g3^2 + g2^3 + 5",
         "0 | 0",
     ] {
-        judge(row, expansion(alloc, &p, &b.order, b.elements.as_slice(), part(row, 0))?.as_str())?;
+        let found = expansion(alloc, &p, &letters, &b.order, b.elements.as_slice(), part(row, 0))?;
+        judge(row, found.as_str())?;
     }
     Ok(())
 }
