@@ -20,10 +20,12 @@ use worked_rows::rings::{Ring, degree, ring, text_of};
 use worked_rows::rows::{ensure, judge, part};
 
 /// The generators x + y, x*y and x*y^2 over the field of 101 elements.
-const SUM_AND_PRODUCTS: &str = "subalgebra 1\nfield 101\nvars x y\nweights 1 1\norder lex\nideal 0\ngenerators 3\nx + y\nx*y\nx*y^2\nend\n";
+const SUM_AND_PRODUCTS: &str =
+    "subalgebra 1\nfield 101\nvars x y\nweights 1 1\norder lex\nideal 0\ngenerators 3\nx + y\nx*y\nx*y^2\nend\n";
 
 /// The names of the letters.
-const LETTERS: &str = "subalgebra 1\nfield 101\nvars g1 g2 g3 s1 s2 s3 s4\nweights 1 1 1 1 1 1 1\norder lex\nideal 0\ngenerators 0\nend\n";
+const LETTERS: &str =
+    "subalgebra 1\nfield 101\nvars g1 g2 g3 s1 s2 s3 s4\nweights 1 1 1 1 1 1 1\norder lex\nideal 0\ngenerators 0\nend\n";
 
 /// Elements, and the order of witnesses over them.
 #[derive(Drop)]
@@ -202,7 +204,10 @@ fn fourth(
     let t = difference(alloc, p, w, &first, &second)?;
     judge_element(alloc, p, &t, "x*y^3 by s1*s3 + 100*s2^2")?;
     ensure(degree(p, &t.value) == 4, "another degree")?;
-    ensure(uses_below(t.by.terms(), w.s_degrees.as_slice(), 4), "a letter of no smaller degree")?;
+    ensure(
+        uses_below(t.by.terms(), w.s_degrees.as_slice(), 4),
+        "a letter of no smaller degree",
+    )?;
     Ok(t)
 }
 
@@ -275,7 +280,14 @@ fn witnesses_in_the_generators_alone(rt: HostRuntime) -> Result<(), Fail> {
         "s1^2*s3^2 + s2^3 + 5 | g1^2*g3^2 + g2^3 + 5",
         "0 | 0",
     ] {
-        let found = expansion(alloc, &p, &letters, &b.order, b.elements.as_slice(), part(row, 0))?;
+        let found = expansion(
+            alloc,
+            &p,
+            &letters,
+            &b.order,
+            b.elements.as_slice(),
+            part(row, 0),
+        )?;
         judge(row, found.as_str())?;
     }
     Ok(())
