@@ -1,2 +1,3 @@
 mod Elements
+mod HomogeneousElements
 mod WordsTo

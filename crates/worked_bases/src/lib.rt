@@ -3,4 +3,6 @@
 #![tactic(auto)]
 
 #[cfg(test)]
+mod expansions;
+#[cfg(test)]
 mod values;

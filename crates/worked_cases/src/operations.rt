@@ -1,13 +1,12 @@
 //! Operations of polynomials in x and y over the field of 101 elements.
 ghost use Rattle.std.specs.Prelude.{◌≡◌, ◌≤◌, All, IfOk, IfSome, IsTrue};
-ghost use Rattle.polynomials.specs.Polynomial.{degree_of};
 ghost use Rattle.monomial_order.specs.Limits.{exponent_max};
 ghost use Rattle.poly_core.specs.Presentation.{weight_order_of};
 ghost use Rattle.polynomials.specs.Value.{value_degree, HasSmallValue};
 ghost use Rattle.worked_rows.specs.Rings.{IsIn, IsLowIn, IsRing};
 
 use worked_rows::monomials::monomial;
-use worked_rows::rings::{Ring, X_AND_Y, polynomial, polynomials, ring, text_of};
+use worked_rows::rings::{Ring, X_AND_Y, degree, polynomial, polynomials, ring, text_of};
 use worked_rows::rows::{ensure, judge, number, part};
 use monomial_order::{Order, Term};
 use poly_core::{NameTable, Poly};
@@ -94,17 +93,6 @@ fn of_one(
         "monic" => Ok(Poly::monic(alloc, &p.field, a)?),
         "copied" => Ok(a.copy(alloc)?),
         _ => Err(Fail::new("no operation")),
-    }
-}
-
-/// The degree of a polynomial, and 0 for zero.
-fn degree(p: &Ring, a: &Poly<WordField>) -> u32
-    requires { IsIn p.now a.now }
-    ensures { result ≡ degree_of (weight_order_of p.now.order) a.now }
-{
-    match a.lead() {
-        Some(t) => p.order.degree(&t.at),
-        None => 0,
     }
 }
 

@@ -1,9 +1,11 @@
 //! Polynomials of a presentation as texts.
-ghost use Rattle.std.specs.Prelude.{All, IfOk};
+ghost use Rattle.std.specs.Prelude.{◌≡◌, All, IfOk};
+ghost use Rattle.polynomials.specs.Polynomial.{degree_of};
+ghost use Rattle.poly_core.specs.Presentation.{weight_order_of};
 ghost use Rattle.worked_rows.specs.Rings.{IsIn, IsLowIn, IsRing};
 
 use crate::rows::ensure;
-use monomial_order::WeightOrder;
+use monomial_order::{Order, WeightOrder};
 use poly_core::{Poly, Presentation};
 use presentation_text::{TEXT_MAX, read, read_polys};
 use std::alloc::Global;
@@ -46,6 +48,17 @@ pub fn polynomial(alloc: Global, p: &Ring, text: &str) -> Result<Poly<WordField>
     match list.pop() {
         Some(a) => Ok(a),
         None => Err(Fail::new("no polynomial")),
+    }
+}
+
+/// The degree of a polynomial, and 0 for zero.
+pub fn degree(p: &Ring, a: &Poly<WordField>) -> u32
+    requires { IsIn p.now a.now }
+    ensures { result ≡ degree_of (weight_order_of p.now.order) a.now }
+{
+    match a.lead() {
+        Some(t) => p.order.degree(&t.at),
+        None => 0,
     }
 }
 

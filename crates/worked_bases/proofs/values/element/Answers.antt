@@ -3,7 +3,7 @@ use Rattle.polynomials.specs.Polynomial.{IsCanonical, IsZeroOrHomogeneous}
 use Rattle.polynomials.specs.Subalgebra.{IsNormalForm}
 use Rattle.word_values.specs.Values.{IsHomogeneousElement}
 use Rattle.worked_bases.specs.Rings.{of_ring}
-use Rattle.worked_bases.proofs.Elements.{homogeneous_element}
+use Rattle.worked_bases.proofs.HomogeneousElements.{homogeneous_element}
 use Rattle.worked_bases.proofs.values.element.Goals as goal
 
 pub returns : goal.returns

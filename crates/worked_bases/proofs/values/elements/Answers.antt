@@ -2,7 +2,7 @@ use Rattle.std.proofs.Common.{sym, subst}
 use Rattle.witness.specs.Tracking.{values_of}
 use Rattle.word_values.specs.Values.{AreHomogeneousElements}
 use Rattle.worked_bases.specs.Rings.{of_ring}
-use Rattle.worked_bases.proofs.Elements.{homogeneous_more}
+use Rattle.worked_bases.proofs.HomogeneousElements.{homogeneous_more}
 use Rattle.worked_bases.proofs.values.elements.Goals as goal
 
 pub texts-preserved : goal.texts-preserved

@@ -4,7 +4,7 @@ use Rattle.std.proofs.lemmas.List.Elements.{Contains-get_or}
 use Rattle.monomial_order.specs.laws.Lists.{contains_map}
 use Rattle.polynomials.specs.Polynomial.{lead_monomial}
 use Rattle.worked_bases.specs.Rings.{of_ring}
-use Rattle.worked_bases.proofs.Elements.{element_degree}
+use Rattle.worked_bases.proofs.HomogeneousElements.{element_degree}
 use Rattle.worked_bases.proofs.values.letter_degree.Goals as goal
 
 pub degree-requires : goal.degree-requires

@@ -3,7 +3,8 @@ use Rattle.word_field.specs.Residues.{residues}
 use Rattle.polynomials.specs.Polynomial.{IsCanonical}
 use Rattle.poly_core.specs.Presentation.{weight_order_of}
 use Rattle.polynomial_text.specs.Degrees.{IsLow}
-use Rattle.worked_cases.proofs.LowPairs.{low_generators, low_letters, low_pair}
+use Rattle.worked_rows.specs.laws.Generators.{low_generators}
+use Rattle.worked_cases.proofs.LowPairs.{low_letters, low_pair}
 use Rattle.worked_cases.proofs.witnesses.generator_of.Goals as goal
 
 pub returns : goal.returns

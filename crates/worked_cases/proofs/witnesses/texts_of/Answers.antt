@@ -1,7 +1,7 @@
 use Rattle.word_field.specs.Residues.{residues}
 use Rattle.poly_core.specs.laws.Text.{decreasing_values}
 use Rattle.witness.specs.Tracking.{by_order}
-use Rattle.worked_cases.proofs.LowPairs.{paired_named}
+use Rattle.worked_rows.specs.laws.PairedNames.{paired_named}
 use Rattle.worked_cases.proofs.witnesses.texts_of.Goals as goal
 
 pub write-requires-clause-values : goal.write-requires-clause-values

@@ -3,7 +3,7 @@ use Rattle.monomial_order.specs.laws.Comparing.{degree_one}
 use Rattle.monomial_order.specs.laws.Ties.{weight_laws}
 use Rattle.polynomials.specs.Polynomial.{degree_of}
 use Rattle.poly_core.specs.Presentation.{weight_order_of}
-use Rattle.worked_cases.proofs.operations.degree.Goals as goal
+use Rattle.worked_rows.proofs.rings.degree.Goals as goal
 
 pub returns-in-None : goal.returns-in-None
 returns-in-None c =
