@@ -1,12 +1,8 @@
 pub mod Results
 pub mod Members
+pub mod Pairs
 pub mod Skipping
 pub mod LetterLemmas
-pub mod LeastWords
 pub mod IncreasingLists
-pub mod ImageLoop
-pub mod EnumerationLemmas
-pub mod Degrees
-pub mod TableSteps
-pub mod Pairs
-pub mod OtherLeads
+pub mod ExactRules
+pub mod DegreeStep

@@ -1,0 +1,49 @@
+-- One degree of a completion.
+use Rattle.std.specs.Prelude.{◌≡◌, ℕ, ◌≤◌, ◌<◌, List, [], ◌++◌, length, slice_index_or, Contains, Some, None}
+use Rattle.monomial_order.specs.Monomial.{Exponents, Divides, IsMultiple, least_common_multiple, weighted_degree}
+use Rattle.monomial_order.specs.MonomialOrder.{MonomialOrder}
+use Rattle.word_laws.specs.Words.{Letters, word_order_of}
+use Rattle.word_rewriting.specs.Rewriting.{WordOrZero, RewriteRule, Rewrites, IsInNormalForm}
+use Rattle.word_rewriting.specs.Completeness.{AreRewriteRules}
+use Rattle.word_rewriting.specs.Completion.{Orients}
+use Rattle.word_rewriting.specs.laws.Confluence.{IsBelow}
+
+abbrev pub no_rule : RewriteRule
+no_rule = record { left = []; right = None }
+
+-- the rule at an index, counted from 0
+abbrev pub rule_at : List RewriteRule → ℕ → RewriteRule
+rule_at R i = slice_index_or R i no_rule
+
+-- the degree of the pair of the rules at two indexes
+abbrev pub pair_degree : MonomialOrder → List RewriteRule → ℕ → ℕ → ℕ
+pair_degree O R i j = O.degree (least_common_multiple (rule_at R i).left (rule_at R j).left)
+
+-- S has the rules of R, of smaller degrees, and further ones of degree d, whose pairs are above d
+pub record IsStep (L : Letters) (Z : List Exponents) (d : ℕ) (R S : List RewriteRule) : Type 0 where
+  pub more : List RewriteRule
+  pub whole : S ≡ R ++ more
+  pub rules : AreRewriteRules (IsMultiple Z) L S
+  pub degree : (r : RewriteRule) → Contains more r → (word_order_of L).degree r.left ≡ d
+  pub apart : (r s : RewriteRule) → Contains S r → Contains S s → Divides s.left r.left → s.left ≡ r.left
+  pub above : (i j : ℕ) → i < j → length R ≤ j → j < length S → d < pair_degree (word_order_of L) S i j
+
+-- both rules rewrite to zero
+abbrev pub AreBothZero : RewriteRule → RewriteRule → Type 0
+AreBothZero r s = (r.right ≡ None) × (s.right ≡ None)
+
+-- each zero of degree d among these rewrites to zero
+abbrev pub ZerosVanish : Letters → ℕ → List RewriteRule → List Exponents → Type 0
+ZerosVanish L d S zeros = (z : Exponents) → Contains zeros z → weighted_degree L.degrees z ≡ d → Rewrites S (Some z) None
+
+-- one of u and v is less, or zero, and the rule rewrites the other to it
+pub record IsOriented (O : MonomialOrder) (u v : WordOrZero) (t : RewriteRule) : Type 0 where
+  pub orients : Orients t u v
+  pub below : IsBelow O t.left t.right
+
+-- the same left sides, with right sides that are normal forms of the old ones for all rules before index i
+pub record IsCleaned (L : Letters) (Z : List Exponents) (S T : List RewriteRule) (i : ℕ) : Type 0 where
+  pub number : length T ≡ length S
+  pub lefts : (k : ℕ) → (rule_at T k).left ≡ (rule_at S k).left
+  pub rules : AreRewriteRules (IsMultiple Z) L T
+  pub normal : (k : ℕ) → k < i → IsInNormalForm S (rule_at T k).right
