@@ -21,8 +21,9 @@ use Rattle.word_rewriting.specs.laws.Criterion.{decreasing_rules}
 use Rattle.word_rewriting.specs.laws.NormalForms.{pair_images, rewrites_image}
 use Rattle.word_rewriting.specs.laws.Pairs.{joinable_pair, pairs_enough}
 use Rattle.word_rewriting.specs.laws.Rewriting.{joinable_itself, more_joinable, more_rewrites, rewrites_trans, rule_rewrites}
+use Rattle.word_rules.specs.Rules.{no_rule, rule_at}
 use Rattle.toric_ideal.specs.Rewriting.{AreExactRules}
-use Rattle.toric_ideal.specs.Step.{no_rule, rule_at, pair_degree, AreBothZero, IsCleaned, IsOriented, IsStep, ZerosVanish}
+use Rattle.toric_ideal.specs.Step.{pair_degree, AreBothZero, IsCleaned, IsOriented, IsStep, ZerosVanish}
 
 module _ (L : Letters) (H : AreLetters L) (Z : List Exponents) (in_x : AreInX L Z) where
   -- a word with the image of an oriented pair is the left side of a rule
@@ -177,8 +178,8 @@ module _ (L : Letters) (H : AreLetters L) (Z : List Exponents) (in_x : AreInX L 
         let x = oriented_rule m u v t (rewrites_image (IsMultiple Z) L H S k.rules (multiple_closed (length L.degrees) Z) hu.rewrites m i.0)
         (rewrites_image (IsMultiple Z) L H S k.rules (multiple_closed (length L.degrees) Z) hv.rewrites m i.1) o in
         let n : IsInNormalForm S (Some t.left) = ⊎_elim (λ e. subst (IsInNormalForm S) (sym e.0) hu.normal) (λ e. subst (IsInNormalForm S) (sym e.0) hv.normal) o.orients in
-        let e : (word_order_of L).degree t.left ≡ d = sym (degree_image L H t.left) ∙ (ap (word_order_of L).degree x.2.1 ∙ (degree_image L H (lcm r.left s.left) ∙ dp)) in
-        (step_push S t k (x.0, x.2.0) n e, joinable_pair (S ++ t ∷ []) r s a b p (oriented_joins S t a b u v o.orients hu.rewrites hv.rewrites))
+        let e : (word_order_of L).degree t.left ≡ d = sym (degree_image L H t.left) ∙ (ap (word_order_of L).degree x.2 ∙ (degree_image L H (lcm r.left s.left) ∙ dp)) in
+        (step_push S t k (x.0, x.1) n e, joinable_pair (S ++ t ∷ []) r s a b p (oriented_joins S t a b u v o.orients hu.rewrites hv.rewrites))
 
     -- a zero of degree d has a rule for its normal form
     pub zero_pushed : (S : List RewriteRule) → IsStep L Z d R S → (z u : Exponents) → Contains Z z → weighted_degree L.degrees z ≡ d → IsNormalForm S (Some z) (Some u) →

@@ -7,13 +7,8 @@ use Rattle.word_rewriting.specs.Rewriting.{WordOrZero, RewriteRule, Rewrites, Is
 use Rattle.word_rewriting.specs.Completeness.{AreRewriteRules}
 use Rattle.word_rewriting.specs.Completion.{Orients}
 use Rattle.word_rewriting.specs.laws.Confluence.{IsBelow}
+use Rattle.word_rules.specs.Rules.{rule_at}
 
-abbrev pub no_rule : RewriteRule
-no_rule = record { left = []; right = None }
-
--- the rule at an index, counted from 0
-abbrev pub rule_at : List RewriteRule → ℕ → RewriteRule
-rule_at R i = slice_index_or R i no_rule
 
 -- the degree of the pair of the rules at two indexes
 abbrev pub pair_degree : MonomialOrder → List RewriteRule → ℕ → ℕ → ℕ
