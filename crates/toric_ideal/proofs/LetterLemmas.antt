@@ -1,7 +1,8 @@
 -- The letters of an alphabet.
-use Rattle.std.proofs.Common.{◌≡◌, ℕ, ◌≤◌, ap, subst, List, [], ◌∷◌, true, arith, ⊎_elim}
+use Rattle.std.proofs.Common.{◌≡◌, ℕ, ◌≤◌, ap, subst, List, [], ◌∷◌, ◌++◌, length, true, arith, ⊎_elim}
 use Rattle.std.specs.Prelude.{Contains}
-use Rattle.monomial_order.specs.Monomial.{weighted_degree}
+use Rattle.monomial_order.specs.Monomial.{weighted_degree, IsMonomial}
+use Rattle.word_laws.specs.laws.Images.{weighted_front}
 use Rattle.monomial_order.specs.laws.Monomial.{weighted_nil}
 use Rattle.monomial_order.specs.Ranges.{all_between}
 use Rattle.monomial_order.specs.laws.Orders.{between_first, between_rest}
@@ -30,3 +31,8 @@ alphabet_letters a h = leads_letters a.order.x_degrees.items a.leads.items a.ord
 -- the order of an alphabet is that of its words
 pub alphabet_order : (a : Alphabet) → IsAlphabet a → word_order a.order.x_degrees.items a.order.s_degrees.items ≡ word_order_of (letters_of a)
 alphabet_order a h = ap (word_order a.order.x_degrees.items) h.lead_degrees
+
+-- a monomial in the x has the same degree as a word
+pub x_degree : (a : Alphabet) → IsAlphabet a → (z : List ℕ) → IsMonomial (length a.order.x_degrees.items) z →
+    weighted_degree (a.order.x_degrees.items ++ a.order.s_degrees.items) z ≡ weighted_degree a.order.x_degrees.items z
+x_degree a h z k = weighted_front a.order.x_degrees.items a.order.s_degrees.items z k.within

@@ -6,3 +6,5 @@ pub mod LetterLemmas
 pub mod IncreasingLists
 pub mod ExactRules
 pub mod DegreeStep
+pub mod JoiningPairs
+pub mod Growing

@@ -4,3 +4,4 @@ pub mod Increasing
 pub mod Listing
 pub mod Rewriting
 pub mod Step
+pub mod Queue

@@ -1,6 +1,7 @@
 -- One degree of a completion.
-use Rattle.std.specs.Prelude.{◌≡◌, ℕ, ◌≤◌, ◌<◌, List, [], ◌++◌, length, slice_index_or, Contains, Some, None}
+use Rattle.std.specs.Prelude.{◌≡◌, ℕ, ◌+◌, ◌≤◌, ◌<◌, List, ◌++◌, length, take, Contains, Some, None}
 use Rattle.monomial_order.specs.Monomial.{Exponents, Divides, IsMultiple, least_common_multiple, weighted_degree}
+use Rattle.monomial_order.specs.Limits.{degree_max}
 use Rattle.monomial_order.specs.MonomialOrder.{MonomialOrder}
 use Rattle.word_laws.specs.Words.{Letters, word_order_of}
 use Rattle.word_rewriting.specs.Rewriting.{WordOrZero, RewriteRule, Rewrites, IsInNormalForm}
@@ -8,6 +9,7 @@ use Rattle.word_rewriting.specs.Completeness.{AreRewriteRules}
 use Rattle.word_rewriting.specs.Completion.{Orients}
 use Rattle.word_rewriting.specs.laws.Confluence.{IsBelow}
 use Rattle.word_rules.specs.Rules.{rule_at}
+use Rattle.toric_ideal.specs.Rewriting.{AreExactRules}
 
 
 -- the degree of the pair of the rules at two indexes
@@ -42,3 +44,28 @@ pub record IsCleaned (L : Letters) (Z : List Exponents) (S T : List RewriteRule)
   pub lefts : (k : ℕ) → (rule_at T k).left ≡ (rule_at S k).left
   pub rules : AreRewriteRules (IsMultiple Z) L T
   pub normal : (k : ℕ) → k < i → IsInNormalForm S (rule_at T k).right
+
+-- What a degree above c of a completion holds, with the first rules, so many, those of degree at most c.
+pub record IsGrowing (L : Letters) (Z : List Exponents) (c first : ℕ) (S : List RewriteRule) : Type 0 where
+  pub within : first ≤ length S
+  pub exact : AreExactRules L Z c (take first S)
+  pub step : IsStep L Z (c + 1) (take first S) S
+
+-- the first rules, so many, stay
+pub record KeepsFirst (first : ℕ) (old new : List RewriteRule) : Type 0 where
+  pub within : first ≤ length new
+  pub same : take first new ≡ take first old
+
+-- no rule goes
+abbrev pub KeepsRules : List RewriteRule → List RewriteRule → Type 0
+KeepsRules old new = (r : RewriteRule) → Contains old r → Contains new r
+
+-- two of the first rules have a pair of degree d
+pub record IsPairAt (O : MonomialOrder) (d first : ℕ) (S : List RewriteRule) (i j : ℕ) : Type 0 where
+  pub rising : i < j
+  pub below : j < first
+  pub degree : pair_degree O S i j ≡ d
+
+-- the members are monomials of degrees that the program computes with
+abbrev pub AreSmallZeros : Letters → List Exponents → Type 0
+AreSmallZeros L zeros = (z : Exponents) → Contains zeros z → weighted_degree L.degrees z ≤ degree_max

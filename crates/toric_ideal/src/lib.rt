@@ -3,6 +3,8 @@
 
 mod alphabet;
 mod copies;
+mod degree_step;
+mod index_pair;
 mod rule;
 
 pub use rule::Rule;
