@@ -78,3 +78,18 @@ module _ (O : MonomialOrder) (c first : ℕ) where
         r)
         (g.pairs i j l m (sym (same_degree O first S T k i j li m) ∙ e));
   }
+
+pub keeps_first_trans : (first : ℕ) (R S T : List RewriteRule) → KeepsFirst first R S → KeepsFirst first S T → KeepsFirst first R T
+keeps_first_trans first R S T a b = record { within = b.within; same = b.same ∙ a.same }
+
+pub keeps_rules_trans : (R S T : List RewriteRule) → KeepsRules R S → KeepsRules S T → KeepsRules R T
+keeps_rules_trans R S T a b r h = b r (a r h)
+
+pub keeps_same : (first : ℕ) (S : List RewriteRule) → first ≤ length S → KeepsFirst first S S
+keeps_same first S l = record { within = l; same = refl }
+
+-- at the end no pair of the degree is left
+pub joining_done : (O : MonomialOrder) (c first : ℕ) (S : List RewriteRule) (queue new : List (List IndexPair)) → new ≡ queue → list_of queue (c + 1) ≡ [] → IsJoining O c first S queue →
+    IsQueued O (c + 1) first S new × JoinsOrLists O (c + 1) first S S []
+joining_done O c first S queue new e none g =
+    (subst (IsQueued O (c + 1) first S) (sym e) g.later, subst (JoinsOrLists O (c + 1) first S S) none g.pairs)

@@ -7,4 +7,5 @@ pub mod IncreasingLists
 pub mod ExactRules
 pub mod DegreeStep
 pub mod JoiningPairs
+pub mod Cleaning
 pub mod Growing

@@ -1,5 +1,5 @@
 -- One degree of a completion.
-use Rattle.std.specs.Prelude.{◌≡◌, ℕ, ◌+◌, ◌≤◌, ◌<◌, List, ◌++◌, length, take, Contains, Some, None}
+use Rattle.std.specs.Prelude.{◌≡◌, ◌≢◌, ℕ, ◌+◌, ◌≤◌, ◌<◌, List, ◌++◌, length, take, Contains, Some, None}
 use Rattle.monomial_order.specs.Monomial.{Exponents, Divides, IsMultiple, least_common_multiple, weighted_degree}
 use Rattle.monomial_order.specs.Limits.{degree_max}
 use Rattle.monomial_order.specs.MonomialOrder.{MonomialOrder}
@@ -69,3 +69,16 @@ pub record IsPairAt (O : MonomialOrder) (d first : ℕ) (S : List RewriteRule) (
 -- the members are monomials of degrees that the program computes with
 abbrev pub AreSmallZeros : Letters → List Exponents → Type 0
 AreSmallZeros L zeros = (z : Exponents) → Contains zeros z → weighted_degree L.degrees z ≤ degree_max
+
+-- the right side at an index is rewritten to its normal form
+pub record IsRewrittenAt (L : Letters) (Z : List Exponents) (S T : List RewriteRule) (i : ℕ) : Type 0 where
+  pub number : length T ≡ length S
+  pub lefts : (k : ℕ) → (rule_at T k).left ≡ (rule_at S k).left
+  pub others : (k : ℕ) → k ≢ i → rule_at T k ≡ rule_at S k
+  pub rules : AreRewriteRules (IsMultiple Z) L T
+  pub normal : IsInNormalForm T (rule_at T i).right
+
+-- rules of words whose degrees the program computes with
+pub record AreSmallRules (L : Letters) (Z : List Exponents) (S : List RewriteRule) : Type 0 where
+  pub rules : AreRewriteRules (IsMultiple Z) L S
+  pub small : (r : RewriteRule) → Contains S r → (word_order_of L).degree r.left ≤ degree_max

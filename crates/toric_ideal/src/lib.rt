@@ -5,6 +5,7 @@ mod alphabet;
 mod copies;
 mod degree_step;
 mod index_pair;
+mod right_sides;
 mod rule;
 
 pub use rule::Rule;
