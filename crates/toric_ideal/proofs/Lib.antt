@@ -8,4 +8,6 @@ pub mod ExactRules
 pub mod DegreeStep
 pub mod JoiningPairs
 pub mod Cleaning
+pub mod Grown
+pub mod QueuedPairs
 pub mod Growing

@@ -3,7 +3,7 @@ use Rattle.std.specs.Prelude.{◌≡◌, ◌≢◌, ℕ, ◌+◌, ◌≤◌, ◌
 use Rattle.monomial_order.specs.Monomial.{Exponents, Divides, IsMultiple, least_common_multiple, weighted_degree}
 use Rattle.monomial_order.specs.Limits.{degree_max}
 use Rattle.monomial_order.specs.MonomialOrder.{MonomialOrder}
-use Rattle.word_laws.specs.Words.{Letters, word_order_of}
+use Rattle.word_laws.specs.Words.{Letters, word_order_of, IsWord}
 use Rattle.word_rewriting.specs.Rewriting.{WordOrZero, RewriteRule, Rewrites, IsInNormalForm}
 use Rattle.word_rewriting.specs.Completeness.{AreRewriteRules}
 use Rattle.word_rewriting.specs.Completion.{Orients}
@@ -82,3 +82,17 @@ pub record IsRewrittenAt (L : Letters) (Z : List Exponents) (S T : List RewriteR
 pub record AreSmallRules (L : Letters) (Z : List Exponents) (S : List RewriteRule) : Type 0 where
   pub rules : AreRewriteRules (IsMultiple Z) L S
   pub small : (r : RewriteRule) → Contains S r → (word_order_of L).degree r.left ≤ degree_max
+
+-- The rules to the degree c + 1: those of S, and further ones of this degree.
+pub record IsGrown (L : Letters) (Z : List Exponents) (c : ℕ) (S T : List RewriteRule) : Type 0 where
+  pub exact : AreExactRules L Z (c + 1) T
+  pub keeps : KeepsFirst (length S) S T
+  pub fresh : (k : ℕ) → length S ≤ k → k < length T → (word_order_of L).degree (rule_at T k).left ≡ c + 1
+
+-- the leads have degrees of at most c
+abbrev pub HaveDegreesTo : ℕ → Letters → Type 0
+HaveDegreesTo c L = (m : Exponents) → Contains L.leads m → weighted_degree L.degrees m ≤ c
+
+-- the left sides are words whose degrees the program computes with
+abbrev pub AreSmallWords : Letters → List RewriteRule → Type 0
+AreSmallWords L S = (r : RewriteRule) → Contains S r → IsWord L r.left × ((word_order_of L).degree r.left ≤ degree_max)

@@ -1,5 +1,5 @@
 //! One degree of a completion: the rules for its zeros and its pairs.
-ghost use Rattle.std.specs.Prelude.{◌≡◌, ◌≤◌, ◌+◌, [], Some, None, OnOk, IfSome, IsNone, Contains};
+ghost use Rattle.std.specs.Prelude.{◌≡◌, ◌≤◌, ◌+◌, [], length, Some, None, OnOk, IfSome, IsNone, Contains};
 ghost use Rattle.monomial_order.specs.Limits.{degree_max};
 ghost use Rattle.monomial_order.specs.Monomial.{weighted_degree};
 ghost use Rattle.word_laws.specs.Words.{word_order_of};
@@ -7,13 +7,14 @@ ghost use Rattle.word_rewriting.specs.Rewriting.{HasJoinablePair, Rewrites};
 ghost use Rattle.word_rewriting.specs.Completeness.{AreInX};
 ghost use Rattle.word_rules.specs.Rules.{rule_at, IsSmallWord};
 ghost use Rattle.toric_ideal.specs.Alphabet.{letters_of, IsAlphabet};
-ghost use Rattle.toric_ideal.specs.Rewriting.{rewrite_rule};
+ghost use Rattle.toric_ideal.specs.Rewriting.{rewrite_rule, AreExactRules};
 ghost use Rattle.toric_ideal.specs.Queue.{IsQueued, JoinsOrLists};
-ghost use Rattle.toric_ideal.specs.Step.{AreSmallZeros, IsGrowing, IsOriented, IsPairAt, KeepsFirst, KeepsRules, ZerosVanish};
+ghost use Rattle.toric_ideal.specs.Step.{AreSmallZeros, HaveDegreesTo, IsGrowing, IsGrown, IsOriented, IsPairAt, KeepsFirst, KeepsRules, ZerosVanish};
 
 use crate::Rule;
 use crate::alphabet::Alphabet;
 use crate::index_pair::IndexPair;
+use crate::right_sides::rewrite_right_sides;
 use degree_queue::DegreeQueue;
 use monomial_order::{Memory, Monomial, Order};
 use std::alloc::Global;
@@ -172,4 +173,31 @@ fn join_pairs(
         )?;
     }
     Ok(())
+}
+
+/// Makes the rules of the degree c + 1.
+pub(crate) fn grow(
+    alloc: Global,
+    alphabet: &Alphabet,
+    zeros: &[Monomial],
+    c: u32,
+    table: &mut RuleTable,
+    pairs: &mut DegreeQueue<IndexPair>,
+) -> Result<(), Memory>
+    requires alphabet { IsAlphabet alphabet.now }
+    requires zeros { AreInX (letters_of alphabet.now) zeros.now }
+    requires degrees { AreSmallZeros (letters_of alphabet.now) zeros.now }
+    requires leads { HaveDegreesTo c (letters_of alphabet.now) }
+    requires small { c + 1 ≤ degree_max }
+    requires exact { AreExactRules (letters_of alphabet.now) zeros.now c table.old }
+    requires queued { IsQueued (word_order_of (letters_of alphabet.now)) c (length table.old) table.old pairs.old }
+    ensures first { KeepsFirst (length table.old) table.old table.new }
+    ensures grown { OnOk result (IsGrown (letters_of alphabet.now) zeros.now c table.old table.new) }
+    ensures queued { OnOk result
+        (IsQueued (word_order_of (letters_of alphabet.now)) (c + 1) (length table.old) table.new pairs.new) }
+{
+    let first = table.len();
+    push_zeros(alloc, alphabet, zeros, c, first, table)?;
+    join_pairs(alloc, alphabet, zeros, c, first, table, pairs)?;
+    rewrite_right_sides(alloc, alphabet, zeros, first, table)
 }

@@ -5,6 +5,7 @@ mod alphabet;
 mod copies;
 mod degree_step;
 mod index_pair;
+mod queueing;
 mod right_sides;
 mod rule;
 
