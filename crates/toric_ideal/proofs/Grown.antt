@@ -1,11 +1,11 @@
 -- The end of a degree.
-use Rattle.std.proofs.Common.{◌≡◌, ◌≢◌, ℕ, suc, ◌+◌, ◌-◌, ◌<◌, ◌≤◌, refl, sym, ◌∙◌, ap, subst, List, [], ◌∷◌, ◌++◌, length, length-append, take, get_or, arith, inl, inr, ⊎_elim, Some, None}
+use Rattle.std.proofs.Common.{◌≡◌, ◌≢◌, ℕ, suc, ◌+◌, ◌-◌, ◌<◌, ◌≤◌, refl, sym, ◌∙◌, ap, subst, List, [], ◌∷◌, ◌++◌, length, length-append, take, take-take, get_or, arith, inl, inr, ⊎_elim, Some, None}
 use Rattle.std.specs.Prelude.{Contains}
 use Rattle.std.proofs.lemmas.List.{get_or-take, take_all, length-take-le}
 use Rattle.std.proofs.Math.Seq.{get_or-append_right}
 use Rattle.monomial_order.specs.Monomial.{Exponents, Divides, IsMultiple, least_common_multiple as lcm}
 use Rattle.monomial_order.specs.MonomialOrder.{MonomialOrder}
-use Rattle.monomial_order.specs.laws.Comparing.{degree_falls, divisor_degree}
+use Rattle.monomial_order.specs.laws.Comparing.{degree_falls, divisor_degree, le_or_not}
 use Rattle.monomial_order.specs.laws.Lists.{contains_at, contains_either, contains_none}
 use Rattle.word_laws.specs.Words.{Letters, AreLetters, word_order_of, IsSmaller}
 use Rattle.word_laws.specs.laws.Words.{word_laws}
@@ -15,9 +15,10 @@ use Rattle.word_rewriting.specs.laws.Rewriting.{more_rewrites}
 use Rattle.word_rules.specs.Rules.{no_rule, rule_at}
 use Rattle.toric_ideal.specs.Rewriting.{AreExactRules}
 use Rattle.toric_ideal.specs.Queue.{pair, IsNeedless, JoinsOrLists}
-use Rattle.toric_ideal.specs.Step.{pair_degree, AreSmallRules, HaveDegreesTo, IsCleaned, IsGrowing, IsGrown, IsStep, KeepsFirst, KeepsRules, ZerosVanish}
+use Rattle.toric_ideal.specs.Step.{pair_degree, AreSmallRules, HaveDegreesTo, IsCleaned, IsGrowing, IsExtension, IsGrown, IsStep, AreSmallWords, KeepsFirst, KeepsRules, ZerosVanish}
 use Rattle.toric_ideal.proofs.DegreeStep.{IsDone, step_generates, step_low, step_start}
 use Rattle.toric_ideal.proofs.Cleaning.{rule_index, same_lefts}
+use Rattle.toric_ideal.proofs.JoiningPairs.{keeps_first_trans, same_rule}
 
 module _ (L : Letters) (H : AreLetters L) (Z : List Exponents) (in_x : AreInX L Z) (c : ℕ) where
   next : c + 1 ≡ suc c
@@ -123,3 +124,26 @@ module _ (L : Letters) (H : AreLetters L) (Z : List Exponents) (in_x : AreInX L 
         let e : rule_at S k ≡ get_or g.step.more (k - first) no_rule =
         ap (λ xs. get_or xs k no_rule) g.step.whole ∙ (get_or-append_right (take first S) g.step.more k no_rule (omega arith) ∙ ap (λ x. get_or g.step.more (k - x) no_rule) m) in
         ap (word_order_of L).degree (h.lefts k) ∙ g.step.degree (rule_at S k) (subst (Contains g.step.more) (sym e) (contains_at g.step.more (k - first) no_rule (omega arith)))
+
+-- degree by degree
+pub extension_start : (L : Letters) (Z : List Exponents) (c : ℕ) (S : List RewriteRule) → AreExactRules L Z c S → IsExtension L Z c c S S
+extension_start L Z c S e = record { exact = e; keeps = record { within = omega arith; same = refl }; fresh = λ k a b. absurd (omega arith) }
+
+pub keeps_below : (R S T : List RewriteRule) → length R ≤ length S → KeepsFirst (length S) S T → KeepsFirst (length R) S T
+keeps_below R S T l k = record {
+  within = let w = k.within in omega arith;
+  same = sym (take-take (length R) (length S) T l) ∙ (ap (take (length R)) k.same ∙ take-take (length R) (length S) S l);
+}
+
+pub extension_next : (L : Letters) (Z : List Exponents) (c d : ℕ) (R S T : List RewriteRule) → c ≤ d → IsExtension L Z c d R S → IsGrown L Z d S T → IsExtension L Z c (d + 1) R T
+extension_next L Z c d R S T l x g = record {
+  exact = g.exact;
+  keeps = keeps_first_trans (length R) R S T x.keeps (keeps_below R S T x.keeps.within g.keeps);
+  fresh = λ k a b. ⊎_elim
+      (λ (m : suc k ≤ length S). subst (λ (r : RewriteRule). c < (word_order_of L).degree r.left) (sym (same_rule (length S) S T g.keeps k m)) (x.fresh k a m))
+      (λ m. let e = g.fresh k (omega (arith, m)) b in omega arith)
+      (le_or_not (suc k) (length S));
+}
+
+pub exact_small : (L : Letters) (Z : List Exponents) (c : ℕ) (S : List RewriteRule) → c ≤ 30000 → AreExactRules L Z c S → AreSmallWords L S
+exact_small L Z c S l e r h = let d = e.degree r h in ((e.rules r h).0, omega arith)

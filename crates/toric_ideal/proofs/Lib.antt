@@ -10,4 +10,5 @@ pub mod JoiningPairs
 pub mod Cleaning
 pub mod Grown
 pub mod QueuedPairs
-pub mod Growing
+pub mod RuleLists
+pub mod DegreeRules

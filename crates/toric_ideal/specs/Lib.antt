@@ -5,3 +5,4 @@ pub mod Listing
 pub mod Rewriting
 pub mod Step
 pub mod Queue
+pub mod SortedRules

@@ -96,3 +96,9 @@ HaveDegreesTo c L = (m : Exponents) → Contains L.leads m → weighted_degree L
 -- the left sides are words whose degrees the program computes with
 abbrev pub AreSmallWords : Letters → List RewriteRule → Type 0
 AreSmallWords L S = (r : RewriteRule) → Contains S r → IsWord L r.left × ((word_order_of L).degree r.left ≤ degree_max)
+
+-- The rules to the degree d: those of S, which are the rules to c, and further ones.
+pub record IsExtension (L : Letters) (Z : List Exponents) (c d : ℕ) (S T : List RewriteRule) : Type 0 where
+  pub exact : AreExactRules L Z d T
+  pub keeps : KeepsFirst (length S) S T
+  pub fresh : (k : ℕ) → length S ≤ k → k < length T → c < (word_order_of L).degree (rule_at T k).left

@@ -4,9 +4,11 @@
 mod alphabet;
 mod copies;
 mod degree_step;
+mod growing;
 mod index_pair;
 mod queueing;
 mod right_sides;
+mod sorting;
 mod rule;
 
 pub use rule::Rule;

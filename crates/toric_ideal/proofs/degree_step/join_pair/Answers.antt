@@ -9,7 +9,7 @@ use Rattle.toric_ideal.specs.Alphabet.{letters_of}
 use Rattle.toric_ideal.specs.Rewriting.{rewrite_rule}
 use Rattle.toric_ideal.specs.Step.{IsGrowing, IsOriented}
 use Rattle.toric_ideal.proofs.LetterLemmas.{alphabet_letters, alphabet_order}
-use Rattle.toric_ideal.proofs.Growing.{growing_decreasing, pair_small, first_small, second_small, pair_same, pair_left, pair_pushed, pair_joined}
+use Rattle.toric_ideal.proofs.DegreeRules.{growing_decreasing, pair_small, first_small, second_small, pair_same, pair_left, pair_pushed, pair_joined}
 use Rattle.toric_ideal.proofs.degree_step.join_pair.Goals as goal
 
 pub pair_normal_forms-requires-clause-decreasing : goal.pair_normal_forms-requires-clause-decreasing

@@ -6,7 +6,7 @@ use Rattle.word_rules.specs.Rules.{AreDecreasing}
 use Rattle.toric_ideal.specs.Alphabet.{letters_of}
 use Rattle.toric_ideal.specs.Step.{IsGrowing}
 use Rattle.toric_ideal.proofs.LetterLemmas.{alphabet_letters, alphabet_order, x_degree}
-use Rattle.toric_ideal.proofs.Growing.{growing_decreasing, zero_left, zero_grows, zero_vanishes}
+use Rattle.toric_ideal.proofs.DegreeRules.{growing_decreasing, zero_left, zero_grows, zero_vanishes}
 use Rattle.toric_ideal.proofs.degree_step.push_zero.Goals as goal
 
 pub degree-requires-clause-small : goal.degree-requires-clause-small
