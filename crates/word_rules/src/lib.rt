@@ -1,6 +1,0 @@
-//! Stub of word_rules.
-#![tactic(auto)]
-
-mod rule_table;
-
-pub use rule_table::RuleTable;
