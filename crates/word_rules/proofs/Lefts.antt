@@ -1,0 +1,69 @@
+-- Left sides of the rules of a table.
+use Rattle.std.proofs.Common.{◌≡◌, ◌≢◌, ℕ, zero, suc, ◌≤◌, ◌<◌, refl, sym, ◌∙◌, subst, List, [], ◌∷◌, length, arith, get_or, ⊎_elim}
+use Rattle.std.specs.Prelude.{Contains, map}
+use Rattle.std.proofs.lemmas.List.{get_or_default, get_or_past, length-map}
+use Rattle.monomial_order.specs.Monomial.{Exponents, exponent, Divides}
+use Rattle.monomial_order.specs.laws.Comparing.{le_or_not}
+use Rattle.monomial_order.specs.laws.Lists.{contains_at, contains_none}
+use Rattle.word_rewriting.specs.Rewriting.{RewriteRule, HasLeftDivisor}
+use Rattle.word_rules.specs.declared.word_rule.WordRule.{WordRule}
+use Rattle.word_rules.specs.declared.buckets.Buckets.{Buckets}
+use Rattle.word_rules.specs.declared.pairs.PairIndex.{PairIndex}
+use Rattle.word_rules.specs.declared.table.Table.{Table}
+use Rattle.word_rules.specs.Index.{AreLettersOf, HasLetters, IsIndexed, lefts_of, letter_lists, bucket, list_at, pair_bucket, rules_of}
+use Rattle.word_rules.specs.Rules.{no_rule, rule_at}
+use Rattle.word_rules.proofs.Listing.{at_read}
+
+pub left_is : (rules : List WordRule) (i : ℕ) → list_at (lefts_of rules) i ≡ (rule_at (rules_of rules) i).left
+left_is [] i = refl
+left_is (r ∷ rules) zero = refl
+left_is (r ∷ rules) (suc i) = left_is rules i
+
+-- a rule has a left side at its index
+pub divisor_index : (R : List RewriteRule) (w : Exponents) → HasLeftDivisor R w → (i : ℕ) × (i < length R) × Divides (rule_at R i).left w
+divisor_index R w d =
+    let k = d.1 in
+    let e : get_or R k.0 no_rule ≡ d.0 = get_or_default R k.0 no_rule d.0 k.1 ∙ k.2 in
+    (k.0, k.1, subst (λ (r : RewriteRule). Divides r.left w) (sym e) d.2)
+
+pub index_divisor : (R : List RewriteRule) (w : Exponents) (i : ℕ) → i < length R → Divides (rule_at R i).left w → HasLeftDivisor R w
+index_divisor R w i l d = (rule_at R i, contains_at R i no_rule l, d)
+
+-- the letters of a rule that is read
+pub read_letters : (t : Table) (i : ℕ) (r : WordRule) → IsIndexed t → i < length t.rules.items → r ≡ get_or t.rules.items i r → HasLetters r
+read_letters t i r x l e =
+    let a : list_at (lefts_of t.rules.items) i ≡ r.left = at_read (λ s. s.left) [] t.rules.items i r l e in
+    let b : list_at (letter_lists t.rules.items) i ≡ r.letters.items = at_read (λ s. s.letters.items) [] t.rules.items i r l e in
+    subst (λ w. AreLettersOf w r.letters.items) a
+    (subst (AreLettersOf (list_at (lefts_of t.rules.items) i)) b
+    (x.letters_are i (subst (λ n. i < n) (sym (length-map t.rules.items (λ s. s.left))) l)))
+
+-- a key of an index in the buckets is one of them
+past_end : {A : Type 0} {B : Type 0} (f : A → List B) (xs : List A) (k : ℕ) → length xs ≤ k → get_or (map f xs) k [] ≡ []
+past_end f xs k l = get_or_past (map f xs) k [] (subst (λ n. n ≤ k) (sym (length-map xs f)) l)
+
+pub bucket_within : (b : Buckets) (k i n : ℕ) → length b.lists.items ≤ n → Contains (bucket b k) i → k < n
+bucket_within b k i n l h =
+    ⊎_elim (λ q. absurd (contains_none i (subst (λ xs. Contains xs i) (past_end (λ v. v.items) b.lists.items k q) h)))
+    (λ q. omega (arith, q)) (le_or_not (length b.lists.items) k)
+
+row_within : (p : PairIndex) (a b i n : ℕ) → length p.rows.items ≤ n → Contains (pair_bucket p a b) i → a < n
+row_within p a b i n l h =
+    ⊎_elim (λ q. absurd (contains_none i (subst (λ rs. Contains (get_or rs b []) i) (past_end (λ r. map (λ v. v.items) r.lists.items) p.rows.items a q) h)))
+    (λ q. omega (arith, q)) (le_or_not (length p.rows.items) a)
+
+pub row_read : (p : PairIndex) (a : ℕ) (r : Buckets) → a < length p.rows.items → r ≡ get_or p.rows.items a r → (b i : ℕ) → Contains (pair_bucket p a b) i → Contains (bucket r b) i
+row_read p a r l e b i h = subst (λ rs. Contains (get_or rs b []) i) (at_read (λ s. map (λ v. v.items) s.lists.items) [] p.rows.items a r l e) h
+
+module _ (t : Table) (w : Exponents) (i : ℕ) where
+  pub divided_letter : (b : ℕ) → Divides (list_at (lefts_of t.rules.items) i) w → exponent (list_at (lefts_of t.rules.items) i) b ≢ 0 → exponent w b ≢ 0
+  divided_letter b d e z = e (let h = d b in omega arith)
+
+  -- if no left side in a row of buckets divides the word, none does
+  pub none_divides : IsIndexed t → (n : ℕ) → length t.by_pair.rows.items ≤ n →
+      ((a : ℕ) → a < n → (b j : ℕ) → exponent w a ≢ 0 → exponent w b ≢ 0 → Contains (pair_bucket t.by_pair a b) j → j < length t.rules.items →
+      Divides (list_at (lefts_of t.rules.items) j) w → ⊥) → i < length t.rules.items → Divides (rule_at (rules_of t.rules.items) i).left w → ⊥
+  none_divides x n l none inside divides =
+      let d = subst (λ v. Divides v w) (sym (left_is t.rules.items i)) divides in
+      let p = x.paired i (subst (λ n. i < n) (sym (length-map t.rules.items (λ s. s.left))) inside) in
+      none p.a (row_within t.by_pair p.a p.b i n l p.listed) p.b i (divided_letter p.a d p.has_a) (divided_letter p.b d p.has_b) p.listed inside d

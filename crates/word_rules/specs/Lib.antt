@@ -1,0 +1,3 @@
+pub mod Rules
+pub mod Index
+pub mod Sharing

@@ -1,0 +1,90 @@
+//! Rules with their index.
+ghost use Rattle.std.specs.Prelude.{◌≡◌, ◌≢◌, ◌<◌, ◌++◌, ◌∷◌, ℕ, [], length, take, set, Contains, OnOk, OnErr};
+ghost use Rattle.word_rules.specs.Index.{bucket, rules_of, HasPair, IsIndexed, KeepsIndexes, KeepsPairs};
+ghost use Rattle.word_rules.specs.Rules.{rule_at};
+
+use crate::buckets::Buckets;
+use crate::pairs::PairIndex;
+use crate::word_rule::{WordRule, last_two};
+use monomial_order::{Memory, Monomial};
+use std::alloc::Global;
+
+/// The rules, their indexes by each letter, and their indexes by two letters. Indexes of rules that are no more may stay
+/// in the buckets.
+#[derive(Drop)]
+pub(crate) struct Table {
+    pub(crate) rules: Vec<WordRule>,
+    pub(crate) by_letter: Buckets,
+    pub(crate) by_pair: PairIndex,
+}
+
+impl Table {
+    pub(crate) fn new(alloc: Global) -> Table
+        ensures empty { result.rules.items ≡ [] }
+        ensures indexed { IsIndexed result }
+    {
+        Table {
+            rules: Vec::new(alloc),
+            by_letter: Buckets::new(alloc),
+            by_pair: PairIndex::new(alloc),
+        }
+    }
+
+    /// Puts an index into the buckets of the letters of a left side. No index is taken out.
+    fn push_index(&mut self, alloc: Global, letters: &[usize], i: usize) -> Result<(), Memory>
+        requires { letters.now ≢ [] }
+        ensures rules { self.new.rules ≡ self.old.rules }
+        ensures keeps { KeepsIndexes self.old.by_letter self.new.by_letter }
+        ensures keeps_pairs { KeepsPairs self.old.by_pair self.new.by_pair }
+        ensures listed { OnOk result
+            ((a : ℕ) → Contains letters.now a → Contains (bucket self.new.by_letter a) i) }
+        ensures paired { OnOk result (HasPair self.new.by_pair letters.now i) }
+    {
+        self.by_letter.push_each(alloc, letters, i)?;
+        let (last, next) = last_two(letters);
+        self.by_pair.push(alloc, last, next, i)?;
+        Ok(())
+    }
+
+    /// Puts a rule at the end.
+    pub(crate) fn push(
+        &mut self,
+        alloc: Global,
+        left: Monomial,
+        right: Option<Monomial>,
+    ) -> Result<(), Memory>
+        requires indexed { IsIndexed self.old }
+        requires left { left ≢ [] }
+        ensures indexed { IsIndexed self.new }
+        ensures last { OnOk result (rules_of self.new.rules.items
+            ≡ rules_of self.old.rules.items ++ record { left = left; right = right } ∷ []) }
+        ensures unchanged { OnErr result (self.new.rules.items ≡ self.old.rules.items) }
+    {
+        let rule = WordRule::new(alloc, left, right)?;
+        self.rules.reserve(1)?;
+        let i = self.rules.len();
+        self.push_index(alloc, rule.letters.as_slice(), i)?;
+        self.rules.push_reserved(rule);
+        Ok(())
+    }
+
+    /// Takes out the rules from index n on.
+    pub(crate) fn truncate(&mut self, n: usize)
+        requires { IsIndexed self.old }
+        ensures indexed { IsIndexed self.new }
+        ensures rules { rules_of self.new.rules.items ≡ take n (rules_of self.old.rules.items) }
+    {
+        self.rules.truncate(n);
+    }
+
+    /// Replaces the right side of a rule.
+    pub(crate) fn set_right(&mut self, i: usize, right: Option<Monomial>)
+        requires indexed { IsIndexed self.old }
+        requires inside { i < length self.old.rules.items }
+        ensures indexed { IsIndexed self.new }
+        ensures rules { rules_of self.new.rules.items ≡ set (rules_of self.old.rules.items) i
+            (record { left = (rule_at (rules_of self.old.rules.items) i).left; right = right }) }
+    {
+        self.rules[i].right = right;
+    }
+}
