@@ -13,27 +13,6 @@ use Rattle.word_rewriting.specs.Completeness.{IsLeastOrZero}
 use Rattle.toric_ideal.specs.declared.rule.Rule.{Rule}
 use Rattle.toric_ideal.specs.Listing.{AgreeTo, AreRules}
 
--- The minimal reducible words of the next degree, letter by letter.
-use Rattle.std.proofs.Common.{◌≡◌, ℕ, suc, ◌+◌, ◌<◌, ◌≤◌, refl, sym, ◌∙◌, ap, subst, List, [], length, arith, ⊎_elim}
-use Rattle.std.specs.Prelude.{Contains, None}
-use Rattle.monomial_order.specs.Monomial.{exponent, product, variable, Divides, IsMonomial, IsMultiple}
-use Rattle.monomial_order.specs.MonomialOrder.{MonomialOrder, IsMonomialOrder}
-use Rattle.monomial_order.specs.laws.Monomial.{product-one, product_assoc, product_fits, IsMonomial-product}
-use Rattle.monomial_order.specs.laws.Cofactors.{Divides-product, Divides-trans}
-use Rattle.monomial_order.specs.laws.Comparing.{divisor_degree, equal_or_not, proper_divisor, some_exponent}
-use Rattle.word_laws.specs.Words.{image_of, word_order_of, IsMinimalReducible, IsReducible, IsWord}
-use Rattle.word_laws.specs.laws.Words.{degree_image, image_times, image_x, word_laws, x_word}
-use Rattle.word_laws.specs.laws.Reducible.{multiple_closed, multiple_decided, reducible_exactly}
-use Rattle.toric_ideal.specs.declared.table.Table.{Table}
-use Rattle.toric_ideal.specs.declared.word_with_image.WordWithImage.{WordWithImage}
-use Rattle.toric_ideal.specs.Alphabet.{letters_of}
-use Rattle.toric_ideal.specs.Increasing.{IsComparable, IsInserted}
-use Rattle.toric_ideal.specs.Listing.{HasRuleDivisor}
-use Rattle.toric_ideal.specs.Tables.{IsListed}
-use Rattle.toric_ideal.specs.Enumeration.{AreNextWords, Enumerates, HasAllNextWords, IsLonger, IsLongerWord, IsNextWord, IsWordWithImage}
-use Rattle.toric_ideal.proofs.Skipping.{next_letter, skips_all, skips_none, IsTimes}
-use Rattle.toric_ideal.proofs.LetterLemmas.{alphabet_letters, letter_small, letter_word}
-
 -- a word of degree 0 is 1
 pub degree_none : (O : MonomialOrder) → IsMonomialOrder O → (u : List ℕ) → IsMonomial O.places u → O.degree u ≤ 0 → u ≡ []
 degree_none O W u h d =

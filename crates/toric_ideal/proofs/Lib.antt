@@ -11,4 +11,6 @@ pub mod Cleaning
 pub mod Grown
 pub mod QueuedPairs
 pub mod RuleLists
+pub mod Degrees
+pub mod Extended
 pub mod DegreeRules

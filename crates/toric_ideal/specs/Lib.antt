@@ -6,3 +6,4 @@ pub mod Rewriting
 pub mod Step
 pub mod Queue
 pub mod SortedRules
+pub mod State

@@ -2,6 +2,7 @@
 #![tactic(auto)]
 
 mod alphabet;
+mod completion;
 mod copies;
 mod degree_step;
 mod growing;

@@ -1,0 +1,27 @@
+-- The listing of a completion.
+use Rattle.std.specs.Prelude.{ℕ, ◌≤◌, length, take, drop}
+use Rattle.word_laws.specs.Words.{word_order_of}
+use Rattle.toric_ideal.specs.declared.completion.Completion.{Completion}
+use Rattle.toric_ideal.specs.Alphabet.{letters_of, IsAlphabet}
+use Rattle.toric_ideal.specs.Listing.{AreParted, IsListing, Listing}
+use Rattle.toric_ideal.specs.Queue.{IsQueued}
+use Rattle.toric_ideal.specs.Rewriting.{AreSameRules}
+
+abbrev pub listing_of : Completion → Listing
+listing_of w = record {
+  letters = letters_of w.alphabet;
+  zeros = w.zeros.items;
+  degree = w.degree;
+  rules = w.rules.items;
+  closed = w.closed;
+}
+
+-- What holds of every completion between calls: the first leads, so many, are those of a degree less than its own.
+pub record IsSound (w : Completion) : Type 0 where
+  pub alphabet : IsAlphabet w.alphabet
+  pub listing : IsListing (listing_of w)
+  pub same : AreSameRules w.rules.items w.table
+  pub queued : IsQueued (word_order_of (letters_of w.alphabet)) w.degree w.queued_count w.table w.pairs
+  pub within : w.settled_count ≤ length w.alphabet.leads.items
+  pub parted : AreParted (letters_of w.alphabet).degrees w.degree w.alphabet.leads.items
+      (take w.settled_count w.alphabet.leads.items) (drop w.settled_count w.alphabet.leads.items)
