@@ -13,4 +13,5 @@ pub mod QueuedPairs
 pub mod RuleLists
 pub mod Degrees
 pub mod Extended
+pub mod SoundListings
 pub mod DegreeRules

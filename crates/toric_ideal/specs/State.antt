@@ -1,6 +1,7 @@
 -- The listing of a completion.
-use Rattle.std.specs.Prelude.{ℕ, ◌≤◌, length, take, drop}
-use Rattle.word_laws.specs.Words.{word_order_of}
+use Rattle.std.specs.Prelude.{◌≢◌, ℕ, ◌≤◌, length, take, drop, Option, Some, None}
+use Rattle.monomial_order.specs.Monomial.{Exponents}
+use Rattle.word_laws.specs.Words.{Letters, image_of, word_order_of, IsLeast, IsSWord}
 use Rattle.toric_ideal.specs.declared.completion.Completion.{Completion}
 use Rattle.toric_ideal.specs.Alphabet.{letters_of, IsAlphabet}
 use Rattle.toric_ideal.specs.Listing.{AreParted, IsListing, Listing}
@@ -25,3 +26,8 @@ pub record IsSound (w : Completion) : Type 0 where
   pub within : w.settled_count ≤ length w.alphabet.leads.items
   pub parted : AreParted (letters_of w.alphabet).degrees w.degree w.alphabet.leads.items
       (take w.settled_count w.alphabet.leads.items) (drop w.settled_count w.alphabet.leads.items)
+
+-- the least s-word with the image m, or none if no s-word has it
+abbrev pub IsFactor : Letters → Exponents → Option Exponents → Type 0
+IsFactor L m None = (u : Exponents) → IsSWord L u → image_of L u ≢ m
+IsFactor L m (Some v) = IsSWord L v × IsLeast L m v

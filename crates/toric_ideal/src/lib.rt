@@ -1,4 +1,4 @@
-//! Words of leading monomials, exact to a degree.
+//! Words of leading monomials, exact to a degree, by rewriting.
 #![tactic(auto)]
 
 mod alphabet;
@@ -7,9 +7,12 @@ mod copies;
 mod degree_step;
 mod growing;
 mod index_pair;
+mod normal_forms;
 mod queueing;
 mod right_sides;
-mod sorting;
 mod rule;
+mod sorting;
+mod words;
 
 pub use rule::Rule;
+pub use words::Words;
