@@ -1,11 +1,21 @@
 -- What holds of a completion between calls.
-use Rattle.std.proofs.Common.{◌≡◌, ◌≢◌, ℕ, ◌<◌, ◌≤◌, refl, sym, ◌∙◌, ap, subst, List, [], ◌++◌, length, take, drop, arith, ⊎_elim, false, true}
+use Rattle.std.proofs.Common.{◌≡◌, ◌≢◌, ℕ, ◌<◌, ◌≤◌, refl, sym, ◌∙◌, ap, subst, List, [], ◌++◌, length, take, drop, arith, ⊎_elim, false, true, Some, None}
 use Rattle.std.specs.Prelude.{Contains, AllPairs}
 use Rattle.std.proofs.lemmas.List.{take-append-drop}
 use Rattle.monomial_order.specs.Monomial.{Exponents, IsTrimmed, weighted_degree}
 use Rattle.monomial_order.specs.Ranges.{all_between}
 use Rattle.monomial_order.specs.laws.Lists.{contains_none}
-use Rattle.word_laws.specs.Words.{Letters, AreLetters}
+use Rattle.monomial_order.specs.Monomial.{IsMonomial, IsMultiple}
+use Rattle.word_laws.specs.Words.{Letters, AreLetters, word_order_of, image_of, IsWord, IsLeast, IsSWord}
+use Rattle.word_laws.specs.laws.Words.{image_same}
+use Rattle.word_laws.specs.laws.Reducible.{multiple_closed, least_s_word}
+use Rattle.word_rewriting.specs.Rewriting.{WordOrZero, IsNormalForm}
+use Rattle.word_rewriting.specs.Completeness.{IsLeastOrZero}
+use Rattle.word_rewriting.specs.laws.Criterion.{decreasing_rules}
+use Rattle.word_rewriting.specs.laws.NormalForms.{form_least}
+use Rattle.word_rules.specs.Rules.{AreDecreasing}
+use Rattle.toric_ideal.specs.Rewriting.{AreExactRules}
+use Rattle.toric_ideal.proofs.ExactRules.{listed_exact}
 use Rattle.toric_ideal.specs.Leads.{letters, AreLetterLeads}
 use Rattle.toric_ideal.specs.declared.completion.Completion.{Completion}
 use Rattle.toric_ideal.specs.declared.rule.Rule.{Rule}
@@ -62,3 +72,32 @@ listing_new L xs e b = subst (λ L. IsListing (record { letters = L; zeros = [];
   where
     H : AreLetters (letters xs [])
     H = leads_letters xs [] b (λ m h. absurd (contains_none m h))
+
+-- the rules of the table are exact
+pub sound_exact : (w : Completion) → IsSound w → AreExactRules (letters_of w.alphabet) w.zeros.items w.degree w.table
+sound_exact w s = listed_exact (letters_of w.alphabet) s.listing.letters w.zeros.items w.degree w.table w.rules.items s.listing.rules s.same
+
+pub sound_decreasing : (w : Completion) → IsSound w → AreDecreasing (word_order_of (letters_of w.alphabet)) w.table
+sound_decreasing w s = decreasing_rules (IsMultiple w.zeros.items) (letters_of w.alphabet) w.table (sound_exact w s).rules
+
+-- a normal form of a word is the least word with its image, or zero
+pub sound_least : (w : Completion) → IsSound w → (v : Exponents) → IsWord (letters_of w.alphabet) v → (word_order_of (letters_of w.alphabet)).degree v ≤ w.degree →
+    (a : WordOrZero) → IsNormalForm w.table (Some v) a → IsLeastOrZero (IsMultiple w.zeros.items) (letters_of w.alphabet) (image_of (letters_of w.alphabet) v) a
+sound_least w s v hv d a n =
+    form_least (IsMultiple w.zeros.items) (letters_of w.alphabet) s.listing.letters w.table (sound_exact w s).rules (multiple_closed (length (letters_of w.alphabet).degrees) w.zeros.items) w.degree (sound_exact w s).generates v hv d a n
+
+-- the least word with the image of a standard monomial, which is an s-word if some s-word has this image
+module _ (w : Completion) (s : IsSound w) (m : Exponents) (hm : IsMonomial (length (letters_of w.alphabet).degrees) m) (standard : ¬ IsMultiple w.zeros.items m)
+    (a : WordOrZero) (h : IsLeastOrZero (IsMultiple w.zeros.items) (letters_of w.alphabet) (image_of (letters_of w.alphabet) m) a) where
+  pub factor_some : (v : Exponents) → a ≡ Some v → IsLeast (letters_of w.alphabet) m v
+  factor_some v e =
+      let k : IsLeastOrZero (IsMultiple w.zeros.items) (letters_of w.alphabet) (image_of (letters_of w.alphabet) m) (Some v) = subst (IsLeastOrZero (IsMultiple w.zeros.items) (letters_of w.alphabet) (image_of (letters_of w.alphabet) m)) e h in
+      subst (λ x. IsLeast (letters_of w.alphabet) x v) (image_same (letters_of w.alphabet) s.listing.letters m hm) k.1
+
+  pub factor_none : a ≡ None → ⊥
+  factor_none e =
+      let k : IsMultiple w.zeros.items (image_of (letters_of w.alphabet) m) = subst (IsLeastOrZero (IsMultiple w.zeros.items) (letters_of w.alphabet) (image_of (letters_of w.alphabet) m)) e h in
+      standard (subst (IsMultiple w.zeros.items) (image_same (letters_of w.alphabet) s.listing.letters m hm) k)
+
+  pub factor_s_word : (v : Exponents) → a ≡ Some v → ¬ IsSWord (letters_of w.alphabet) v → (u : Exponents) → IsSWord (letters_of w.alphabet) u → image_of (letters_of w.alphabet) u ≢ m
+  factor_s_word v e no u hu q = no (least_s_word (letters_of w.alphabet) s.listing.letters m u v (factor_some v e) hu q)

@@ -7,3 +7,4 @@ pub mod Step
 pub mod Queue
 pub mod SortedRules
 pub mod State
+pub mod Closing

@@ -2,6 +2,7 @@
 #![tactic(auto)]
 
 mod alphabet;
+mod closing;
 mod completion;
 mod copies;
 mod degree_step;

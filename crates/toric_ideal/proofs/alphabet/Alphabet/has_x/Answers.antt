@@ -1,6 +1,6 @@
 use Rattle.std.proofs.Common.{length, arith}
 use Rattle.toric_ideal.proofs.Skipping.{sum_skipped}
-use Rattle.toric_ideal.proofs.normal_forms.Alphabet.has_x.Goals as goal
+use Rattle.toric_ideal.proofs.alphabet.Alphabet.has_x.Goals as goal
 
 pub returns-clause-s_word : goal.returns-clause-s_word
 returns-clause-s_word c _ =
