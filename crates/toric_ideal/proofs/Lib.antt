@@ -14,4 +14,5 @@ pub mod RuleLists
 pub mod Degrees
 pub mod Extended
 pub mod SoundListings
+pub mod ClosedRules
 pub mod DegreeRules

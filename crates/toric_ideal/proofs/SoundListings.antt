@@ -100,4 +100,4 @@ module _ (w : Completion) (s : IsSound w) (m : Exponents) (hm : IsMonomial (leng
       standard (subst (IsMultiple w.zeros.items) (image_same (letters_of w.alphabet) s.listing.letters m hm) k)
 
   pub factor_s_word : (v : Exponents) → a ≡ Some v → ¬ IsSWord (letters_of w.alphabet) v → (u : Exponents) → IsSWord (letters_of w.alphabet) u → image_of (letters_of w.alphabet) u ≢ m
-  factor_s_word v e no u hu q = no (least_s_word (letters_of w.alphabet) s.listing.letters m u v (factor_some v e) hu q)
+  factor_s_word v e none u hu q = none (least_s_word (letters_of w.alphabet) s.listing.letters m u v (factor_some v e) hu q)

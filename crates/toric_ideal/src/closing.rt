@@ -1,5 +1,5 @@
 //! Whether the rules divide every reducible word.
-ghost use Rattle.std.specs.Prelude.{◌≡◌, ◌≤◌, ◌<◌, ℕ, true, false, length, IfOk, Contains};
+ghost use Rattle.std.specs.Prelude.{◌≡◌, ◌↔◌, ◌<◌, ℕ, true, false, length, IfOk, IsTrue};
 ghost use Rattle.word_laws.specs.Words.{word_order_of};
 ghost use Rattle.toric_ideal.specs.Alphabet.{letters_of, IsAlphabet};
 ghost use Rattle.toric_ideal.specs.Closing.{CanClose, IsPairJoined, JoinsPairsOf, ShowsMissedWord};
@@ -8,6 +8,17 @@ use crate::alphabet::Alphabet;
 use monomial_order::{Memory, Monomial, Order};
 use std::alloc::Global;
 use word_rules::RuleTable;
+
+/// Whether the words, or zeros, are the same.
+fn are_same(u: &Option<Monomial>, v: &Option<Monomial>) -> bool
+    ensures { IsTrue result ↔ (u.now ≡ v.now) }
+{
+    match (u, v) {
+        (None, None) => true,
+        (Some(u), Some(v)) => u == v,
+        _ => false,
+    }
+}
 
 /// Whether the pair of two rules is joined, if its degree is above c.
 fn is_joined(
@@ -31,7 +42,7 @@ fn is_joined(
         return Ok(true);
     }
     let (u, v) = table.pair_normal_forms(alloc, &alphabet.order, i, j)?;
-    Ok(u == v)
+    Ok(are_same(&u, &v))
 }
 
 /// Whether the pairs of a rule with those before it are joined.
