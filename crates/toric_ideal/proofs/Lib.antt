@@ -15,4 +15,5 @@ pub mod Degrees
 pub mod Extended
 pub mod SoundListings
 pub mod ClosedRules
+pub mod ClosedListings
 pub mod DegreeRules

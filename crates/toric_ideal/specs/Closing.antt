@@ -1,11 +1,12 @@
 -- Pairs above the degree.
-use Rattle.std.specs.Prelude.{◌⊎◌, ℕ, ◌≤◌, ◌<◌, List}
+use Rattle.std.specs.Prelude.{◌⊎◌, ℕ, ◌≤◌, ◌<◌, Bool, List}
 use Rattle.monomial_order.specs.Monomial.{Exponents, AreCoprime, IsMultiple}
 use Rattle.monomial_order.specs.MonomialOrder.{MonomialOrder}
 use Rattle.word_laws.specs.Words.{Letters, word_order_of, IsWord, IsReducible}
 use Rattle.word_rewriting.specs.Rewriting.{RewriteRule, HasJoinablePair, HasLeftDivisor}
 
 use Rattle.word_rules.specs.Rules.{rule_at}
+use Rattle.toric_ideal.specs.Listing.{HasRuleDivisor, Listing}
 use Rattle.toric_ideal.specs.Rewriting.{AreExactRules}
 use Rattle.toric_ideal.specs.Step.{pair_degree}
 
@@ -29,3 +30,11 @@ JoinsPairsOf O c R j = (i : ℕ) → i < j → AreCoprime (rule_at R i).left (ru
 -- there is a reducible word that no left side divides
 abbrev pub ShowsMissedWord : Letters → List Exponents → List RewriteRule → Type 0
 ShowsMissedWord L Z R = (w : Exponents) × IsWord L w × IsReducible (IsMultiple Z) L w × (HasLeftDivisor R w → ⊥)
+
+-- the listing, known to be closed or not
+abbrev pub with_closed : Bool → Listing → Listing
+with_closed closed W = record { letters = W.letters; zeros = W.zeros; degree = W.degree; rules = W.rules; closed = closed }
+
+-- there is a reducible word that no word of a rule divides
+abbrev pub HasMissedWord : Listing → Type 0
+HasMissedWord W = (w : Exponents) × IsWord W.letters w × IsReducible (IsMultiple W.zeros) W.letters w × (HasRuleDivisor W.rules w → ⊥)

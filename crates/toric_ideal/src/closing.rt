@@ -1,10 +1,13 @@
 //! Whether the rules divide every reducible word.
-ghost use Rattle.std.specs.Prelude.{◌≡◌, ◌↔◌, ◌<◌, ℕ, true, false, length, IfOk, IsTrue};
+ghost use Rattle.std.specs.Prelude.{◌≡◌, ◌↔◌, ◌≤◌, ◌<◌, ℕ, true, false, length, IsOk, IfOk, OnErr, IsTrue};
 ghost use Rattle.word_laws.specs.Words.{word_order_of};
 ghost use Rattle.toric_ideal.specs.Alphabet.{letters_of, IsAlphabet};
-ghost use Rattle.toric_ideal.specs.Closing.{CanClose, IsPairJoined, JoinsPairsOf, ShowsMissedWord};
+ghost use Rattle.toric_ideal.specs.Closing.{closing_max, with_closed, CanClose, HasMissedWord, IsPairJoined, JoinsPairsOf, ShowsMissedWord};
+ghost use Rattle.toric_ideal.specs.Listing.{IsClosed};
+ghost use Rattle.toric_ideal.specs.State.{listing_of, IsSound};
 
 use crate::alphabet::Alphabet;
+use crate::completion::Completion;
 use monomial_order::{Memory, Monomial, Order};
 use std::alloc::Global;
 use word_rules::RuleTable;
@@ -89,4 +92,31 @@ pub(crate) fn all_joined(
         }
     }
     Ok(true)
+}
+
+impl Completion {
+    /// Whether the word of a rule divides every reducible word.
+    pub(crate) fn close(&mut self, alloc: Global) -> Result<bool, Memory>
+        requires sound { IsSound self.old }
+        requires small { self.old.degree ≤ closing_max }
+        ensures sound { IsSound self.new }
+        ensures yes { IfOk result (λ r. r ≡ true → IsClosed (listing_of self.old)) }
+        ensures no { IfOk result (λ r. r ≡ false → HasMissedWord (listing_of self.old)) }
+        ensures state { IfOk result (λ r. listing_of self.new ≡ with_closed r (listing_of self.old)) }
+        ensures known { self.old.closed ≡ true → IsOk result }
+        ensures memory { OnErr result (listing_of self.new ≡ listing_of self.old) }
+    {
+        if self.closed {
+            return Ok(true);
+        }
+        let closed = all_joined(
+            alloc,
+            &self.alphabet,
+            self.zeros.as_slice(),
+            self.degree,
+            &self.table,
+        )?;
+        self.closed = closed;
+        Ok(closed)
+    }
 }

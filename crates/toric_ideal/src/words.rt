@@ -1,10 +1,11 @@
 //! Words to a degree.
-ghost use Rattle.std.specs.Prelude.{◌≡◌, ◌≤◌, ◌<◌, ◌≢◌, ◌++◌, ◌∷◌, [], ℕ, List, length, max, true, false, IsOk, IfOk, OnOk, OnErr, IfSome, IsSome, IsNone, IsTrue};
+ghost use Rattle.std.specs.Prelude.{◌≡◌, ◌≤◌, ◌<◌, ◌≢◌, ◌++◌, ◌∷◌, [], ◌↔◌, length, max, true, false, Contains, IsOk, IfOk, OnOk, OnErr, IfSome, IsSome, IsNone, IsTrue};
 ghost use Rattle.monomial_order.specs.Limits.{degree_max};
 ghost use Rattle.monomial_order.specs.Monomial.{Exponents, weighted_degree, IsMonomial, IsMultiple};
 ghost use Rattle.monomial_order.specs.Ranges.{all_between};
 ghost use Rattle.word_laws.specs.Words.{image_of, lead_degrees, word_order_of, IsLeast, IsSWord, IsWord};
 ghost use Rattle.toric_ideal.specs.Leads.{letters};
+ghost use Rattle.toric_ideal.specs.Closing.{closing_max, with_closed, HasMissedWord};
 ghost use Rattle.toric_ideal.specs.Listing.{AgreeTo, AreRules, AreZeros, IsClosed, IsListing};
 
 use crate::Rule;
@@ -127,6 +128,20 @@ impl Words {
         ensures exact { AreRules self.now.letters self.now.zeros self.now.degree result.now }
     {
         self.completion.rules.as_slice()
+    }
+
+    /// Whether the word of a rule divides every reducible word, here and in all degrees. It looks at the pairs of rules
+    /// above the degree, and ends at the first that is not joined. `zero` has the zeros of every degree.
+    pub fn closed(&mut self, alloc: Global, zero: &[Monomial]) -> Result<bool, Memory>
+        requires zero { (z : Exponents) → Contains zero.now z ↔ Contains self.old.zeros z }
+        requires small { self.old.degree ≤ closing_max }
+        ensures yes { IfOk result (λ r. r ≡ true → IsClosed self.old) }
+        ensures no { IfOk result (λ r. r ≡ false → HasMissedWord self.old) }
+        ensures state { IfOk result (λ r. self.new ≡ with_closed r self.old) }
+        ensures known { self.old.closed ≡ true → IsOk result }
+        ensures memory { OnErr result (self.new ≡ self.old) }
+    {
+        self.completion.close(alloc)
     }
 
     /// Whether the rules are known to divide every reducible word.
