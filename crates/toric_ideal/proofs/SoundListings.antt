@@ -10,17 +10,17 @@ use Rattle.word_laws.specs.Words.{Letters, AreLetters, word_order_of, image_of, 
 use Rattle.word_laws.specs.laws.Words.{image_same}
 use Rattle.word_laws.specs.laws.Reducible.{multiple_closed, least_s_word}
 use Rattle.word_rewriting.specs.Rewriting.{WordOrZero, IsNormalForm}
-use Rattle.word_rewriting.specs.Completeness.{IsLeastOrZero}
+use Rattle.word_rewriting.specs.Completeness.{IsLeastOrZero, GeneratesReducible}
 use Rattle.word_rewriting.specs.laws.Criterion.{decreasing_rules}
 use Rattle.word_rewriting.specs.laws.NormalForms.{form_least}
 use Rattle.word_rules.specs.Rules.{AreDecreasing}
-use Rattle.toric_ideal.specs.Rewriting.{AreExactRules}
+use Rattle.toric_ideal.specs.Rewriting.{rewrite_rule, AreExactRules}
 use Rattle.toric_ideal.proofs.ExactRules.{listed_exact}
 use Rattle.toric_ideal.specs.Leads.{letters, AreLetterLeads}
 use Rattle.toric_ideal.specs.declared.completion.Completion.{Completion}
 use Rattle.toric_ideal.specs.declared.rule.Rule.{Rule}
 use Rattle.toric_ideal.specs.Alphabet.{letters_of}
-use Rattle.toric_ideal.specs.Listing.{AgreeTo, AreParted, AreRules, AreZeros, IsListing, Listing}
+use Rattle.toric_ideal.specs.Listing.{AgreeTo, AreParted, AreRules, AreZeros, IsDecided, IsListing, Listing}
 use Rattle.toric_ideal.specs.State.{listing_of, IsSound}
 use Rattle.toric_ideal.proofs.Degrees.{rules_agree, rules_none}
 use Rattle.toric_ideal.proofs.LetterLemmas.{leads_letters}
@@ -80,11 +80,21 @@ sound_exact w s = listed_exact (letters_of w.alphabet) s.listing.letters w.zeros
 pub sound_decreasing : (w : Completion) → IsSound w → AreDecreasing (word_order_of (letters_of w.alphabet)) w.table
 sound_decreasing w s = decreasing_rules (IsMultiple w.zeros.items) (letters_of w.alphabet) w.table (sound_exact w s).rules
 
+-- to a degree that is decided the left sides generate the reducible words
+decided_generates : (w : Completion) → IsSound w → (d : ℕ) → IsDecided (listing_of w) d → GeneratesReducible (IsMultiple w.zeros.items) (letters_of w.alphabet) w.table d
+decided_generates w s d h v hv e r =
+    ⊎_elim (λ l. (sound_exact w s).generates v hv (omega arith) r)
+    (λ k. let x = s.listing.closed k.0 v hv r in (rewrite_rule x.0, s.same.there x.0 x.1, x.2)) h
+
+pub decided_small : (w : Completion) → IsSound w → (d : ℕ) → IsDecided (listing_of w) d → d ≤ 65535
+decided_small w s d h = ⊎_elim (λ l. let m = s.listing.small in omega arith) (λ k. k.1) h
+
 -- a normal form of a word is the least word with its image, or zero
-pub sound_least : (w : Completion) → IsSound w → (v : Exponents) → IsWord (letters_of w.alphabet) v → (word_order_of (letters_of w.alphabet)).degree v ≤ w.degree →
+pub sound_least : (w : Completion) → IsSound w → (v : Exponents) → IsWord (letters_of w.alphabet) v → IsDecided (listing_of w) ((word_order_of (letters_of w.alphabet)).degree v) →
     (a : WordOrZero) → IsNormalForm w.table (Some v) a → IsLeastOrZero (IsMultiple w.zeros.items) (letters_of w.alphabet) (image_of (letters_of w.alphabet) v) a
 sound_least w s v hv d a n =
-    form_least (IsMultiple w.zeros.items) (letters_of w.alphabet) s.listing.letters w.table (sound_exact w s).rules (multiple_closed (length (letters_of w.alphabet).degrees) w.zeros.items) w.degree (sound_exact w s).generates v hv d a n
+    let e = (word_order_of (letters_of w.alphabet)).degree v in
+    form_least (IsMultiple w.zeros.items) (letters_of w.alphabet) s.listing.letters w.table (sound_exact w s).rules (multiple_closed (length (letters_of w.alphabet).degrees) w.zeros.items) e (decided_generates w s e d) v hv (omega arith) a n
 
 -- the least word with the image of a standard monomial, which is an s-word if some s-word has this image
 module _ (w : Completion) (s : IsSound w) (m : Exponents) (hm : IsMonomial (length (letters_of w.alphabet).degrees) m) (standard : ¬ IsMultiple w.zeros.items m)

@@ -1,6 +1,6 @@
 -- Words to a degree: the least words, and the rules that are the minimal reducible words.
-use Rattle.std.specs.Prelude.{◌≡◌, ◌≢◌, ℕ, ◌≤◌, ◌<◌, ◌↔◌, Bool, List, ◌++◌, length, map, Contains, AllPairs, IsTrue}
-use Rattle.monomial_order.specs.Limits.{degree_max}
+use Rattle.std.specs.Prelude.{◌≡◌, ◌≢◌, ◌⊎◌, ℕ, ◌≤◌, ◌<◌, ◌↔◌, Bool, true, List, ◌++◌, length, map, Contains, AllPairs, IsTrue}
+use Rattle.monomial_order.specs.Limits.{degree_max, exponent_max}
 use Rattle.monomial_order.specs.Monomial.{Exponents, IsMonomial, Divides, weighted_degree, IsMultiple}
 use Rattle.monomial_order.specs.MonomialOrder.{IsIncreasing, MonomialOrder}
 use Rattle.word_laws.specs.Words.{Letters, AreLetters, word_order_of, image_of, variables, IsMinimalReducible, IsReducible, IsSWord, IsWord}
@@ -87,3 +87,7 @@ pub record IsNewLead (W : Listing) (m : Exponents) : Type 0 where
 pub record OrdersByDegrees (O : MonomialOrder) (degrees : List ℕ) : Type 0 where
   pub places : O.places ≡ length degrees
   pub gives : map O.degree (variables 0 (length degrees)) ≡ degrees
+
+-- what the rules say of words of degree d is exact
+abbrev pub IsDecided : Listing → ℕ → Type 0
+IsDecided W d = (d ≤ W.degree) ⊎ ((W.closed ≡ true) × (d ≤ exponent_max))

@@ -1,10 +1,11 @@
 //! Least words, by rewriting.
-ghost use Rattle.std.specs.Prelude.{◌≡◌, ◌≤◌, true, false, length, IfOk};
+ghost use Rattle.std.specs.Prelude.{◌≡◌, true, false, length, IfOk};
 ghost use Rattle.monomial_order.specs.Monomial.{weighted_degree, IsMonomial, IsMultiple};
 ghost use Rattle.word_laws.specs.Words.{image_of, word_order_of, IsSWord, IsWord};
 ghost use Rattle.word_rewriting.specs.Completeness.{IsLeastOrZero};
 ghost use Rattle.toric_ideal.specs.Alphabet.{letters_of, IsAlphabet};
-ghost use Rattle.toric_ideal.specs.State.{IsFactor, IsSound};
+ghost use Rattle.toric_ideal.specs.Listing.{IsDecided};
+ghost use Rattle.toric_ideal.specs.State.{listing_of, IsFactor, IsSound};
 
 use crate::alphabet::Alphabet;
 use crate::completion::Completion;
@@ -33,7 +34,7 @@ impl Completion {
     pub(crate) fn least(&self, alloc: Global, w: &Monomial) -> Result<Option<Monomial>, Memory>
         requires sound { IsSound self.now }
         requires word { IsWord (letters_of self.now.alphabet) w.now }
-        requires degree { (word_order_of (letters_of self.now.alphabet)).degree w.now ≤ self.now.degree }
+        requires degree { IsDecided (listing_of self.now) ((word_order_of (letters_of self.now.alphabet)).degree w.now) }
         ensures { IfOk result (IsLeastOrZero (IsMultiple self.now.zeros.items) (letters_of self.now.alphabet)
             (image_of (letters_of self.now.alphabet) w.now)) }
     {
@@ -45,7 +46,7 @@ impl Completion {
         requires sound { IsSound self.now }
         requires monomial { IsMonomial (length (letters_of self.now.alphabet).degrees) m.now }
         requires standard { ¬ IsMultiple self.now.zeros.items m.now }
-        requires degree { weighted_degree (letters_of self.now.alphabet).degrees m.now ≤ self.now.degree }
+        requires degree { IsDecided (listing_of self.now) (weighted_degree (letters_of self.now.alphabet).degrees m.now) }
         ensures { IfOk result (IsFactor (letters_of self.now.alphabet) m.now) }
     {
         match self.least(alloc, m)? {

@@ -6,7 +6,7 @@ ghost use Rattle.monomial_order.specs.Ranges.{all_between};
 ghost use Rattle.word_laws.specs.Words.{image_of, lead_degrees, word_order_of, IsLeast, IsSWord, IsWord};
 ghost use Rattle.toric_ideal.specs.Leads.{letters};
 ghost use Rattle.toric_ideal.specs.Closing.{closing_max, with_closed, HasMissedWord};
-ghost use Rattle.toric_ideal.specs.Listing.{AgreeTo, AreRules, AreZeros, IsClosed, IsListing};
+ghost use Rattle.toric_ideal.specs.Listing.{AgreeTo, AreRules, AreZeros, IsClosed, IsDecided, IsListing};
 
 use crate::Rule;
 use crate::completion::Completion;
@@ -101,7 +101,7 @@ impl Words {
     pub fn factor(&self, alloc: Global, m: &Monomial) -> Result<Option<Monomial>, Memory>
         requires monomial { IsMonomial (length self.now.letters.degrees) m.now }
         requires standard { ¬ IsMultiple self.now.zeros m.now }
-        requires degree { weighted_degree self.now.letters.degrees m.now ≤ self.now.degree }
+        requires degree { IsDecided self.now (weighted_degree self.now.letters.degrees m.now) }
         ensures s_word { IfOk result (λ v. IfSome v (IsSWord self.now.letters)) }
         ensures least { IfOk result (λ v. IfSome v (IsLeast self.now.letters m.now)) }
         ensures none { IfOk result (λ v.
@@ -113,7 +113,7 @@ impl Words {
     /// The least word with the image of w, or None if that is a multiple of a zero.
     pub fn least(&self, alloc: Global, w: &Monomial) -> Result<Option<Monomial>, Memory>
         requires word { IsWord self.now.letters w.now }
-        requires degree { (word_order_of self.now.letters).degree w.now ≤ self.now.degree }
+        requires degree { IsDecided self.now ((word_order_of self.now.letters).degree w.now) }
         ensures least { IfOk result (λ v. IfSome v (IsLeast self.now.letters (image_of self.now.letters w.now))) }
         ensures standard { IfOk result (λ v.
             IsSome v → ¬ IsMultiple self.now.zeros (image_of self.now.letters w.now)) }

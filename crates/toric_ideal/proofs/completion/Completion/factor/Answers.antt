@@ -1,6 +1,8 @@
 use Rattle.std.proofs.Common.{◌≡◌, ◌∙◌, ap, sym, subst, Some, None, arith, refl}
 use Rattle.word_laws.specs.laws.Words.{degree_x, x_word}
 use Rattle.toric_ideal.specs.Alphabet.{letters_of}
+use Rattle.toric_ideal.specs.Listing.{IsDecided}
+use Rattle.toric_ideal.specs.State.{listing_of}
 use Rattle.toric_ideal.proofs.SoundListings.{factor_none, factor_s_word, factor_some}
 use Rattle.toric_ideal.proofs.completion.Completion.factor.Goals as goal
 
@@ -8,7 +10,7 @@ pub least-requires-clause-degree : goal.least-requires-clause-degree
 least-requires-clause-degree c =
     let w = c.args.self.now in
     let e = degree_x (letters_of w.alphabet) c.requires.sound.listing.letters c.args.m.now c.requires.monomial in
-    let d = c.requires.degree in omega arith
+    subst (IsDecided (listing_of w)) (sym e) c.requires.degree
 
 pub returns-then-has_x : goal.returns-then-has_x
 returns-then-has_x c =
