@@ -1,5 +1,5 @@
 -- What holds of a completion between calls.
-use Rattle.std.proofs.Common.{◌≡◌, ◌≢◌, ℕ, ◌<◌, ◌≤◌, refl, sym, ◌∙◌, ap, subst, List, [], ◌++◌, length, take, drop, arith, ⊎_elim, false, true, Some, None}
+use Rattle.std.proofs.Common.{◌≡◌, ◌≢◌, ℕ, ◌<◌, ◌≤◌, refl, sym, ◌∙◌, ap, subst, List, [], ◌++◌, length, take, drop, arith, ⊎_elim, false, true, Some, None, inl, inr}
 use Rattle.std.specs.Prelude.{Contains, AllPairs}
 use Rattle.std.proofs.lemmas.List.{take-append-drop}
 use Rattle.monomial_order.specs.Monomial.{Exponents, IsTrimmed, weighted_degree}
@@ -9,7 +9,7 @@ use Rattle.monomial_order.specs.Monomial.{IsMonomial, IsMultiple}
 use Rattle.word_laws.specs.Words.{Letters, AreLetters, word_order_of, image_of, IsWord, IsLeast, IsSWord}
 use Rattle.word_laws.specs.laws.Words.{image_same}
 use Rattle.word_laws.specs.laws.Reducible.{multiple_closed, least_s_word}
-use Rattle.word_rewriting.specs.Rewriting.{WordOrZero, IsNormalForm}
+use Rattle.word_rewriting.specs.Rewriting.{WordOrZero, RewriteRule, IsNormalForm}
 use Rattle.word_rewriting.specs.Completeness.{IsLeastOrZero, GeneratesReducible}
 use Rattle.word_rewriting.specs.laws.Criterion.{decreasing_rules}
 use Rattle.word_rewriting.specs.laws.NormalForms.{form_least}
@@ -20,7 +20,10 @@ use Rattle.toric_ideal.specs.Leads.{letters, AreLetterLeads}
 use Rattle.toric_ideal.specs.declared.completion.Completion.{Completion}
 use Rattle.toric_ideal.specs.declared.rule.Rule.{Rule}
 use Rattle.toric_ideal.specs.Alphabet.{letters_of}
-use Rattle.toric_ideal.specs.Listing.{AgreeTo, AreParted, AreRules, AreZeros, IsDecided, IsListing, Listing}
+use Rattle.toric_ideal.specs.Listing.{AgreeTo, AreParted, AreRules, AreZeros, IsClosed, IsDecided, IsListing, Listing}
+use Rattle.monomial_order.specs.MonomialOrder.{MonomialOrder}
+use Rattle.toric_ideal.specs.declared.index_pair.IndexPair.{IndexPair}
+use Rattle.toric_ideal.specs.Queue.{IsQueued}
 use Rattle.toric_ideal.specs.State.{listing_of, IsSound}
 use Rattle.toric_ideal.proofs.Degrees.{rules_agree, rules_none}
 use Rattle.toric_ideal.proofs.LetterLemmas.{leads_letters}
@@ -111,3 +114,39 @@ module _ (w : Completion) (s : IsSound w) (m : Exponents) (hm : IsMonomial (leng
 
   pub factor_s_word : (v : Exponents) → a ≡ Some v → ¬ IsSWord (letters_of w.alphabet) v → (u : Exponents) → IsSWord (letters_of w.alphabet) u → image_of (letters_of w.alphabet) u ≢ m
   factor_s_word v e none u hu q = none (least_s_word (letters_of w.alphabet) s.listing.letters m u v (factor_some v e) hu q)
+
+-- if all zeros have degrees of at most the old one, they are old
+pub old_zero : (w : Completion) → (zs : List Exponents) → AgreeTo w.alphabet.order.x_degrees.items w.degree w.zeros.items zs → ((z : Exponents) → Contains zs z → weighted_degree w.alphabet.order.x_degrees.items z ≤ w.degree) →
+    (z : Exponents) → Contains zs z → Contains w.zeros.items z
+old_zero w zs agree low z h = (agree z (low z h)).1 h
+
+-- a closed listing has its rules in every degree
+pub listing_kept : (w : Completion) → IsSound w → w.closed ≡ true → (zs : List Exponents) (c : ℕ) → w.degree ≤ c → c ≤ 30000 → AreZeros w.alphabet.order.x_degrees.items c zs → AgreeTo w.alphabet.order.x_degrees.items w.degree w.zeros.items zs →
+    ((z : Exponents) → Contains zs z → Contains w.zeros.items z) → IsListing (record { letters = letters_of w.alphabet; zeros = zs; degree = c; rules = w.rules.items; closed = w.closed })
+listing_kept w s t zs c l m h agree old = record {
+  letters = s.listing.letters;
+  leads = s.listing.leads;
+  distinct = s.listing.distinct;
+  zeros = h;
+  small = m;
+  rules = record {
+    increasing = r.increasing;
+    minimal = r.minimal;
+    degree = λ x k. let d = r.degree x k in omega arith;
+    least = r.least;
+    all = λ v k d.
+        let x = divides v k.word k.reducible in
+        let y = r.minimal x.0 x.1 in
+        (x.0, x.1, k.minimal x.0.word y.word y.reducible x.2);
+  };
+  closed = λ _. divides;
+}
+  where
+    r : AreRules (letters_of w.alphabet) zs w.degree w.rules.items
+    r = rules_with w s zs c h agree
+
+    divides : IsClosed (record { letters = letters_of w.alphabet; zeros = zs; degree = c; rules = w.rules.items; closed = w.closed })
+    divides v hv red = s.listing.closed t v hv (⊎_elim (λ z. inl (z.0, old z.0 z.1, z.2)) (λ x. inr x) red)
+
+pub queued_later : (O : MonomialOrder) (c d n : ℕ) (R : List RewriteRule) (queue : List (List IndexPair)) → c ≤ d → IsQueued O c n R queue → IsQueued O d n R queue
+queued_later O c d n R queue l q = record { within = q.within; each = λ e p a h. q.each e p (omega arith) h; all = λ i j a b x y. q.all i j a b (omega arith) y }

@@ -1,6 +1,7 @@
 //! A completion to a degree.
-ghost use Rattle.std.specs.Prelude.{◌≡◌, ◌≤◌, ◌<◌, [], true, IfOk, OnOk, OnErr};
+ghost use Rattle.std.specs.Prelude.{◌≡◌, ◌≤◌, ◌<◌, ◌↔◌, [], true, Contains, IfOk, OnOk, OnErr};
 ghost use Rattle.monomial_order.specs.Limits.{degree_max};
+ghost use Rattle.monomial_order.specs.Monomial.{Exponents};
 ghost use Rattle.monomial_order.specs.Ranges.{all_between};
 ghost use Rattle.toric_ideal.specs.Alphabet.{letters_of};
 ghost use Rattle.toric_ideal.specs.Leads.{letters};
@@ -12,6 +13,7 @@ use crate::alphabet::Alphabet;
 use crate::copies::copy_monomials;
 use crate::growing::grow_rules;
 use crate::index_pair::IndexPair;
+use crate::new_zeros::has_zero_above;
 use degree_queue::DegreeQueue;
 use monomial_order::{Memory, Monomial};
 use std::alloc::Global;
@@ -66,12 +68,20 @@ impl Completion {
         ensures alphabet { self.new.alphabet ≡ self.old.alphabet }
         ensures zeros { OnOk result (self.new.zeros.items ≡ zero.now) }
         ensures degree { OnOk result (self.new.degree ≡ c) }
+        ensures closed { OnOk result (self.new.closed ≡ true ↔ (self.old.closed ≡ true ×
+            ((z : Exponents) → Contains zero.now z → Contains self.old.zeros.items z))) }
         ensures err_zeros { OnErr result (self.new.zeros ≡ self.old.zeros) }
         ensures err_degree { OnErr result (self.new.degree ≡ self.old.degree) }
         ensures err_rules { OnErr result (self.new.rules.items ≡ self.old.rules.items) }
         ensures err_closed { OnErr result (self.new.closed ≡ self.old.closed) }
     {
         let zeros = copy_monomials(alloc, zero)?;
+        if self.closed && !has_zero_above(&self.alphabet, zero, self.degree) {
+            self.zeros = zeros;
+            self.degree = c;
+            self.settled_count = self.alphabet.leads.len();
+            return Ok(());
+        }
         let first = self.table.len();
         match grow_rules(
             alloc,

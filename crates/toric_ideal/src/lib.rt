@@ -8,6 +8,7 @@ mod copies;
 mod degree_step;
 mod growing;
 mod index_pair;
+mod new_zeros;
 mod normal_forms;
 mod queueing;
 mod right_sides;

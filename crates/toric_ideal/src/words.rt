@@ -57,6 +57,8 @@ impl Words {
         ensures letters { self.new.letters ≡ self.old.letters }
         ensures degree { OnOk result (self.new.degree ≡ max self.old.degree c) }
         ensures new_zeros { OnOk result (self.old.degree < c → self.new.zeros ≡ zero.now) }
+        ensures closed { OnOk result (self.old.degree < c → IsTrue self.new.closed ↔ (IsTrue self.old.closed ×
+            ((z : Exponents) → Contains zero.now z → Contains self.old.zeros z))) }
         ensures old_zeros { c ≤ self.old.degree → self.new ≡ self.old }
         ensures reached { c ≤ self.old.degree → IsOk result }
         ensures err { OnErr result (self.new ≡ self.old) }
