@@ -1,16 +1,15 @@
 -- Right sides that are rewritten, one after the other.
-use Rattle.std.proofs.Common.{◌≡◌, ◌≢◌, ℕ, zero, suc, ◌+◌, ◌<◌, ◌≤◌, refl, sym, ◌∙◌, ap, subst, List, [], ◌∷◌, length, take, set, get_or, arith, inl, inr, ⊎_elim, Some, None, Option, ◌⊎◌}
+use Rattle.std.proofs.Common.{◌≡◌, ℕ, zero, suc, ◌+◌, ◌<◌, ◌≤◌, refl, sym, ◌∙◌, ap, subst, List, [], ◌∷◌, length, take, set, get_or, arith, ⊎_elim, Some, None, ◌⊎◌}
 use Rattle.std.specs.Prelude.{Contains}
 use Rattle.std.proofs.lemmas.List.{get_or-set_same, get_or-set_other, get_or_default, length-set}
 use Rattle.std.specs.declared.cmp.Ordering.TheVariants.{Less}
 use Rattle.monomial_order.specs.Monomial.{Exponents, Divides, IsMultiple}
-use Rattle.monomial_order.specs.laws.Comparing.{degree_falls, divisor_degree, le_or_not, numbers_or_not}
+use Rattle.monomial_order.specs.laws.Comparing.{degree_falls, numbers_or_not}
 use Rattle.monomial_order.specs.laws.Lists.{contains_at}
-use Rattle.monomial_order.specs.laws.Rank.{IsWithin}
 use Rattle.word_laws.specs.Words.{Letters, AreLetters, word_order_of, image_of, IsWord, IsSmaller}
 use Rattle.word_laws.specs.laws.Words.{word_laws}
 use Rattle.word_laws.specs.laws.Reducible.{multiple_closed}
-use Rattle.word_rewriting.specs.Rewriting.{WordOrZero, RewriteRule, HasLeftDivisor, IsInNormalForm, IsNormalForm, Rewrites}
+use Rattle.word_rewriting.specs.Rewriting.{WordOrZero, RewriteRule, IsInNormalForm, IsNormalForm, Rewrites}
 use Rattle.word_rewriting.specs.Completeness.{AreRewriteRules, IsRightSide, HasImage}
 use Rattle.word_rewriting.specs.laws.Confluence.{IsBelow, rewrites_below}
 use Rattle.word_rewriting.specs.laws.Criterion.{decreasing_rules}

@@ -1,24 +1,22 @@
 -- Listings whose pairs above the degree are joined.
-use Rattle.std.proofs.Common.{◌≡◌, ◌≢◌, ℕ, suc, ◌+◌, ◌<◌, ◌≤◌, refl, sym, ◌∙◌, ap, subst, List, [], length, get_or, arith, inl, inr, ⊎_elim, Some, None, Bool, true, false}
-use Rattle.std.specs.Prelude.{Contains, IsTrue}
+use Rattle.std.proofs.Common.{◌≡◌, ℕ, ◌+◌, ◌<◌, ◌≤◌, sym, ap, subst, [], length, get_or, arith, ⊎_elim, Bool, true}
 use Rattle.std.proofs.lemmas.List.{get_or_default}
-use Rattle.monomial_order.specs.Monomial.{Exponents, Divides, IsMultiple, AreCoprime, least_common_multiple as lcm, weighted_degree}
+use Rattle.monomial_order.specs.Monomial.{Exponents, Divides, IsMultiple, AreCoprime}
 use Rattle.monomial_order.specs.laws.Comparing.{le_or_not}
-use Rattle.monomial_order.specs.laws.Lists.{contains_at, contains_map}
-use Rattle.word_laws.specs.Words.{Letters, AreLetters, word_order_of, IsWord, IsReducible}
+use Rattle.monomial_order.specs.laws.Lists.{contains_at}
+use Rattle.word_laws.specs.Words.{Letters, word_order_of}
 use Rattle.word_laws.specs.laws.Reducible.{multiple_closed}
-use Rattle.word_rewriting.specs.Rewriting.{RewriteRule, HasJoinablePair, HasLeftDivisor, JoinsPair}
+use Rattle.word_rewriting.specs.Rewriting.{RewriteRule, HasJoinablePair, HasLeftDivisor}
 use Rattle.word_rewriting.specs.Completeness.{AreComplete, AreInX, HaveDegreesTo}
 use Rattle.word_rewriting.specs.laws.Complete.{complete_exactly, generates_complete, zero_multiples}
 use Rattle.word_rewriting.specs.laws.Criterion.{decreasing_rules}
 use Rattle.word_rewriting.specs.laws.Pairs.{pairs_enough}
 use Rattle.word_rules.specs.Rules.{no_rule, rule_at}
 use Rattle.toric_ideal.specs.declared.completion.Completion.{Completion}
-use Rattle.toric_ideal.specs.declared.rule.Rule.{Rule}
 use Rattle.toric_ideal.specs.Alphabet.{letters_of}
-use Rattle.toric_ideal.specs.Closing.{with_closed, CanClose, HasMissedWord, IsPairJoined, JoinsPairsOf, ShowsMissedWord}
-use Rattle.toric_ideal.specs.Listing.{HasRuleDivisor, IsClosed, IsListing, Listing}
-use Rattle.toric_ideal.specs.Rewriting.{rewrite_rule, AreSameRules}
+use Rattle.toric_ideal.specs.Closing.{with_closed, CanClose, HasMissedWord, JoinsPairsOf, ShowsMissedWord}
+use Rattle.toric_ideal.specs.Listing.{HasRuleDivisor, IsClosed, IsListing}
+use Rattle.toric_ideal.specs.Rewriting.{rewrite_rule}
 use Rattle.toric_ideal.specs.State.{listing_of, IsSound}
 use Rattle.toric_ideal.specs.Step.{pair_degree}
 use Rattle.toric_ideal.proofs.Members.{contains_mapped}

@@ -1,20 +1,17 @@
 -- Rules whose pairs above the degree are joined.
-use Rattle.std.proofs.Common.{◌≡◌, ◌≢◌, ℕ, suc, ◌+◌, ◌<◌, ◌≤◌, refl, sym, ◌∙◌, ap, subst, List, [], length, get_or, arith, inl, inr, ⊎_elim, ◌⊎◌, Some, None, take}
+use Rattle.std.proofs.Common.{◌≡◌, ◌≢◌, ℕ, suc, ◌+◌, ◌<◌, ◌≤◌, sym, ◌∙◌, subst, List, length, get_or, arith, inl, inr, ⊎_elim, ◌⊎◌, take}
 use Rattle.std.specs.Prelude.{Contains}
-use Rattle.std.proofs.lemmas.List.{get_or_default}
 use Rattle.monomial_order.specs.Monomial.{Exponents, IsMultiple, AreCoprime, least_common_multiple as lcm}
 use Rattle.monomial_order.specs.MonomialOrder.{MonomialOrder}
-use Rattle.monomial_order.specs.laws.Comparing.{le_or_not}
 use Rattle.monomial_order.specs.laws.Lists.{contains_at}
 use Rattle.word_laws.specs.Words.{Letters, AreLetters, word_order_of, image_of}
 use Rattle.word_laws.specs.laws.Reducible.{multiple_closed}
-use Rattle.word_rewriting.specs.Rewriting.{WordOrZero, RewriteRule, Rewrites, HasJoinablePair, JoinsPair}
+use Rattle.word_rewriting.specs.Rewriting.{WordOrZero, RewriteRule, Rewrites, HasJoinablePair}
 use Rattle.word_rewriting.specs.laws.Criterion.{decreasing_rules}
 use Rattle.word_rewriting.specs.laws.NormalForms.{difference_shows, pair_images}
 use Rattle.word_rewriting.specs.laws.Pairs.{joinable_pair}
 use Rattle.word_rules.specs.Rules.{no_rule, rule_at, AreDecreasing, ArePairForms, AreSharing, IsSmallWord}
 use Rattle.toric_ideal.specs.Closing.{CanClose, IsPairJoined, JoinsPairsOf, ShowsMissedWord}
-use Rattle.toric_ideal.specs.Step.{AreSmallWords}
 use Rattle.toric_ideal.proofs.Grown.{exact_small}
 use Rattle.toric_ideal.proofs.QueuedPairs.{lcm_small}
 use Rattle.toric_ideal.proofs.Members.{take_next, take_whole}

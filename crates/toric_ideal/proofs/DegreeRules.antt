@@ -1,12 +1,12 @@
 -- A degree of a completion, as its calls change it.
-use Rattle.std.proofs.Common.{◌≡◌, ◌≢◌, ℕ, suc, ◌+◌, ◌<◌, ◌≤◌, refl, sym, ◌∙◌, ap, subst, List, [], ◌∷◌, ◌++◌, length, length-append, take, get_or, arith, Some, None, Option}
+use Rattle.std.proofs.Common.{◌≡◌, ◌≢◌, ℕ, suc, ◌+◌, ◌≤◌, sym, ◌∙◌, ap, subst, List, [], ◌∷◌, ◌++◌, length, length-append, take, arith, Some, None}
 use Rattle.std.specs.Prelude.{Contains, IfSome}
 use Rattle.std.proofs.lemmas.List.{take-append-le}
 use Rattle.monomial_order.specs.Monomial.{Exponents, IsMultiple, least_common_multiple as lcm, weighted_degree}
 use Rattle.monomial_order.specs.laws.Monomial.{IsMonomial-least_common_multiple}
 use Rattle.monomial_order.specs.laws.Comparing.{degree_one}
-use Rattle.monomial_order.specs.laws.Lists.{contains_at, contains_left}
-use Rattle.word_laws.specs.Words.{Letters, AreLetters, word_order_of, image_of, IsWord}
+use Rattle.monomial_order.specs.laws.Lists.{contains_at}
+use Rattle.word_laws.specs.Words.{Letters, AreLetters, word_order_of, image_of}
 use Rattle.word_laws.specs.laws.Words.{word_laws, degree_image, degree_x, x_word, image_same}
 use Rattle.word_laws.specs.laws.Reducible.{multiple_closed}
 use Rattle.word_rewriting.specs.Rewriting.{WordOrZero, RewriteRule, Rewrites, HasJoinablePair, IsNormalForm}
@@ -15,8 +15,8 @@ use Rattle.word_rewriting.specs.laws.Criterion.{decreasing_rules}
 use Rattle.word_rewriting.specs.laws.NormalForms.{pair_images, rewrites_image}
 use Rattle.word_rules.specs.Rules.{no_rule, rule_at, AreDecreasing, ArePairForms, IsSmallWord}
 use Rattle.toric_ideal.specs.Rewriting.{AreExactRules}
-use Rattle.toric_ideal.specs.Step.{pair_degree, IsGrowing, IsOriented, IsPairAt, IsStep}
-use Rattle.toric_ideal.proofs.DegreeStep.{other_forms, oriented_rule, same_forms, step_push, zero_pushed}
+use Rattle.toric_ideal.specs.Step.{IsGrowing, IsOriented, IsPairAt, IsStep}
+use Rattle.toric_ideal.proofs.DegreeStep.{other_forms, oriented_rule, same_forms, zero_pushed}
 
 module _ (L : Letters) (H : AreLetters L) (Z : List Exponents) (in_x : AreInX L Z) (c first : ℕ) (S : List RewriteRule) (g : IsGrowing L Z c first S) where
   pub growing_decreasing : AreDecreasing (word_order_of L) S

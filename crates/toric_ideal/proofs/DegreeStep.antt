@@ -2,18 +2,16 @@
 use Rattle.std.proofs.Math.ListN.{get_or-append}
 use Rattle.std.proofs.Math.Seq.{get_or-append_seam}
 use Rattle.std.proofs.lemmas.List.{append_assoc, get_or_default}
-use Rattle.std.proofs.Common.{◌≡◌, ◌≢◌, ℕ, suc, ◌+◌, ◌<◌, ◌≤◌, refl, append-nil, sym, ◌∙◌, ap, subst, List, [], ◌∷◌, ◌++◌, length, length-append, get_or, arith, ◌⊎◌, inl, inr, ⊎_elim, Some, None}
+use Rattle.std.proofs.Common.{◌≡◌, ℕ, suc, ◌<◌, ◌≤◌, append-nil, sym, ◌∙◌, ap, subst, List, [], ◌∷◌, ◌++◌, length, length-append, get_or, arith, ◌⊎◌, ⊎_elim, Some, None}
 use Rattle.std.specs.Prelude.{Contains, AllPairs}
-use Rattle.std.specs.declared.cmp.Ordering.TheVariants.{Less}
-use Rattle.monomial_order.specs.Monomial.{Exponents, Divides, IsMonomial, IsMultiple, AreCoprime, least_common_multiple as lcm, weighted_degree}
-use Rattle.monomial_order.specs.laws.Comparing.{divisor_degree, equal_or_not, proper_divisor, le_or_not, three_ways}
+use Rattle.monomial_order.specs.Monomial.{Exponents, Divides, IsMultiple, AreCoprime, least_common_multiple as lcm, weighted_degree}
+use Rattle.monomial_order.specs.laws.Comparing.{equal_or_not, proper_divisor, le_or_not}
 use Rattle.monomial_order.specs.laws.Lists.{contains_at, contains_cases, contains_here, contains_left, contains_none, contains_right, contains_either}
-use Rattle.word_laws.specs.Words.{Letters, AreLetters, word_order_of, image_of, IsWord, IsSmaller}
+use Rattle.word_laws.specs.Words.{Letters, AreLetters, word_order_of, image_of, IsWord}
 use Rattle.word_laws.specs.laws.Words.{word_laws, degree_image, degree_x, x_word, image_same}
 use Rattle.word_laws.specs.laws.Reducible.{multiple_closed}
-use Rattle.word_rewriting.specs.Rewriting.{WordOrZero, RewriteRule, multiple, Rewrites, AreJoinable, HasLeftDivisor, IsInNormalForm, IsNormalForm, IsCriticalPair, HasJoinablePair, JoinsPair}
-use Rattle.word_rewriting.specs.Completeness.{lead_letter, AreInX, AreRewriteRules, IsRightSide, HasImage, GeneratesReducible, AreComplete}
-use Rattle.word_rewriting.specs.Completion.{Orients}
+use Rattle.word_rewriting.specs.Rewriting.{WordOrZero, RewriteRule, multiple, Rewrites, AreJoinable, IsInNormalForm, IsNormalForm, IsCriticalPair, HasJoinablePair, JoinsPair}
+use Rattle.word_rewriting.specs.Completeness.{lead_letter, AreInX, IsRightSide, HasImage, GeneratesReducible, AreComplete}
 use Rattle.word_rewriting.specs.laws.Complete.{zero_multiples, complete_generates, generates_complete}
 use Rattle.word_rewriting.specs.laws.Completion.{oriented_joins, pairs_above}
 use Rattle.word_rewriting.specs.laws.Confluence.{IsBelow}
@@ -23,7 +21,7 @@ use Rattle.word_rewriting.specs.laws.Pairs.{joinable_pair, pairs_enough}
 use Rattle.word_rewriting.specs.laws.Rewriting.{joinable_itself, more_joinable, more_rewrites, rewrites_trans, rule_rewrites}
 use Rattle.word_rules.specs.Rules.{no_rule, rule_at}
 use Rattle.toric_ideal.specs.Rewriting.{AreExactRules}
-use Rattle.toric_ideal.specs.Step.{pair_degree, AreBothZero, IsCleaned, IsOriented, IsStep, ZerosVanish}
+use Rattle.toric_ideal.specs.Step.{pair_degree, AreBothZero, IsOriented, IsStep, ZerosVanish}
 
 module _ (L : Letters) (H : AreLetters L) (Z : List Exponents) (in_x : AreInX L Z) where
   -- a word with the image of an oriented pair is the left side of a rule
@@ -188,8 +186,7 @@ module _ (L : Letters) (H : AreLetters L) (Z : List Exponents) (in_x : AreInX L 
         let hx = in_x z hz in
         let i = rewrites_image (IsMultiple Z) L H S k.rules (multiple_closed (length L.degrees) Z) n.rewrites z (x_word L H z hx, image_same L H z hx) in
         let e : (word_order_of L).degree u ≡ d = sym (degree_image L H u) ∙ (ap (word_order_of L).degree i.1 ∙ (degree_x L H z hx ∙ dz)) in
-        let t : RewriteRule = record { left = u; right = None } in
-        (
+        let t : RewriteRule = record { left = u; right = None } in (
           step_push S t k (i.0, subst (IsMultiple Z) (sym i.1) (z, hz, λ p. omega arith)) n.normal e,
           rewrites_trans (S ++ t ∷ []) (more_rewrites S (S ++ t ∷ []) (contains_left S (t ∷ [])) n.rewrites) (rule_rewrites (S ++ t ∷ []) t (contains_right S (t ∷ []) t (contains_here t []))),
         )

@@ -1,8 +1,8 @@
 -- Rules of degree 0, and rules with other zeros.
-use Rattle.std.proofs.Common.{◌≡◌, ◌≢◌, ℕ, suc, ◌≤◌, sym, ap, subst, List, [], ◌++◌, length, arith, inl, inr, ⊎_elim}
-use Rattle.std.specs.Prelude.{Contains, map, Option, Some, None}
+use Rattle.std.proofs.Common.{◌≡◌, ℕ, ◌≤◌, ap, subst, List, [], length, arith, inl, inr, ⊎_elim}
+use Rattle.std.specs.Prelude.{Contains, Option, Some, None}
 use Rattle.std.specs.declared.cmp.Ordering.TheVariants.{Less}
-use Rattle.monomial_order.specs.Monomial.{weighted_degree, exponent, variable, Divides, IsMonomial, IsTrimmed, IsMultiple}
+use Rattle.monomial_order.specs.Monomial.{weighted_degree, Divides, IsMonomial, IsTrimmed, IsMultiple}
 use Rattle.monomial_order.specs.MonomialOrder.{IsMonomialOrder, MonomialOrder}
 use Rattle.monomial_order.specs.laws.Monomial.{weighted_nil}
 use Rattle.monomial_order.specs.laws.Comparing.{divisor_degree, none_below_one, some_exponent, equal_or_not}

@@ -1,20 +1,19 @@
 -- The rules of a listing are reduced, and generate the reducible words; and such rules are those of a listing.
-use Rattle.std.proofs.Common.{◌≡◌, ◌≢◌, ℕ, ◌≤◌, sym, ◌∙◌, ap, subst, List, length, map, arith, inl, inr, ⊎_elim, Some, None, Option}
+use Rattle.std.proofs.Common.{◌≡◌, ℕ, ◌≤◌, sym, ◌∙◌, ap, subst, List, length, map, arith, ⊎_elim, Some, None}
 use Rattle.std.specs.Prelude.{Contains}
-use Rattle.std.specs.declared.cmp.Ordering.TheVariants.{Less}
-use Rattle.monomial_order.specs.Monomial.{Exponents, Divides, IsMonomial, IsMultiple, weighted_degree}
+use Rattle.monomial_order.specs.Monomial.{Exponents, Divides, IsMultiple}
 use Rattle.monomial_order.specs.MonomialOrder.{IsIncreasing}
 use Rattle.monomial_order.specs.laws.Comparing.{divisor_degree, three_ways}
 use Rattle.word_laws.specs.Words.{Letters, AreLetters, word_order_of, image_of, IsWord, IsLeast, IsSmaller, IsReducible, IsMinimalReducible}
 use Rattle.word_laws.specs.laws.Words.{word_laws}
 use Rattle.monomial_order.specs.laws.Lists.{contains_map}
 use Rattle.word_laws.specs.laws.Reducible.{multiple_closed, multiple_decided, reducible_exactly}
-use Rattle.word_rewriting.specs.Rewriting.{WordOrZero, RewriteRule, HasLeftDivisor, IsInNormalForm}
-use Rattle.word_rewriting.specs.Completeness.{AreRewriteRules, AreReducedRules, GeneratesReducible, IsRightSide, IsLeastOrZero, IsMinimalLeftSide}
+use Rattle.word_rewriting.specs.Rewriting.{WordOrZero, RewriteRule, IsInNormalForm}
+use Rattle.word_rewriting.specs.Completeness.{AreRewriteRules, IsRightSide, IsLeastOrZero}
 use Rattle.word_rewriting.specs.laws.Complete.{reduced_exactly}
 use Rattle.word_rewriting.specs.laws.NormalForms.{minimal_left, divided_reducible}
 use Rattle.toric_ideal.specs.declared.rule.Rule.{Rule}
-use Rattle.toric_ideal.specs.Listing.{AreRules, HasRuleDivisor}
+use Rattle.toric_ideal.specs.Listing.{AreRules}
 use Rattle.toric_ideal.specs.Rewriting.{rewrite_rule, rewrite_rules, AreExactRules, AreSameRules}
 use Rattle.toric_ideal.proofs.Members.{contains_mapped}
 

@@ -1,12 +1,12 @@
 -- The rules of a listing to a greater degree.
-use Rattle.std.proofs.Common.{◌≡◌, ◌≢◌, ℕ, suc, ◌+◌, ◌<◌, ◌≤◌, refl, sym, ◌∙◌, ap, subst, List, [], ◌∷◌, ◌++◌, length, map, take, get_or, arith, inl, inr, ⊎_elim, ◌⊎◌, Some, None}
+use Rattle.std.proofs.Common.{◌≡◌, ℕ, suc, ◌<◌, ◌≤◌, refl, sym, ◌∙◌, ap, subst, List, ◌++◌, length, arith, ⊎_elim, Some, None}
 use Rattle.std.specs.Prelude.{Contains}
-use Rattle.std.proofs.lemmas.List.{map-append, take_all}
+use Rattle.std.proofs.lemmas.List.{map-append}
 use Rattle.monomial_order.specs.Monomial.{Exponents, IsMultiple}
 use Rattle.monomial_order.specs.MonomialOrder.{IsIncreasing}
 use Rattle.monomial_order.specs.laws.Comparing.{le_or_not}
 use Rattle.monomial_order.specs.laws.Lists.{contains_at, contains_either, contains_left, contains_map, contains_right}
-use Rattle.word_laws.specs.Words.{Letters, AreLetters, word_order_of, image_of, IsLeast}
+use Rattle.word_laws.specs.Words.{Letters, AreLetters, word_order_of, image_of}
 use Rattle.word_laws.specs.laws.Words.{word_laws}
 use Rattle.word_laws.specs.laws.Reducible.{multiple_closed, least_unique}
 use Rattle.word_rewriting.specs.Rewriting.{WordOrZero, RewriteRule}
@@ -17,7 +17,7 @@ use Rattle.toric_ideal.specs.declared.rule.Rule.{Rule}
 use Rattle.toric_ideal.specs.Listing.{AreRules}
 use Rattle.toric_ideal.specs.Rewriting.{rewrite_rule, rewrite_rules, AreExactRules, AreSameRules}
 use Rattle.toric_ideal.specs.SortedRules.{words_of, AreSortedRules}
-use Rattle.toric_ideal.specs.Step.{IsExtension, KeepsFirst}
+use Rattle.toric_ideal.specs.Step.{IsExtension}
 use Rattle.toric_ideal.proofs.Cleaning.{rule_index}
 use Rattle.toric_ideal.proofs.ExactRules.{exact_rules}
 use Rattle.toric_ideal.proofs.IncreasingLists.{increasing_append}

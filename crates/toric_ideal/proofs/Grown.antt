@@ -1,21 +1,19 @@
 -- The end of a degree.
-use Rattle.std.proofs.Common.{◌≡◌, ◌≢◌, ℕ, suc, ◌+◌, ◌-◌, ◌<◌, ◌≤◌, refl, sym, ◌∙◌, ap, subst, List, [], ◌∷◌, ◌++◌, length, length-append, take, take-take, get_or, arith, inl, inr, ⊎_elim, Some, None}
+use Rattle.std.proofs.Common.{◌≡◌, ℕ, suc, ◌+◌, ◌-◌, ◌<◌, ◌≤◌, refl, sym, ◌∙◌, ap, subst, List, [], length, length-append, take, take-take, get_or, arith, inl, inr, ⊎_elim, Some, None}
 use Rattle.std.specs.Prelude.{Contains}
 use Rattle.std.proofs.lemmas.List.{get_or-take, take_all, length-take-le}
 use Rattle.std.proofs.Math.Seq.{get_or-append_right}
 use Rattle.monomial_order.specs.Monomial.{Exponents, Divides, IsMultiple, least_common_multiple as lcm}
-use Rattle.monomial_order.specs.MonomialOrder.{MonomialOrder}
 use Rattle.monomial_order.specs.laws.Comparing.{degree_falls, divisor_degree, le_or_not}
 use Rattle.monomial_order.specs.laws.Lists.{contains_at, contains_either, contains_none}
-use Rattle.word_laws.specs.Words.{Letters, AreLetters, word_order_of, IsSmaller}
+use Rattle.word_laws.specs.Words.{Letters, AreLetters, word_order_of}
 use Rattle.word_laws.specs.laws.Words.{word_laws}
-use Rattle.word_rewriting.specs.Rewriting.{WordOrZero, RewriteRule, IsInNormalForm, HasJoinablePair, Rewrites}
-use Rattle.word_rewriting.specs.Completeness.{AreInX, AreRewriteRules, GeneratesReducible, IsRightSide}
-use Rattle.word_rewriting.specs.laws.Rewriting.{more_rewrites}
+use Rattle.word_rewriting.specs.Rewriting.{WordOrZero, RewriteRule, IsInNormalForm}
+use Rattle.word_rewriting.specs.Completeness.{AreInX, GeneratesReducible, IsRightSide}
 use Rattle.word_rules.specs.Rules.{no_rule, rule_at}
 use Rattle.toric_ideal.specs.Rewriting.{AreExactRules}
-use Rattle.toric_ideal.specs.Queue.{pair, IsNeedless, JoinsOrLists}
-use Rattle.toric_ideal.specs.Step.{pair_degree, AreSmallRules, HaveDegreesTo, IsCleaned, IsGrowing, IsExtension, IsGrown, IsStep, AreSmallWords, KeepsFirst, KeepsRules, ZerosVanish}
+use Rattle.toric_ideal.specs.Queue.{pair, JoinsOrLists}
+use Rattle.toric_ideal.specs.Step.{pair_degree, AreSmallRules, HaveDegreesTo, IsCleaned, IsGrowing, IsExtension, IsGrown, IsStep, AreSmallWords, KeepsFirst, ZerosVanish}
 use Rattle.toric_ideal.proofs.DegreeStep.{IsDone, step_generates, step_low, step_start}
 use Rattle.toric_ideal.proofs.Cleaning.{rule_index, same_lefts}
 use Rattle.toric_ideal.proofs.JoiningPairs.{keeps_first_trans, same_rule}

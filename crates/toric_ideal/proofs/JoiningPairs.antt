@@ -1,10 +1,10 @@
 -- The pairs of a degree, joined one after the other.
-use Rattle.std.proofs.Common.{◌≡◌, ◌≢◌, ℕ, ◌+◌, ◌<◌, ◌≤◌, refl, sym, ◌∙◌, ap, subst, List, [], ◌∷◌, length, take, get_or, arith, inl, inr, ⊎_elim}
+use Rattle.std.proofs.Common.{◌≡◌, ℕ, ◌+◌, ◌<◌, ◌≤◌, refl, sym, ◌∙◌, ap, subst, List, [], ◌∷◌, length, get_or, arith, inl, inr, ⊎_elim}
 use Rattle.std.specs.Prelude.{Contains}
 use Rattle.std.proofs.lemmas.List.{get_or-take}
 use Rattle.monomial_order.specs.Monomial.{least_common_multiple as lcm}
 use Rattle.monomial_order.specs.MonomialOrder.{MonomialOrder}
-use Rattle.monomial_order.specs.laws.Lists.{contains_cases, contains_here, contains_none, contains_there}
+use Rattle.monomial_order.specs.laws.Lists.{contains_cases, contains_there}
 use Rattle.word_rewriting.specs.Rewriting.{RewriteRule, HasJoinablePair}
 use Rattle.word_rewriting.specs.laws.Rewriting.{more_joinable}
 use Rattle.word_rules.specs.Rules.{no_rule, rule_at}

@@ -1,7 +1,7 @@
 -- Pairs that are put into the queue.
-use Rattle.std.proofs.Common.{◌≡◌, ◌≢◌, ℕ, suc, ◌+◌, ◌<◌, ◌≤◌, refl, sym, ◌∙◌, ap, subst, List, [], ◌∷◌, ◌++◌, length, take, get_or, arith, inl, inr, ⊎_elim, ◌⊎◌}
+use Rattle.std.proofs.Common.{◌≡◌, ℕ, suc, ◌+◌, ◌<◌, ◌≤◌, sym, ◌∙◌, subst, List, [], ◌∷◌, ◌++◌, length, take, get_or, arith, inl, inr, ⊎_elim}
 use Rattle.std.specs.Prelude.{Contains}
-use Rattle.monomial_order.specs.Monomial.{product, least_common_multiple as lcm, AreCoprime}
+use Rattle.monomial_order.specs.Monomial.{product, least_common_multiple as lcm}
 use Rattle.monomial_order.specs.MonomialOrder.{MonomialOrder}
 use Rattle.monomial_order.specs.laws.Monomial.{IsMonomial-least_common_multiple, IsTrimmed-product}
 use Rattle.monomial_order.specs.laws.Cofactors.{Divides-product, Divides-product_right, least_common_multiple_least}
@@ -13,8 +13,8 @@ use Rattle.word_rewriting.specs.Rewriting.{RewriteRule}
 use Rattle.word_rules.specs.Rules.{no_rule, rule_at, AreSharing, IsSmallWord}
 use Rattle.degree_queue.specs.DegreeQueue.{list_of, SameElsewhere}
 use Rattle.toric_ideal.specs.declared.index_pair.IndexPair.{IndexPair}
-use Rattle.toric_ideal.specs.Queue.{pair, IsNeedless, IsQueued, IsQueuedPair, IsPairQueued}
-use Rattle.toric_ideal.specs.Step.{pair_degree, AreBothZero, AreSmallWords, IsPairAt}
+use Rattle.toric_ideal.specs.Queue.{pair, IsQueued, IsQueuedPair, IsPairQueued}
+use Rattle.toric_ideal.specs.Step.{pair_degree, AreSmallWords, IsPairAt}
 use Rattle.toric_ideal.proofs.Members.{take_next, take_whole}
 
 pub lcm_small : (L : Letters) → AreLetters L → (S : List RewriteRule) → AreSmallWords L S → (i j : ℕ) → i < length S → j < length S → IsSmallWord (word_order_of L) (lcm (rule_at S i).left (rule_at S j).left)

@@ -1,22 +1,19 @@
 -- Lists of rules in the order of their words.
-use Rattle.std.proofs.Common.{◌≡◌, ◌≢◌, ℕ, suc, ◌+◌, ◌<◌, ◌≤◌, refl, sym, ◌∙◌, ap, subst, List, [], ◌∷◌, ◌++◌, length, map, take, drop, get_or, arith, inl, inr, ⊎_elim, ◌⊎◌}
-use Rattle.std.specs.Prelude.{Contains}
+use Rattle.std.proofs.Common.{◌≡◌, ◌≢◌, ℕ, ◌+◌, ◌<◌, ◌≤◌, refl, sym, ◌∙◌, ap, subst, List, [], ◌∷◌, ◌++◌, length, take, drop, get_or, arith, inl, inr, ⊎_elim}
 use Rattle.std.proofs.lemmas.List.{get_or_default, length-map, map-append, take-map, drop-map}
 use Rattle.std.proofs.Math.ListN.{get_or-map}
-use Rattle.std.specs.declared.cmp.Ordering.TheVariants.{Less}
 use Rattle.monomial_order.specs.MonomialOrder.{IsIncreasing, IsMonomialOrder, MonomialOrder}
 use Rattle.monomial_order.specs.laws.Comparing.{numbers_or_not}
-use Rattle.monomial_order.specs.laws.Lists.{contains_at, contains_cases, contains_here, contains_left, contains_map, contains_none, contains_right, contains_there}
+use Rattle.monomial_order.specs.laws.Lists.{contains_at, contains_cases, contains_here, contains_left, contains_none, contains_right, contains_there}
 use Rattle.word_rewriting.specs.Rewriting.{RewriteRule}
 use Rattle.word_rules.specs.Rules.{rule_at, IsSmallWord}
 use Rattle.toric_ideal.specs.declared.rule.Rule.{Rule}
-use Rattle.toric_ideal.specs.Increasing.{IsInsertionIndex, IsInserted}
+use Rattle.toric_ideal.specs.Increasing.{IsInsertionIndex}
 use Rattle.toric_ideal.specs.Rewriting.{rewrite_rule}
 use Rattle.toric_ideal.specs.SortedRules.{words_of, AreSortedRules, HaveSmallWords, IsInsertedRule}
 use Rattle.toric_ideal.proofs.IncreasingLists.{insert_new}
-use Rattle.toric_ideal.proofs.Members.{contains_drop, contains_mapped, contains_parts, contains_take}
+use Rattle.toric_ideal.proofs.Members.{contains_drop, contains_parts, contains_take}
 use Rattle.std.proofs.lemmas.List.Elements.{Contains-append_cases}
-
 
 -- the word at an index
 pub word_at : (rules : List Rule) (j : ℕ) (d : Rule) → j < length rules → get_or (words_of rules) j [] ≡ (get_or rules j d).word

@@ -1,8 +1,8 @@
 -- What holds of a completion between calls.
-use Rattle.std.proofs.Common.{◌≡◌, ◌≢◌, ℕ, ◌<◌, ◌≤◌, refl, sym, ◌∙◌, ap, subst, List, [], ◌++◌, length, take, drop, arith, ⊎_elim, false, true, Some, None, inl, inr}
-use Rattle.std.specs.Prelude.{Contains, AllPairs}
+use Rattle.std.proofs.Common.{◌≡◌, ◌≢◌, ℕ, ◌<◌, ◌≤◌, sym, subst, List, [], length, take, drop, arith, ⊎_elim, false, true, Some, None, inl, inr}
+use Rattle.std.specs.Prelude.{Contains}
 use Rattle.std.proofs.lemmas.List.{take-append-drop}
-use Rattle.monomial_order.specs.Monomial.{Exponents, IsTrimmed, weighted_degree}
+use Rattle.monomial_order.specs.Monomial.{Exponents, weighted_degree}
 use Rattle.monomial_order.specs.Ranges.{all_between}
 use Rattle.monomial_order.specs.laws.Lists.{contains_none}
 use Rattle.monomial_order.specs.Monomial.{IsMonomial, IsMultiple}
@@ -16,11 +16,11 @@ use Rattle.word_rewriting.specs.laws.NormalForms.{form_least}
 use Rattle.word_rules.specs.Rules.{AreDecreasing}
 use Rattle.toric_ideal.specs.Rewriting.{rewrite_rule, AreExactRules}
 use Rattle.toric_ideal.proofs.ExactRules.{listed_exact}
-use Rattle.toric_ideal.specs.Leads.{letters, AreLetterLeads}
+use Rattle.toric_ideal.specs.Leads.{letters}
 use Rattle.toric_ideal.specs.declared.completion.Completion.{Completion}
 use Rattle.toric_ideal.specs.declared.rule.Rule.{Rule}
 use Rattle.toric_ideal.specs.Alphabet.{letters_of}
-use Rattle.toric_ideal.specs.Listing.{AgreeTo, AreParted, AreRules, AreZeros, IsClosed, IsDecided, IsListing, Listing}
+use Rattle.toric_ideal.specs.Listing.{AgreeTo, AreParted, AreRules, AreZeros, IsClosed, IsDecided, IsListing}
 use Rattle.monomial_order.specs.MonomialOrder.{MonomialOrder}
 use Rattle.toric_ideal.specs.declared.index_pair.IndexPair.{IndexPair}
 use Rattle.toric_ideal.specs.Queue.{IsQueued}

@@ -2,9 +2,8 @@
 use Rattle.std.specs.Prelude.{◌⊎◌, ℕ, ◌≤◌, ◌<◌, Bool, List}
 use Rattle.monomial_order.specs.Monomial.{Exponents, AreCoprime, IsMultiple}
 use Rattle.monomial_order.specs.MonomialOrder.{MonomialOrder}
-use Rattle.word_laws.specs.Words.{Letters, word_order_of, IsWord, IsReducible}
+use Rattle.word_laws.specs.Words.{Letters, IsWord, IsReducible}
 use Rattle.word_rewriting.specs.Rewriting.{RewriteRule, HasJoinablePair, HasLeftDivisor}
-
 use Rattle.word_rules.specs.Rules.{rule_at}
 use Rattle.toric_ideal.specs.Listing.{HasRuleDivisor, Listing}
 use Rattle.toric_ideal.specs.Rewriting.{AreExactRules}

@@ -1,5 +1,5 @@
 -- The rules of a listing as rules that rewrite words.
-use Rattle.std.specs.Prelude.{◌≡◌, ℕ, ◌≤◌, List, map, Contains}
+use Rattle.std.specs.Prelude.{ℕ, ◌≤◌, List, map, Contains}
 use Rattle.monomial_order.specs.Monomial.{Exponents, IsMultiple}
 use Rattle.word_laws.specs.Words.{Letters, word_order_of}
 use Rattle.word_rewriting.specs.Rewriting.{RewriteRule}

@@ -1,5 +1,5 @@
 -- Rules in the order of their words.
-use Rattle.std.specs.Prelude.{◌≡◌, ◌⊎◌, ℕ, ◌≤◌, ◌<◌, List, map, length, Contains}
+use Rattle.std.specs.Prelude.{◌≡◌, ◌⊎◌, ℕ, ◌≤◌, ◌<◌, List, map, Contains}
 use Rattle.monomial_order.specs.Monomial.{Exponents}
 use Rattle.monomial_order.specs.MonomialOrder.{IsIncreasing, MonomialOrder}
 use Rattle.word_rewriting.specs.Rewriting.{RewriteRule}

@@ -1,5 +1,5 @@
 -- The listing of a completion.
-use Rattle.std.specs.Prelude.{◌≢◌, ℕ, ◌≤◌, length, take, drop, Option, Some, None}
+use Rattle.std.specs.Prelude.{◌≢◌, ◌≤◌, length, take, drop, Option, Some, None}
 use Rattle.monomial_order.specs.Monomial.{Exponents}
 use Rattle.word_laws.specs.Words.{Letters, image_of, word_order_of, IsLeast, IsSWord}
 use Rattle.toric_ideal.specs.declared.completion.Completion.{Completion}

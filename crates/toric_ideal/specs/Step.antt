@@ -11,7 +11,6 @@ use Rattle.word_rewriting.specs.laws.Confluence.{IsBelow}
 use Rattle.word_rules.specs.Rules.{rule_at}
 use Rattle.toric_ideal.specs.Rewriting.{AreExactRules}
 
-
 -- the degree of the pair of the rules at two indexes
 abbrev pub pair_degree : MonomialOrder → List RewriteRule → ℕ → ℕ → ℕ
 pair_degree O R i j = O.degree (least_common_multiple (rule_at R i).left (rule_at R j).left)

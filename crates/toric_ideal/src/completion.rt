@@ -58,7 +58,12 @@ impl Completion {
     }
 
     /// Goes on to a greater degree, with the zeros of that degree.
-    pub(crate) fn extend_to(&mut self, alloc: Global, c: u32, zero: &[Monomial]) -> Result<(), Memory>
+    pub(crate) fn extend_to(
+        &mut self,
+        alloc: Global,
+        c: u32,
+        zero: &[Monomial],
+    ) -> Result<(), Memory>
         requires sound { IsSound self.old }
         requires above { self.old.degree < c }
         requires small { c ≤ degree_max }

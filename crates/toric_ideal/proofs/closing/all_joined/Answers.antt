@@ -1,4 +1,4 @@
-use Rattle.std.proofs.Common.{◌≡◌, ◌≤◌, ◌<◌, ◌+◌, ℕ, length, subst, sym, arith, ⊎_elim}
+use Rattle.std.proofs.Common.{subst, sym, arith, ⊎_elim}
 use Rattle.monomial_order.specs.laws.Comparing.{numbers_or_not}
 use Rattle.word_laws.specs.Words.{word_order_of}
 use Rattle.toric_ideal.specs.Alphabet.{letters_of}

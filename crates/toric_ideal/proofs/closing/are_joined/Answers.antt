@@ -1,4 +1,4 @@
-use Rattle.std.proofs.Common.{◌≡◌, ◌≤◌, ◌<◌, ℕ, List, get_or, refl, length, subst, sym, arith, take}
+use Rattle.std.proofs.Common.{◌≡◌, ◌<◌, ℕ, List, get_or, refl, length, subst, arith}
 use Rattle.std.specs.Prelude.{Contains}
 use Rattle.monomial_order.specs.laws.Lists.{contains_at}
 use Rattle.word_laws.specs.Words.{word_order_of}

@@ -1,6 +1,5 @@
-use Rattle.std.proofs.Common.{◌≡◌, ◌≢◌, ◌≤◌, ◌<◌, ◌++◌, ◌∙◌, ℕ, refl, sym, ap, subst, length, List, true, false}
-use Rattle.std.specs.Prelude.{IsTrue}
-use Rattle.monomial_order.specs.Monomial.{IsMonomial, least_common_multiple, weighted_degree}
+use Rattle.std.proofs.Common.{◌≤◌, sym, subst}
+use Rattle.monomial_order.specs.Monomial.{IsMonomial, least_common_multiple}
 use Rattle.monomial_order.specs.MonomialOrder.{MonomialOrder}
 use Rattle.word_laws.specs.Words.{word_order_of}
 use Rattle.word_rules.specs.Rules.{rule_at, AreDecreasing, IsSmallWord}

@@ -1,13 +1,11 @@
-use Rattle.std.proofs.Common.{◌≡◌, ℕ, ◌+◌, ◌≤◌, ◌<◌, ◌∙◌, refl, sym, ap, subst, length, List, take}
-use Rattle.std.specs.Prelude.{OnOk}
+use Rattle.std.proofs.Common.{◌≡◌, ℕ, ◌+◌, ◌≤◌, ◌<◌, sym, subst, length}
 use Rattle.std.proofs.lemmas.Result.{on_ok_weaker}
 use Rattle.word_laws.specs.Words.{word_order_of}
-use Rattle.word_rewriting.specs.Rewriting.{RewriteRule, Rewrites}
 use Rattle.word_rewriting.specs.laws.Rewriting.{more_rewrites}
 use Rattle.word_rules.specs.Rules.{rule_at}
 use Rattle.toric_ideal.specs.Alphabet.{letters_of}
 use Rattle.toric_ideal.specs.Queue.{IsQueued}
-use Rattle.toric_ideal.specs.Step.{IsCleaned, IsGrown, KeepsFirst, ZerosVanish}
+use Rattle.toric_ideal.specs.Step.{IsCleaned, KeepsFirst, ZerosVanish}
 use Rattle.toric_ideal.proofs.LetterLemmas.{alphabet_letters}
 use Rattle.toric_ideal.proofs.JoiningPairs.{keeps_first_trans, same_queued}
 use Rattle.toric_ideal.proofs.Grown.{first_normal, grown_fresh, grown_is, growing_generates, growing_small}

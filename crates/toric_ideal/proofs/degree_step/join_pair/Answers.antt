@@ -1,8 +1,6 @@
-use Rattle.std.proofs.Common.{◌≡◌, ◌∙◌, refl, sym, ap, subst, suc, ◌≤◌, List, length}
+use Rattle.std.proofs.Common.{refl, sym, subst}
 use Rattle.std.specs.Prelude.{IfSome}
-use Rattle.monomial_order.specs.MonomialOrder.{MonomialOrder}
-use Rattle.word_laws.specs.Words.{word_order_of}
-use Rattle.word_rewriting.specs.Rewriting.{RewriteRule, HasJoinablePair}
+use Rattle.word_rewriting.specs.Rewriting.{HasJoinablePair}
 use Rattle.monomial_order.specs.Monomial.{least_common_multiple}
 use Rattle.word_rules.specs.Rules.{rule_at, AreDecreasing, IsSmallWord}
 use Rattle.toric_ideal.specs.Alphabet.{letters_of}

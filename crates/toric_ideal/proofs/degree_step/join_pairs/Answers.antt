@@ -1,4 +1,4 @@
-use Rattle.std.proofs.Common.{◌≡◌, ◌+◌, ◌∙◌, refl, sym, ap, subst, ◌∷◌, [], List, arith}
+use Rattle.std.proofs.Common.{◌+◌, refl, sym, subst}
 use Rattle.word_laws.specs.Words.{word_order_of}
 use Rattle.monomial_order.specs.laws.Lists.{contains_here}
 use Rattle.std.specs.Prelude.{Contains}

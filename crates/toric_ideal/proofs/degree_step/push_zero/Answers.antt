@@ -1,7 +1,5 @@
-use Rattle.std.proofs.Common.{◌≡◌, ◌+◌, ◌∙◌, refl, sym, ap, subst, ◌≤◌, List, length, arith, Some, None}
-use Rattle.monomial_order.specs.MonomialOrder.{MonomialOrder}
-use Rattle.word_laws.specs.Words.{word_order_of}
-use Rattle.word_rewriting.specs.Rewriting.{RewriteRule, Rewrites, IsNormalForm}
+use Rattle.std.proofs.Common.{◌∙◌, sym, subst, arith, Some, None}
+use Rattle.word_rewriting.specs.Rewriting.{Rewrites, IsNormalForm}
 use Rattle.word_rules.specs.Rules.{AreDecreasing}
 use Rattle.toric_ideal.specs.Alphabet.{letters_of}
 use Rattle.toric_ideal.specs.Step.{IsGrowing}

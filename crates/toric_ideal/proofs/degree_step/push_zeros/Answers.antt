@@ -1,4 +1,4 @@
-use Rattle.std.proofs.Common.{◌≡◌, ◌≤◌, ◌<◌, ◌+◌, ◌∙◌, ℕ, suc, refl, sym, ap, subst, List, [], length, take, get_or, arith, Some, None, ⊎_elim}
+use Rattle.std.proofs.Common.{◌≡◌, ◌<◌, ◌+◌, ◌∙◌, ℕ, suc, ap, subst, List, length, take, get_or, arith, Some, None, ⊎_elim}
 use Rattle.std.specs.Prelude.{Contains}
 use Rattle.monomial_order.specs.Monomial.{weighted_degree}
 use Rattle.word_laws.specs.Words.{Letters}

@@ -1,5 +1,4 @@
-use Rattle.std.proofs.Common.{◌≡◌, ◌≤◌, ◌++◌, ◌∙◌, refl, sym, ap, subst, length, List}
-use Rattle.monomial_order.specs.MonomialOrder.{MonomialOrder}
+use Rattle.std.proofs.Common.{sym, subst, length, List}
 use Rattle.word_laws.specs.Words.{word_order_of}
 use Rattle.toric_ideal.specs.declared.rule.Rule.{Rule}
 use Rattle.toric_ideal.specs.Alphabet.{letters_of}

@@ -1,9 +1,8 @@
-use Rattle.std.proofs.Common.{◌≡◌, ◌≤◌, ◌+◌, ◌-◌, ◌∙◌, refl, sym, ap, subst, length, arith}
+use Rattle.std.proofs.Common.{◌≡◌, ◌+◌, sym, subst, arith}
 use Rattle.word_laws.specs.Words.{word_order_of}
 use Rattle.toric_ideal.specs.Alphabet.{letters_of}
 use Rattle.toric_ideal.specs.Queue.{IsQueued}
-use Rattle.toric_ideal.proofs.JoiningPairs.{keeps_first_trans}
-use Rattle.toric_ideal.proofs.Grown.{exact_small, extension_next, extension_start, keeps_below}
+use Rattle.toric_ideal.proofs.Grown.{exact_small, extension_next, extension_start}
 use Rattle.toric_ideal.proofs.growing.grow_to.Goals as goal
 
 pub degrees-init : goal.degrees-init

@@ -1,9 +1,9 @@
-use Rattle.std.proofs.Common.{◌≡◌, ◌≤◌, ◌<◌, ◌+◌, ◌∙◌, ℕ, suc, sym, ap, subst, List, length, length-append, take, get_or, arith, ⊎_elim}
+use Rattle.std.proofs.Common.{◌≡◌, ◌≤◌, ◌<◌, ◌+◌, ◌∙◌, ℕ, suc, sym, subst, List, length, length-append, take, get_or, arith, ⊎_elim}
 use Rattle.std.specs.Prelude.{Contains}
 use Rattle.monomial_order.specs.Monomial.{weighted_degree}
 use Rattle.monomial_order.specs.laws.Lists.{contains_at}
 use Rattle.toric_ideal.proofs.LetterLemmas.{x_degree}
-use Rattle.toric_ideal.proofs.Members.{item_contained, take_next, take_whole}
+use Rattle.toric_ideal.proofs.Members.{take_next, take_whole}
 use Rattle.toric_ideal.proofs.new_zeros.has_zero_above.Goals as goal
 
 member : (zs : List (List ℕ)) (i : ℕ) (z : List ℕ) → i < length zs → z ≡ get_or zs i z → Contains zs z

@@ -1,8 +1,7 @@
-use Rattle.std.proofs.Common.{◌≡◌, ◌≤◌, ◌++◌, ◌∙◌, ℕ, refl, sym, ap, subst, length, List}
-use Rattle.monomial_order.specs.Monomial.{IsMonomial, least_common_multiple, weighted_degree}
+use Rattle.std.proofs.Common.{◌≤◌, ◌∙◌, sym, ap, subst}
+use Rattle.monomial_order.specs.Monomial.{IsMonomial}
 use Rattle.monomial_order.specs.MonomialOrder.{MonomialOrder}
 use Rattle.word_laws.specs.Words.{word_order_of}
-use Rattle.word_rules.specs.Rules.{rule_at, IsSmallWord}
 use Rattle.toric_ideal.specs.Alphabet.{letters_of}
 use Rattle.toric_ideal.proofs.LetterLemmas.{alphabet_letters, alphabet_order}
 use Rattle.toric_ideal.proofs.QueuedPairs.{is_queued, lcm_small}

@@ -1,4 +1,4 @@
-use Rattle.std.proofs.Common.{◌≡◌, ◌≤◌, length, subst, arith}
+use Rattle.std.proofs.Common.{◌≡◌, length, subst, arith}
 use Rattle.word_laws.specs.Words.{word_order_of}
 use Rattle.toric_ideal.specs.Alphabet.{letters_of}
 use Rattle.toric_ideal.specs.Queue.{IsQueued}

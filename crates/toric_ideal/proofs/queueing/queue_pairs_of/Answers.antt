@@ -1,4 +1,4 @@
-use Rattle.std.proofs.Common.{◌≡◌, ◌≤◌, ◌<◌, ℕ, List, get_or, length, subst, sym, arith, take}
+use Rattle.std.proofs.Common.{◌≡◌, ◌<◌, ℕ, List, get_or, length, subst, sym, arith}
 use Rattle.std.specs.Prelude.{Contains}
 use Rattle.std.proofs.lemmas.List.{get_or_default}
 use Rattle.monomial_order.specs.laws.Lists.{contains_at}
@@ -6,7 +6,6 @@ use Rattle.word_rewriting.specs.Rewriting.{RewriteRule}
 use Rattle.word_rules.specs.Rules.{AreSharing}
 use Rattle.word_laws.specs.Words.{word_order_of}
 use Rattle.toric_ideal.specs.Alphabet.{letters_of}
-use Rattle.toric_ideal.specs.Queue.{IsQueued}
 use Rattle.toric_ideal.proofs.QueuedPairs.{queueing_end, queueing_next, queueing_start}
 use Rattle.toric_ideal.proofs.queueing.queue_pairs_of.Goals as goal
 

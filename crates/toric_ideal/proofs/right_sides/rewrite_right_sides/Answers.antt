@@ -1,4 +1,4 @@
-use Rattle.std.proofs.Common.{◌≡◌, ◌+◌, ◌≤◌, sym, subst, length, arith}
+use Rattle.std.proofs.Common.{arith}
 use Rattle.toric_ideal.specs.Alphabet.{letters_of}
 use Rattle.toric_ideal.proofs.Cleaning.{cleaned_next, cleaned_start, rewritten_keeps, small_cleaned}
 use Rattle.toric_ideal.proofs.JoiningPairs.{keeps_first_trans, keeps_same}

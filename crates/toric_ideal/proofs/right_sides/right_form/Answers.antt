@@ -1,8 +1,7 @@
-use Rattle.std.proofs.Common.{◌≡◌, ◌∙◌, refl, sym, ap, subst, Some, None}
+use Rattle.std.proofs.Common.{refl, sym, subst, None}
 use Rattle.std.specs.Prelude.{IfOk}
-use Rattle.word_laws.specs.Words.{word_order_of}
 use Rattle.word_rewriting.specs.Rewriting.{WordOrZero, IsNormalForm, stays}
-use Rattle.word_rules.specs.Rules.{rule_at, AreDecreasing, IsSmallWord}
+use Rattle.word_rules.specs.Rules.{AreDecreasing, IsSmallWord}
 use Rattle.toric_ideal.specs.Alphabet.{letters_of}
 use Rattle.toric_ideal.proofs.LetterLemmas.{alphabet_letters, alphabet_order}
 use Rattle.toric_ideal.proofs.Cleaning.{right_small, small_decreasing}

@@ -1,5 +1,4 @@
-use Rattle.std.proofs.Common.{◌≡◌, ◌≢◌, ◌<◌, ◌≤◌, ℕ, List, [], false, length, ◌∙◌, sym, ap, subst, get_or, arith}
-use Rattle.std.specs.Prelude.{Contains}
+use Rattle.std.proofs.Common.{◌≡◌, ◌≢◌, ℕ, List, false, ◌∙◌, sym, ap, subst, arith}
 use lib.Pointwise.{pointwise}
 use lib.Dec.{eqb}
 use Rattle.std.specs.Cmp.Lexicographic.{nat_list_eq_equiv}
@@ -29,6 +28,6 @@ returns g c =
     (inserted_new O W rules t i c.requires.increasing place
     (elim c.else-index-len.branch [
       | else-index-len-via-then-index-len+else-eq w ↦ λ l. λ q. differs w.index.result.now.word t.word (sym w.eq.ensures ∙ w.if-eq.false)
-        (ap (λ (r : Rule). r.word) w.index.ensures ∙ (sym (word_at rules i w.index.result.now (omega arith)) ∙ q))
+          (ap (λ (r : Rule). r.word) w.index.ensures ∙ (sym (word_at rules i w.index.result.now (omega arith)) ∙ q))
       | else-index-len-via-else-index-len w ↦ λ l. absurd (let a = w.if-index-len.false in let b = c.len.ensures in let o = c.args.rules.now.ok in omega arith)
     ]))

@@ -1,13 +1,10 @@
-use Rattle.std.proofs.Common.{◌≡◌, ◌≢◌, ◌-◌, ◌+◌, ◌<◌, ◌≤◌, ℕ, suc, [], true, false, List, length, ◌∙◌, sym, refl, ap, subst, get_or, arith}
-use Rattle.std.specs.Prelude.{Contains}
+use Rattle.std.proofs.Common.{◌≡◌, ◌≢◌, ◌-◌, true, false, ◌∙◌, sym, refl, subst, get_or, arith}
 use Rattle.std.specs.Ordering.{is_lt}
 use Rattle.std.specs.declared.cmp.Ordering.{Ordering}
 use Rattle.std.specs.declared.cmp.Ordering.TheVariants.{Less, Equal, Greater}
 use Rattle.monomial_order.specs.laws.Lists.{contains_at}
-use Rattle.word_rules.specs.Rules.{IsSmallWord}
-use Rattle.toric_ideal.specs.declared.rule.Rule.{Rule}
 use Rattle.toric_ideal.specs.SortedRules.{words_of}
-use Rattle.toric_ideal.proofs.IncreasingLists.{index_down, index_here, index_start, index_first}
+use Rattle.toric_ideal.proofs.IncreasingLists.{index_down, index_here}
 use Rattle.toric_ideal.proofs.RuleLists.{word_at, words_length}
 use Rattle.toric_ideal.proofs.sorting.insertion_index.Goals as goal
 

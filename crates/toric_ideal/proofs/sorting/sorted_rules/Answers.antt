@@ -1,6 +1,6 @@
-use Rattle.std.proofs.Common.{◌≡◌, ◌≤◌, ◌<◌, ℕ, length, subst, sym, arith}
+use Rattle.std.proofs.Common.{◌≡◌, length, subst, arith}
 use Rattle.toric_ideal.specs.SortedRules.{AreSortedRules}
-use Rattle.toric_ideal.proofs.RuleLists.{sorted_next, sorted_small, sorted_start}
+use Rattle.toric_ideal.proofs.RuleLists.{sorted_next, sorted_small}
 use Rattle.toric_ideal.proofs.sorting.sorted_rules.Goals as goal
 
 pub insert-requires-clause-small : goal.insert-requires-clause-small

@@ -1,4 +1,4 @@
-use Rattle.std.proofs.Common.{◌≡◌, sym, subst, refl, true, false}
+use Rattle.std.proofs.Common.{sym, subst}
 use Rattle.toric_ideal.specs.Alphabet.{letters_of}
 use Rattle.toric_ideal.specs.Closing.{CanClose, ShowsMissedWord}
 use Rattle.toric_ideal.proofs.ClosedListings.{can_close, joined_closes, listing_closed, unjoined_misses}

@@ -1,10 +1,9 @@
-use Rattle.std.proofs.Common.{◌≡◌, ◌≤◌, ◌<◌, ◌∙◌, ℕ, refl, sym, ap, subst, length, List, take, drop, arith, false}
+use Rattle.std.proofs.Common.{◌≤◌, ◌∙◌, sym, subst, arith}
 use Rattle.std.specs.Prelude.{Contains}
 use Rattle.monomial_order.specs.Monomial.{Exponents, weighted_degree}
 use Rattle.word_laws.specs.Words.{word_order_of}
-use Rattle.toric_ideal.specs.declared.rule.Rule.{Rule}
 use Rattle.toric_ideal.specs.Alphabet.{letters_of}
-use Rattle.toric_ideal.specs.Listing.{AgreeTo, AreRules, AreZeros, IsListing}
+use Rattle.toric_ideal.specs.Listing.{AreRules, AreZeros, IsListing}
 use Rattle.toric_ideal.proofs.SoundListings.{all_settled, leads_low, listing_extended, listing_kept, old_zero, queued_later, rules_with}
 use Rattle.toric_ideal.proofs.completion.Completion.extend_to.Goals as goal
 use Rattle.toric_ideal.proofs.completion.Completion.extend_to.Goals.{else-self-via-then-self+else-not-has_zero_above, else-self-via-else-self}
@@ -58,9 +57,9 @@ returns-in-Ok-clause-closed c = (
   λ t. absurd cc,
   λ k. absurd (elim c.else-self.branch [
     | else-self-via-then-self+else-not-has_zero_above w ↦
-      let x = w.has_zero_above.ensures.yes w.if-not-has_zero_above.false in
-      let d = c.requires.sound.listing.zeros.each x.0 (k.1 x.0 x.1) in
-      let e = d.degree in let f = x.2 in omega arith
+        let x = w.has_zero_above.ensures.yes w.if-not-has_zero_above.false in
+        let d = c.requires.sound.listing.zeros.each x.0 (k.1 x.0 x.1) in
+        let e = d.degree in let f = x.2 in omega arith
     | else-self-via-else-self w ↦ let t = k.0 in let f = w.if-self.false in cc
   ]),
 )

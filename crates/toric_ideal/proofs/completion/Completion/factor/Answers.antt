@@ -1,5 +1,5 @@
-use Rattle.std.proofs.Common.{◌≡◌, ◌∙◌, ap, sym, subst, Some, None, arith, refl}
-use Rattle.word_laws.specs.laws.Words.{degree_x, x_word}
+use Rattle.std.proofs.Common.{sym, subst}
+use Rattle.word_laws.specs.laws.Words.{degree_x}
 use Rattle.toric_ideal.specs.Alphabet.{letters_of}
 use Rattle.toric_ideal.specs.Listing.{IsDecided}
 use Rattle.toric_ideal.specs.State.{listing_of}

@@ -1,18 +1,14 @@
-use Rattle.std.proofs.Common.{◌≡◌, ◌≤◌, ◌<◌, ◌∙◌, ℕ, refl, sym, ap, subst, length, List, [], take, drop, arith, false}
+use Rattle.std.proofs.Common.{◌≡◌, ◌∙◌, refl, sym, ap, subst, List, [], arith, false}
 use Rattle.std.specs.Prelude.{Contains}
-use Rattle.monomial_order.specs.Monomial.{Exponents}
 use Rattle.monomial_order.specs.laws.Lists.{contains_none}
-use Rattle.word_laws.specs.Words.{word_order_of}
 use Rattle.word_rewriting.specs.Rewriting.{RewriteRule}
 use Rattle.degree_queue.specs.DegreeQueue.{list_of}
 use Rattle.toric_ideal.specs.declared.index_pair.IndexPair.{IndexPair}
 use Rattle.toric_ideal.specs.declared.rule.Rule.{Rule}
 use Rattle.toric_ideal.specs.Leads.{letters}
 use Rattle.toric_ideal.specs.Alphabet.{letters_of}
-use Rattle.toric_ideal.specs.Listing.{AreParted, IsListing}
-use Rattle.toric_ideal.specs.Rewriting.{rewrite_rules, AreSameRules}
-use Rattle.toric_ideal.specs.Queue.{IsQueued}
-use Rattle.toric_ideal.specs.Step.{IsPairAt}
+use Rattle.toric_ideal.specs.Listing.{IsListing}
+use Rattle.toric_ideal.specs.Rewriting.{AreSameRules}
 use Rattle.toric_ideal.proofs.SoundListings.{listing_new}
 use Rattle.toric_ideal.proofs.completion.Completion.new.Goals as goal
 

@@ -1,5 +1,4 @@
-use Rattle.std.proofs.Common.{sym, subst}
-use Rattle.std.specs.Prelude.{IsTrue}
+use Rattle.std.proofs.Common.{subst}
 use Rattle.toric_ideal.specs.Listing.{IsClosed, Listing}
 use Rattle.toric_ideal.proofs.words.Words.known_closed.Goals as goal
 
