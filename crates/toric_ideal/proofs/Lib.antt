@@ -17,3 +17,4 @@ pub mod SoundListings
 pub mod ClosedRules
 pub mod ClosedListings
 pub mod DegreeRules
+pub mod NewLead

@@ -1,0 +1,100 @@
+-- One lead more: its letter is irreducible, and with a rule for the least word of the lead the rules generate as before.
+use Rattle.std.proofs.Common.{◌≡◌, ◌≢◌, ℕ, ◌+◌, ◌<◌, ◌≤◌, refl, sym, ◌∙◌, ap, subst, List, [], ◌∷◌, length, get_or, arith, inl, inr, ⊎_elim}
+use Rattle.std.specs.Prelude.{Contains}
+use Rattle.std.specs.declared.cmp.Ordering.TheVariants.{Less}
+use Rattle.monomial_order.specs.Monomial.{Exponents, Divides, IsMonomial, IsMultiple, weighted_degree}
+use Rattle.monomial_order.specs.laws.Cofactors.{Divides-trans}
+use Rattle.monomial_order.specs.laws.Comparing.{equal_or_not, not_below_self, three_ways}
+use Rattle.monomial_order.specs.laws.Lists.{contains_here}
+use Rattle.word_laws.specs.Words.{Letters, AreLetters, word_order_of, image_of, IsWord, IsLeast, IsSmaller, IsReducible}
+use Rattle.word_laws.specs.laws.Words.{word_laws, degree_image, degree_same, degree_x, image_x}
+use Rattle.word_rewriting.specs.Rewriting.{RewriteRule, HasLeftDivisor}
+use Rattle.word_rewriting.specs.Completeness.{lead_letter, with_leads, GeneratesReducible}
+use Rattle.word_rewriting.specs.Renumbering.{AreLastLeads}
+use Rattle.word_rewriting.specs.laws.MoreLeads.{compare_stays, image_stays, letters_stay, new_image, new_letter_smaller}
+use Rattle.word_rewriting.specs.laws.Renumbering.{last_letters, word_cases}
+use Rattle.toric_ideal.specs.Rewriting.{AreExactRules}
+
+module _ (L : Letters) (H : AreLetters L) (Z : List Exponents) (d : ℕ) (m : Exponents) (K : AreLastLeads L d (m ∷ [])) (R : List RewriteRule) (exact : AreExactRules L Z d R)
+    (w : Exponents) (least : IsLeast L m w) (standard : ¬ IsMultiple Z m) where
+  abbrev M : Letters
+  M = with_leads L (m ∷ [])
+
+  abbrev letter : Exponents
+  letter = lead_letter L (length L.leads + 0)
+
+  HM : AreLetters M
+  HM = last_letters L H d (m ∷ []) K
+
+  new : (x : Exponents) → Contains (m ∷ []) x → IsMonomial (length L.degrees) x × (x ≢ [])
+  new x k = (K.in_x x k, K.not_one x k)
+
+  letter_image : image_of M letter ≡ m
+  letter_image = new_image L H (m ∷ []) new 0
+
+  -- a word with the degree of L has it in M
+  degree_stays : (v : Exponents) → IsWord L v → (word_order_of M).degree v ≡ (word_order_of L).degree v
+  degree_stays v k =
+      sym (degree_image M HM v) ∙ (ap (word_order_of M).degree (image_stays L (m ∷ []) v k) ∙
+      (degree_x M HM (image_of L v) (image_x L H v) ∙ (sym (degree_x L H (image_of L v) (image_x L H v)) ∙ degree_image L H v)))
+
+  pub letter_irreducible : IsReducible (IsMultiple Z) M letter → ⊥
+  letter_irreducible r = ⊎_elim (λ z. standard (subst (IsMultiple Z) letter_image z)) (λ s. smaller s.0 s.1) r
+    where
+      smaller : (v : Exponents) → IsSmaller M letter v → ⊥
+      smaller v s =
+          let e = degree_same M HM v letter s.image in
+          let f : (word_order_of M).degree letter ≡ d = sym (degree_image M HM letter) ∙ (ap (word_order_of M).degree letter_image ∙ (degree_x M HM m (K.in_x m (contains_here m [])) ∙ K.degree m (contains_here m []))) in
+          ⊎_elim
+          (λ k. not_below_self (word_order_of M) (word_laws M HM) v ((word_laws M HM).total.trans v letter v s.less
+          (new_letter_smaller L H (m ∷ []) new 0 (omega arith) v k (sym (image_stays L (m ∷ []) v k) ∙ (s.image ∙ letter_image))).less))
+          (λ j. let z : j.0 ≡ 0 = let b = j.1 in omega arith in
+          not_below_self (word_order_of M) (word_laws M HM) letter (subst (λ x. (word_order_of M).compare x letter ≡ Less) (j.2 ∙ ap (λ i. lead_letter L (length L.leads + i)) z) s.less))
+          (word_cases L H d (m ∷ []) K v s.word (omega arith))
+
+  -- a word of L other than w that is reducible in M is reducible in L
+  older_reducible : (v : Exponents) → IsWord L v → v ≢ w → (word_order_of M).degree v ≤ d → IsReducible (IsMultiple Z) M v → IsReducible (IsMultiple Z) L v
+  older_reducible v k ne dv r = ⊎_elim (λ z. inl (subst (IsMultiple Z) (image_stays L (m ∷ []) v k) z)) (λ s. inr (smaller s.0 s.1)) r
+    where
+      same_image : image_of L v ≡ m → (x : Exponents) × IsSmaller L v x
+      same_image e = (
+        w,
+        record {
+          word = least.word;
+          image = least.image ∙ sym e;
+          less = ⊎_elim (λ l. l) (λ b. ⊎_elim (λ q. absurd (ne (sym q))) (λ g. absurd (least.least v (record { word = k; image = e ∙ sym least.image; less = g }))) b) (three_ways (word_order_of L) (word_laws L H) w v);
+        },
+      )
+
+      smaller : (x : Exponents) → IsSmaller M v x → (y : Exponents) × IsSmaller L v y
+      smaller x s =
+          let e = degree_same M HM x v s.image in
+          ⊎_elim
+          (λ h. (
+            x,
+            record {
+              word = h;
+              image = sym (image_stays L (m ∷ []) x h) ∙ (s.image ∙ image_stays L (m ∷ []) v k);
+              less = sym (compare_stays L (m ∷ []) x v h k) ∙ s.less;
+            },
+          ))
+          (λ j.
+          let z : j.0 ≡ 0 = let b = j.1 in omega arith in
+          let q : x ≡ letter = j.2 ∙ ap (λ i. lead_letter L (length L.leads + i)) z in
+          same_image (sym (image_stays L (m ∷ []) v k) ∙ (sym s.image ∙ (ap (image_of M) q ∙ letter_image))))
+          (word_cases L H d (m ∷ []) K x s.word (omega arith))
+
+  pub lead_generates : (S : List RewriteRule) → ((r : RewriteRule) → Contains R r → HasLeftDivisor S r.left) → HasLeftDivisor S w → GeneratesReducible (IsMultiple Z) M S d
+  lead_generates S lefts hw v hv dv r =
+      ⊎_elim
+      (λ k. ⊎_elim (λ e. subst (HasLeftDivisor S) (sym e) hw)
+      (λ ne.
+      let e = degree_stays v k in
+      let x = exact.generates v k (omega arith) (older_reducible v k ne dv r) in
+      let y = lefts x.0 x.1 in
+      (y.0, y.1, Divides-trans y.0.left x.0.left v y.2 x.2))
+      (equal_or_not v w))
+      (λ j.
+      let z : j.0 ≡ 0 = let b = j.1 in omega arith in
+      absurd (letter_irreducible (subst (IsReducible (IsMultiple Z) M) (j.2 ∙ ap (λ i. lead_letter L (length L.leads + i)) z) r)))
+      (word_cases L H d (m ∷ []) K v hv dv)
