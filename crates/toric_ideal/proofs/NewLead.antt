@@ -1,5 +1,5 @@
 -- One lead more: its letter is irreducible, and with a rule for the least word of the lead the rules generate as before.
-use Rattle.std.proofs.Common.{◌≡◌, ◌≢◌, ℕ, ◌+◌, ◌<◌, ◌≤◌, refl, sym, ◌∙◌, ap, subst, List, [], ◌∷◌, length, get_or, arith, inl, inr, ⊎_elim}
+use Rattle.std.proofs.Common.{◌≡◌, ◌≢◌, ℕ, ◌+◌, ◌<◌, ◌≤◌, refl, sym, ◌∙◌, ap, subst, List, [], ◌∷◌, length, get_or, arith, inl, inr, ⊎_elim, Some, None}
 use Rattle.std.specs.Prelude.{Contains}
 use Rattle.std.specs.declared.cmp.Ordering.TheVariants.{Less}
 use Rattle.monomial_order.specs.Monomial.{Exponents, Divides, IsMonomial, IsMultiple, weighted_degree}
@@ -8,12 +8,13 @@ use Rattle.monomial_order.specs.laws.Comparing.{equal_or_not, not_below_self, th
 use Rattle.monomial_order.specs.laws.Lists.{contains_here}
 use Rattle.word_laws.specs.Words.{Letters, AreLetters, word_order_of, image_of, IsWord, IsLeast, IsSmaller, IsReducible}
 use Rattle.word_laws.specs.laws.Words.{word_laws, degree_image, degree_same, degree_x, image_x}
-use Rattle.word_rewriting.specs.Rewriting.{RewriteRule, HasLeftDivisor}
-use Rattle.word_rewriting.specs.Completeness.{lead_letter, with_leads, GeneratesReducible}
+use Rattle.word_rewriting.specs.Rewriting.{WordOrZero, RewriteRule, HasLeftDivisor}
+use Rattle.word_rewriting.specs.Completeness.{lead_letter, with_leads, AreRewriteRules, IsRightSide, GeneratesReducible}
 use Rattle.word_rewriting.specs.Renumbering.{AreLastLeads}
-use Rattle.word_rewriting.specs.laws.MoreLeads.{compare_stays, image_stays, letters_stay, new_image, new_letter_smaller}
+use Rattle.word_rewriting.specs.laws.MoreLeads.{compare_stays, image_stays, letters_stay, smaller_stays, word_stays, new_image, new_letter_smaller}
 use Rattle.word_rewriting.specs.laws.Renumbering.{last_letters, word_cases}
 use Rattle.toric_ideal.specs.Rewriting.{AreExactRules}
+use Rattle.toric_ideal.specs.Step.{IsWithLetter}
 
 module _ (L : Letters) (H : AreLetters L) (Z : List Exponents) (d : ℕ) (m : Exponents) (K : AreLastLeads L d (m ∷ [])) (R : List RewriteRule) (exact : AreExactRules L Z d R)
     (w : Exponents) (least : IsLeast L m w) (standard : ¬ IsMultiple Z m) where
@@ -98,3 +99,30 @@ module _ (L : Letters) (H : AreLetters L) (Z : List Exponents) (d : ℕ) (m : Ex
       let z : j.0 ≡ 0 = let b = j.1 in omega arith in
       absurd (letter_irreducible (subst (IsReducible (IsMultiple Z) M) (j.2 ∙ ap (λ i. lead_letter L (length L.leads + i)) z) r)))
       (word_cases L H d (m ∷ []) K v hv dv)
+
+  module _ (S : List RewriteRule) (dw : (word_order_of L).degree w ≡ d) (x : IsWithLetter w letter R S) where
+    letter_side : (u : Exponents) → IsWord L u → image_of L u ≡ m → IsRightSide (IsMultiple Z) M u (Some letter)
+    letter_side u hu e = new_letter_smaller L H (m ∷ []) new 0 (omega arith) u hu e
+
+    old_side : (u : Exponents) (a : WordOrZero) → IsWord L u → IsRightSide (IsMultiple Z) L u a → IsRightSide (IsMultiple Z) M u a
+    old_side u None hu h = subst (IsMultiple Z) (sym (image_stays L (m ∷ []) u hu)) h
+    old_side u (Some v) hu h = smaller_stays L (m ∷ []) u v hu h
+
+    lead_rules : AreRewriteRules (IsMultiple Z) M S
+    lead_rules s h =
+        ⊎_elim
+        (λ k.
+        let r = exact.rules k.0 k.1 in
+        subst (λ u. IsWord M u × IsRightSide (IsMultiple Z) M u s.right) (sym k.2)
+        (word_stays L (m ∷ []) k.0.left r.0, ⊎_elim (λ y. subst (IsRightSide (IsMultiple Z) M k.0.left) (sym y.0) (old_side k.0.left k.0.right r.0 r.1))
+        (λ y. subst (IsRightSide (IsMultiple Z) M k.0.left) (sym y.1)
+        (let q : IsSmaller L k.0.left w = subst (IsRightSide (IsMultiple Z) L k.0.left) y.0 r.1 in letter_side k.0.left r.0 (sym q.image ∙ least.image))) k.3))
+        (λ k. subst (λ u. IsWord M u × IsRightSide (IsMultiple Z) M u s.right) (sym k.0)
+        (word_stays L (m ∷ []) w least.word, subst (IsRightSide (IsMultiple Z) M w) (sym k.1) (letter_side w least.word least.image)))
+        (x.each s h)
+
+    pub lead_exact_generates : AreRewriteRules (IsMultiple Z) M S × GeneratesReducible (IsMultiple Z) M S d
+    lead_exact_generates = (
+      lead_rules,
+      lead_generates S (λ r h. let y = x.all r h in (y.0, y.1, subst (λ u. Divides u r.left) (sym y.2) (λ i. omega arith))) (x.new.0, x.new.1, subst (λ u. Divides u w) (sym x.new.2) (λ i. omega arith)),
+    )

@@ -1,5 +1,5 @@
 -- One degree of a completion.
-use Rattle.std.specs.Prelude.{◌≡◌, ◌≢◌, ℕ, ◌+◌, ◌≤◌, ◌<◌, List, ◌++◌, length, take, Contains, Some, None}
+use Rattle.std.specs.Prelude.{◌≡◌, ◌≢◌, ◌⊎◌, ℕ, ◌+◌, ◌≤◌, ◌<◌, List, ◌++◌, length, take, Contains, Some, None}
 use Rattle.monomial_order.specs.Monomial.{Exponents, Divides, IsMultiple, least_common_multiple, weighted_degree}
 use Rattle.monomial_order.specs.Limits.{degree_max}
 use Rattle.monomial_order.specs.MonomialOrder.{MonomialOrder}
@@ -101,3 +101,11 @@ pub record IsExtension (L : Letters) (Z : List Exponents) (c d : ℕ) (S T : Lis
   pub exact : AreExactRules L Z d T
   pub keeps : KeepsFirst (length S) S T
   pub fresh : (k : ℕ) → length S ≤ k → k < length T → c < (word_order_of L).degree (rule_at T k).left
+
+-- The rules of R, in which the right sides w are the letter now, and one from w to the letter.
+pub record IsWithLetter (w letter : Exponents) (R S : List RewriteRule) : Type 0 where
+  pub each : (s : RewriteRule) → Contains S s →
+      ((r : RewriteRule) × Contains R r × (s.left ≡ r.left) × (((s.right ≡ r.right) × (r.right ≢ Some w)) ⊎ ((r.right ≡ Some w) × (s.right ≡ Some letter)))) ⊎
+      ((s.left ≡ w) × (s.right ≡ Some letter))
+  pub all : (r : RewriteRule) → Contains R r → (s : RewriteRule) × Contains S s × (s.left ≡ r.left)
+  pub new : (s : RewriteRule) × Contains S s × (s.left ≡ w)
