@@ -18,3 +18,4 @@ pub mod ClosedRules
 pub mod ClosedListings
 pub mod DegreeRules
 pub mod NewLead
+pub mod Settled

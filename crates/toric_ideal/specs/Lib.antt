@@ -8,3 +8,4 @@ pub mod Queue
 pub mod SortedRules
 pub mod State
 pub mod Closing
+pub mod Settling

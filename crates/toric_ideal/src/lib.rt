@@ -17,6 +17,7 @@ mod normal_forms;
 mod queueing;
 mod right_sides;
 mod rule;
+mod settling;
 mod sorting;
 mod words;
 

@@ -1,0 +1,141 @@
+//! Right sides in which the leads of the last degree have new letters.
+ghost use Rattle.std.specs.Prelude.{◌≡◌, ◌<◌, ◌≤◌, ℕ, [], length, get_or, Contains, IfOk};
+ghost use Rattle.word_rewriting.specs.Renumbering.{IsRenumbered};
+ghost use Rattle.word_rules.specs.Rules.{rule_at};
+ghost use Rattle.toric_ideal.specs.Settling.{last_leads, lower_letters, AreNewRules, AreNewSides, CanRenumber, HasRightSides, IsLowerOrLetter, IsLowerOrLetterSide, IsNewSide};
+
+use crate::Rule;
+use crate::alphabet::Alphabet;
+use monomial_order::{Memory, Monomial};
+use std::alloc::Global;
+use word_rules::RuleTable;
+
+/// The index of a member.
+fn index_of(list: &[Monomial], m: &Monomial) -> usize
+    requires { Contains list.now m.now }
+    ensures inside { result < length list.now }
+    ensures there { get_or list.now result [] ≡ m.now }
+{
+    let mut index = 0;
+    'seek: while index < list.len() && list[index] != *m {
+        index += 1;
+    }
+    index
+}
+
+/// The new letter of a lead in place of the old one, or a copy of any other word. The leads from `first` on are in the
+/// order of `leads` now.
+fn renumbered(
+    alloc: Global,
+    alphabet: &Alphabet,
+    first: usize,
+    leads: &[Monomial],
+    word: &Monomial,
+) -> Result<Monomial, Memory>
+    requires leads { CanRenumber alphabet.now first leads.now }
+    requires word { IsLowerOrLetter (lower_letters alphabet.now first) (last_leads alphabet.now first) word.now }
+    ensures { IfOk result
+        (IsRenumbered (lower_letters alphabet.now first) (last_leads alphabet.now first) leads.now word.now) }
+{
+    let x_count = alphabet.order.x_degrees.len();
+    let places = word.as_slice().len();
+    if places <= x_count || places - x_count <= first {
+        return word.copy(alloc);
+    }
+    let lead = &alphabet.leads[places - x_count - 1];
+    Monomial::variable(alloc, x_count + (first + index_of(leads, lead)))
+}
+
+/// The right side of a rule of the table with new letters.
+fn new_side(
+    alloc: Global,
+    alphabet: &Alphabet,
+    first: usize,
+    leads: &[Monomial],
+    table: &RuleTable,
+    i: usize,
+) -> Result<Option<Monomial>, Memory>
+    requires leads { CanRenumber alphabet.now first leads.now }
+    requires inside { i < length table.now }
+    requires side { IsLowerOrLetterSide (lower_letters alphabet.now first) (last_leads alphabet.now first)
+        (rule_at table.now i).right }
+    ensures { IfOk result (IsNewSide alphabet.now first leads.now (rule_at table.now i).right) }
+{
+    match table.right(i) {
+        None => Ok(None),
+        Some(word) => Ok(Some(renumbered(alloc, alphabet, first, leads, word)?)),
+    }
+}
+
+/// The right sides of the rules of the table with new letters.
+pub(crate) fn new_sides(
+    alloc: Global,
+    alphabet: &Alphabet,
+    first: usize,
+    leads: &[Monomial],
+    table: &RuleTable,
+) -> Result<Vec<Option<Monomial>>, Memory>
+    requires leads { CanRenumber alphabet.now first leads.now }
+    requires sides { (i : ℕ) → i < length table.now → IsLowerOrLetterSide (lower_letters alphabet.now first)
+        (last_leads alphabet.now first) (rule_at table.now i).right }
+    ensures { IfOk result (λ v. AreNewSides alphabet.now first leads.now table.now v.items) }
+{
+    let mut sides = Vec::new(alloc);
+    'rules: for i in 0..table.len() {
+        sides.push(new_side(alloc, alphabet, first, leads, table, i)?)?;
+    }
+    Ok(sides)
+}
+
+/// Replaces the right sides of all rules.
+pub(crate) fn set_sides(table: &mut RuleTable, sides: Vec<Option<Monomial>>)
+    requires { length sides.items ≡ length table.old }
+    ensures { HasRightSides table.old table.new sides.items }
+{
+    let mut i = 0;
+    'sides: for side in sides {
+        table.set_right(i, side);
+        i += 1;
+    }
+}
+
+/// The least word of a rule with new letters.
+fn new_least(
+    alloc: Global,
+    alphabet: &Alphabet,
+    first: usize,
+    leads: &[Monomial],
+    least: &Option<Monomial>,
+) -> Result<Option<Monomial>, Memory>
+    requires leads { CanRenumber alphabet.now first leads.now }
+    requires side { IsLowerOrLetterSide (lower_letters alphabet.now first) (last_leads alphabet.now first) least.now }
+    ensures { IfOk result (IsNewSide alphabet.now first leads.now least.now) }
+{
+    match least {
+        None => Ok(None),
+        Some(word) => Ok(Some(renumbered(alloc, alphabet, first, leads, word)?)),
+    }
+}
+
+/// Copies of the rules with new letters in the least words.
+pub(crate) fn new_rules(
+    alloc: Global,
+    alphabet: &Alphabet,
+    first: usize,
+    leads: &[Monomial],
+    rules: &[Rule],
+) -> Result<Vec<Rule>, Memory>
+    requires leads { CanRenumber alphabet.now first leads.now }
+    requires sides { (r : Rule) → Contains rules.now r → IsLowerOrLetterSide (lower_letters alphabet.now first)
+        (last_leads alphabet.now first) r.least }
+    ensures { IfOk result (λ v. AreNewRules alphabet.now first leads.now rules.now v.items) }
+{
+    let mut new = Vec::new(alloc);
+    'rules: for rule in rules {
+        new.push(Rule {
+            word: rule.word.copy(alloc)?,
+            least: new_least(alloc, alphabet, first, leads, &rule.least)?,
+        })?;
+    }
+    Ok(new)
+}
