@@ -19,3 +19,5 @@ pub mod ClosedListings
 pub mod DegreeRules
 pub mod NewLead
 pub mod Settled
+pub mod NewSides
+pub mod SettledListings

@@ -47,7 +47,10 @@ all_settled w s c n l e = record {
   last_equal = λ m h. absurd (drop_none w.alphabet.leads.items m (subst (λ k. Contains (drop k w.alphabet.leads.items) m) e h));
 }
 
-not_known : {P : Type 0} → false ≡ true → P
+pub none_last : (w : Completion) (n : ℕ) → n ≡ length w.alphabet.leads.items → (m : Exponents) → Contains (drop n w.alphabet.leads.items) m → ⊥
+none_last w n e m h = drop_none w.alphabet.leads.items m (subst (λ k. Contains (drop k w.alphabet.leads.items) m) e h)
+
+pub not_known : {P : Type 0} → false ≡ true → P
 not_known h = absurd cc
 
 pub listing_extended : (w : Completion) → IsSound w → (zs : List Exponents) (c : ℕ) (rules : List Rule) → c ≤ 30000 → AreZeros w.alphabet.order.x_degrees.items c zs → AreRules (letters_of w.alphabet) zs c rules →

@@ -1,6 +1,6 @@
 -- The listing of a completion.
-use Rattle.std.specs.Prelude.{◌≢◌, ◌≤◌, length, take, drop, Option, Some, None}
-use Rattle.monomial_order.specs.Monomial.{Exponents}
+use Rattle.std.specs.Prelude.{◌≢◌, ◌≤◌, length, take, drop, Contains, Option, Some, None}
+use Rattle.monomial_order.specs.Monomial.{Exponents, IsMultiple}
 use Rattle.word_laws.specs.Words.{Letters, image_of, word_order_of, IsLeast, IsSWord}
 use Rattle.toric_ideal.specs.declared.completion.Completion.{Completion}
 use Rattle.toric_ideal.specs.Alphabet.{letters_of, IsAlphabet}
@@ -17,7 +17,8 @@ listing_of w = record {
   closed = w.closed;
 }
 
--- What holds of every completion between calls: the first leads, so many, are those of a degree less than its own.
+-- What holds of every completion between calls: the first leads, so many, are those of a degree less than its own, and
+-- the others are no multiples of zeros.
 pub record IsSound (w : Completion) : Type 0 where
   pub alphabet : IsAlphabet w.alphabet
   pub listing : IsListing (listing_of w)
@@ -26,6 +27,7 @@ pub record IsSound (w : Completion) : Type 0 where
   pub within : w.settled_count ≤ length w.alphabet.leads.items
   pub parted : AreParted (letters_of w.alphabet).degrees w.degree w.alphabet.leads.items
       (take w.settled_count w.alphabet.leads.items) (drop w.settled_count w.alphabet.leads.items)
+  pub standard : (m : Exponents) → Contains (drop w.settled_count w.alphabet.leads.items) m → ¬ IsMultiple w.zeros.items m
 
 -- the least s-word with the image m, or none if no s-word has it
 abbrev pub IsFactor : Letters → Exponents → Option Exponents → Type 0

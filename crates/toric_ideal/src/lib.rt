@@ -11,6 +11,7 @@ mod completion;
 mod copies;
 mod degree_step;
 mod growing;
+mod increasing;
 mod index_pair;
 mod new_zeros;
 mod normal_forms;

@@ -1,12 +1,18 @@
-//! Right sides in which the leads of the last degree have new letters.
-ghost use Rattle.std.specs.Prelude.{◌≡◌, ◌<◌, ◌≤◌, ℕ, [], length, get_or, Contains, IfOk};
+//! Leads of the last degree, numbered again.
+ghost use Rattle.std.specs.Prelude.{◌≡◌, ◌<◌, ◌≤◌, ℕ, [], false, length, get_or, Contains, IfOk, OnOk, OnErr};
 ghost use Rattle.word_rewriting.specs.Renumbering.{IsRenumbered};
 ghost use Rattle.word_rules.specs.Rules.{rule_at};
+ghost use Rattle.toric_ideal.specs.Alphabet.{letters_of};
+ghost use Rattle.toric_ideal.specs.Listing.{IsSettled, OrdersByDegrees};
+ghost use Rattle.toric_ideal.specs.State.{listing_of, IsSound};
 ghost use Rattle.toric_ideal.specs.Settling.{last_leads, lower_letters, AreNewRules, AreNewSides, CanRenumber, HasRightSides, IsLowerOrLetter, IsLowerOrLetterSide, IsNewSide};
 
 use crate::Rule;
 use crate::alphabet::Alphabet;
-use monomial_order::{Memory, Monomial};
+use crate::completion::Completion;
+use crate::copies::copy_monomials;
+use crate::increasing::sorted;
+use monomial_order::{Memory, Monomial, Order};
 use std::alloc::Global;
 use word_rules::RuleTable;
 
@@ -92,10 +98,9 @@ pub(crate) fn set_sides(table: &mut RuleTable, sides: Vec<Option<Monomial>>)
     requires { length sides.items ≡ length table.old }
     ensures { HasRightSides table.old table.new sides.items }
 {
-    let mut i = 0;
-    'sides: for side in sides {
-        table.set_right(i, side);
-        i += 1;
+    let mut rest = sides;
+    'sides: while let Some(side) = rest.pop() {
+        table.set_right(rest.len(), side);
     }
 }
 
@@ -138,4 +143,46 @@ pub(crate) fn new_rules(
         })?;
     }
     Ok(new)
+}
+
+impl Completion {
+    /// Numbers the leads of the last degree again, so that they increase in the order. All that takes memory is made
+    /// first.
+    pub(crate) fn settle<O: Order>(&mut self, alloc: Global, o: &O) -> Result<(), Memory>
+        requires sound { IsSound self.old }
+        requires order { OrdersByDegrees (O.order o.now) (letters_of self.old.alphabet).degrees }
+        ensures sound { IsSound self.new }
+        ensures settled { OnOk result (IsSettled (O.order o.now) (letters_of self.old.alphabet).degrees
+            self.old.degree self.old.alphabet.leads.items self.new.alphabet.leads.items) }
+        ensures x { self.new.alphabet.order ≡ self.old.alphabet.order }
+        ensures zeros { self.new.zeros ≡ self.old.zeros }
+        ensures degree { self.new.degree ≡ self.old.degree }
+        ensures closed { OnOk result (self.new.closed ≡ false) }
+        ensures err { OnErr result (listing_of self.new ≡ listing_of self.old) }
+    {
+        let first = self.settled_count;
+        let (lower, unsorted) = self.alphabet.leads.as_slice().split_at(first);
+        let mut last = sorted(alloc, o, unsorted)?;
+        let mut leads = copy_monomials(alloc, lower)?;
+        let sides = new_sides(
+            alloc,
+            &self.alphabet,
+            first,
+            last.as_slice(),
+            &self.table,
+        )?;
+        let rules = new_rules(
+            alloc,
+            &self.alphabet,
+            first,
+            last.as_slice(),
+            self.rules.as_slice(),
+        )?;
+        leads.append(&mut last)?;
+        set_sides(&mut self.table, sides);
+        self.rules = rules;
+        self.alphabet.leads = leads;
+        self.closed = false;
+        Ok(())
+    }
 }

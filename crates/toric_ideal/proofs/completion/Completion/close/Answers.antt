@@ -20,6 +20,7 @@ returns-clause-sound c = record {
   queued = c.requires.sound.queued;
   within = c.requires.sound.within;
   parted = c.requires.sound.parted;
+  standard = c.requires.sound.standard;
 }
 
 pub returns-clause-yes : goal.returns-clause-yes

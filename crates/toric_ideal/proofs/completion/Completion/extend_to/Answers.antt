@@ -4,7 +4,7 @@ use Rattle.monomial_order.specs.Monomial.{Exponents, weighted_degree}
 use Rattle.word_laws.specs.Words.{word_order_of}
 use Rattle.toric_ideal.specs.Alphabet.{letters_of}
 use Rattle.toric_ideal.specs.Listing.{AreRules, AreZeros, IsListing}
-use Rattle.toric_ideal.proofs.SoundListings.{all_settled, leads_low, listing_extended, listing_kept, old_zero, queued_later, rules_with}
+use Rattle.toric_ideal.proofs.SoundListings.{all_settled, none_last, leads_low, listing_extended, listing_kept, old_zero, queued_later, rules_with}
 use Rattle.toric_ideal.proofs.completion.Completion.extend_to.Goals as goal
 use Rattle.toric_ideal.proofs.completion.Completion.extend_to.Goals.{else-self-via-then-self+else-not-has_zero_above, else-self-via-else-self}
 
@@ -29,6 +29,7 @@ returns-in-Ok-clause-sound c =
       queued = c.in-Ok.ensures.queued;
       within = let e = c.len-self-in-Ok.ensures in omega arith;
       parted = all_settled w c.requires.sound c.args.c c.len-self-in-Ok.result c.requires.above (let e = c.len-self-in-Ok.ensures in let o = w.alphabet.leads.ok in omega arith);
+      standard = λ m h. absurd (none_last w c.len-self-in-Ok.result (let e = c.len-self-in-Ok.ensures in let o = w.alphabet.leads.ok in omega arith) m h);
     }
 
 pub returns-then-not-has_zero_above-clause-sound : goal.returns-then-not-has_zero_above-clause-sound
@@ -44,6 +45,7 @@ returns-then-not-has_zero_above-clause-sound c =
       queued = queued_later (word_order_of (letters_of w.alphabet)) w.degree c.args.c w.queued_count w.table w.pairs (omega arith) c.requires.sound.queued;
       within = let e = c.len-self.ensures in let o = w.alphabet.leads.ok in omega arith;
       parted = all_settled w c.requires.sound c.args.c c.len-self.result c.requires.above (let e = c.len-self.ensures in let o = w.alphabet.leads.ok in omega arith);
+      standard = λ m h. absurd (none_last w c.len-self.result (let e = c.len-self.ensures in let o = w.alphabet.leads.ok in omega arith) m h);
     }
 
 pub returns-then-not-has_zero_above-clause-closed : goal.returns-then-not-has_zero_above-clause-closed

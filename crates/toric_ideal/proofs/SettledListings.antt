@@ -1,0 +1,254 @@
+-- A completion whose last leads are numbered again.
+use Rattle.std.proofs.Common.{◌≡◌, ◌≢◌, ℕ, ◌+◌, ◌<◌, ◌≤◌, refl, sym, ◌∙◌, ap, subst, List, [], ◌∷◌, ◌++◌, length, length-append, take, drop, map, get_or, arith, inl, ⊎_elim, false}
+use Rattle.std.specs.Prelude.{Contains, AllPairs}
+use Rattle.std.proofs.lemmas.List.{ext_get_or, get_or_default, length-map, length-take-le, map-append, take-append-drop}
+use Rattle.std.proofs.lemmas.List.Elements.{Contains-append_cases}
+use Rattle.std.proofs.Math.Seq.{drop-append_seam, take-append_seam}
+use Rattle.monomial_order.specs.Monomial.{Exponents, IsMonomial, IsMultiple, variable, weighted_degree}
+use Rattle.monomial_order.specs.MonomialOrder.{IsIncreasing, IsMonomialOrder, MonomialOrder}
+use Rattle.monomial_order.specs.laws.Lists.{contains_at, contains_here, contains_map, contains_there}
+use Rattle.word_laws.specs.Words.{Letters, AreLetters, lead_degrees, variables, word_order_of}
+use Rattle.word_laws.specs.laws.Images.{degree_weighted}
+use Rattle.word_rewriting.specs.Rewriting.{WordOrZero, RewriteRule}
+use Rattle.word_rewriting.specs.Completeness.{with_leads}
+use Rattle.word_rewriting.specs.Renumbering.{AreRenumbered, AreRenumberedRules, IsRenumbered, IsRenumberedRule, IsRenumberedSide}
+use Rattle.word_rules.specs.Rules.{no_rule, rule_at}
+use Rattle.monomial_order.specs.Orders.{word_order}
+use Rattle.toric_ideal.specs.declared.completion.Completion.{Completion}
+use Rattle.toric_ideal.specs.declared.index_pair.IndexPair.{IndexPair}
+use Rattle.toric_ideal.specs.declared.rule.Rule.{Rule}
+use Rattle.toric_ideal.specs.Alphabet.{letters_of}
+use Rattle.toric_ideal.specs.Increasing.{AreComparable, IsSorted}
+use Rattle.toric_ideal.specs.Leads.{letters, AreLetterLeads}
+use Rattle.toric_ideal.specs.Listing.{AreParted, AreRules, IsListing, IsSettled, OrdersByDegrees}
+use Rattle.toric_ideal.specs.Queue.{IsQueued}
+use Rattle.toric_ideal.specs.Rewriting.{rewrite_rule, rewrite_rules, AreExactRules, AreSameRules}
+use Rattle.toric_ideal.specs.Settling.{last_leads, lower_letters, AreNewRules, AreNewSides, CanRenumber, HasRightSides, IsLowerOrLetterSide}
+use Rattle.toric_ideal.specs.SortedRules.{words_of}
+use Rattle.toric_ideal.specs.State.{IsSound}
+use Rattle.toric_ideal.proofs.Cleaning.{rule_index}
+use Rattle.toric_ideal.proofs.ExactRules.{exact_rules}
+use Rattle.toric_ideal.proofs.LetterLemmas.{leads_letters}
+use Rattle.toric_ideal.proofs.Members.{contains_drop, contains_mapped, contains_take}
+use Rattle.toric_ideal.proofs.Pairs.{increasing_distinct, pairs_append, pairs_drop, pairs_from, pairs_take, pairs_to}
+use Rattle.toric_ideal.proofs.RuleLists.{word_at, words_length}
+use Rattle.toric_ideal.proofs.Settled.{left_lower, right_lower, settled_exact, side_unique}
+use Rattle.toric_ideal.proofs.SoundListings.{not_known, sound_exact}
+use Rattle.word_rewriting.specs.laws.Renumbering.{last_letters}
+
+-- the order that gives each x its degree gives each monomial its degree
+fits_degree : (O : MonomialOrder) (xs : List ℕ) → IsMonomialOrder O → OrdersByDegrees O xs → (m : Exponents) → IsMonomial (length xs) m → O.degree m ≡ weighted_degree xs m
+fits_degree O xs W f m h =
+    sym (degree_weighted O W m (subst (λ n. IsMonomial n m) (sym f.places) h)) ∙
+    ap (λ ds. weighted_degree ds m) (ap (λ n. map O.degree (variables 0 n)) f.places ∙ f.gives)
+
+pub leads_comparable : (O : MonomialOrder) (xs : List ℕ) (leads : List Exponents) (k : ℕ) → IsMonomialOrder O → OrdersByDegrees O xs → AreLetterLeads xs leads → AreComparable O (drop k leads)
+leads_comparable O xs leads k W f h m c =
+    let l = h m (contains_drop leads k m c) in
+    let s = l.small in
+    let e = fits_degree O xs W f m l.monomial in
+    record { monomial = subst (λ n. IsMonomial n m) (sym f.places) l.monomial; small = omega arith }
+
+same_values : (f : Exponents → ℕ) (d : ℕ) (ms ns : List Exponents) → length ms ≡ length ns → ((m : Exponents) → Contains ms m → f m ≡ d) → ((m : Exponents) → Contains ns m → f m ≡ d) → map f ms ≡ map f ns
+same_values f d [] [] e h k = refl
+same_values f d [] (n ∷ ns) e h k = absurd (omega arith)
+same_values f d (m ∷ ms) [] e h k = absurd (omega arith)
+same_values f d (m ∷ ms) (n ∷ ns) e h k =
+    ap (λ y. y ∷ map f ms) (h m (contains_here m ms) ∙ sym (k n (contains_here n ns))) ∙
+    ap (λ ys. f n ∷ ys) (same_values f d ms ns (omega arith) (λ x c. h x (contains_there m ms x c)) (λ x c. k x (contains_there n ns x c)))
+
+take_taken : {A : Type 0} (k : ℕ) (xs ys : List A) → k ≤ length xs → take k (take k xs ++ ys) ≡ take k xs
+take_taken k xs ys l = subst (λ n. take n (take k xs ++ ys) ≡ take k xs) (length-take-le k xs l) (take-append_seam (take k xs) ys)
+
+drop_taken : {A : Type 0} (k : ℕ) (xs ys : List A) → k ≤ length xs → drop k (take k xs ++ ys) ≡ ys
+drop_taken k xs ys l = subst (λ n. drop n (take k xs ++ ys) ≡ ys) (length-take-le k xs l) (drop-append_seam (take k xs) ys)
+
+module _ (O : MonomialOrder) (W : IsMonomialOrder O) (w : Completion) (s : IsSound w) (after : List Exponents) (p : IsSorted O (drop w.settled_count w.alphabet.leads.items) after) where
+  abbrev k : ℕ
+  k = w.settled_count
+
+  abbrev xs : List ℕ
+  xs = w.alphabet.order.x_degrees.items
+
+  abbrev leads : List Exponents
+  leads = w.alphabet.leads.items
+
+  abbrev L : Letters
+  L = lower_letters w.alphabet k
+
+  abbrev before : List Exponents
+  before = last_leads w.alphabet k
+
+  abbrev Z : List Exponents
+  Z = w.zeros.items
+
+  whole : with_leads L before ≡ letters_of w.alphabet
+  whole = ap (letters xs) (take-append-drop k leads)
+
+  HL : AreLetters L
+  HL = record {
+    positive = s.listing.letters.positive;
+    leads = λ m c. s.listing.letters.leads m (contains_take leads k m c);
+    not_one = λ m c. s.listing.letters.not_one m (contains_take leads k m c);
+  }
+
+  distinct_before : AllPairs (λ m n. m ≢ n) before
+  distinct_before = pairs_to (λ m n. m ≢ n) before (pairs_drop (λ m n. m ≢ n) k leads (pairs_from (λ m n. m ≢ n) leads s.listing.distinct))
+
+  old_lead : (m : Exponents) → Contains after m → Contains leads m
+  old_lead m c = contains_drop leads k m ((p.members m).1 c)
+
+  last_after : (m : Exponents) → Contains after m → weighted_degree xs m ≡ w.degree
+  last_after m c = s.parted.last_equal m ((p.members m).1 c)
+
+  K : AreRenumbered L w.degree before after
+  K = record {
+    old_leads = record {
+      in_x = λ m c. s.listing.letters.leads m (contains_drop leads k m c);
+      not_one = λ m c. s.listing.letters.not_one m (contains_drop leads k m c);
+      degree = s.parted.last_equal;
+      distinct = distinct_before;
+    };
+    new_leads = record {
+      in_x = λ m c. s.listing.letters.leads m (old_lead m c);
+      not_one = λ m c. s.listing.letters.not_one m (old_lead m c);
+      degree = last_after;
+      distinct = pairs_to (λ m n. m ≢ n) after (increasing_distinct O W after p.increasing);
+    };
+    members = p.members;
+  }
+
+  number : length after ≡ length before
+  number = p.number distinct_before
+
+  pub can_renumber : CanRenumber w.alphabet k after
+  can_renumber = record { within = s.within; number = number; members = λ m c. (p.members m).0 c }
+
+  exact : AreExactRules (with_leads L before) Z w.degree w.table
+  exact = subst (λ M. AreExactRules M Z w.degree w.table) (sym whole) (sound_exact w s)
+
+  pub table_sides : (i : ℕ) → i < length w.table → IsLowerOrLetterSide L before (rule_at w.table i).right
+  table_sides i l = right_lower L HL Z w.degree before after K w.table exact (rule_at w.table i) (contains_at w.table i no_rule l)
+
+  pub rule_sides : (r : Rule) → Contains w.rules.items r → IsLowerOrLetterSide L before r.least
+  rule_sides r c = right_lower L HL Z w.degree before after K w.table exact (rewrite_rule r) (s.same.there r c)
+
+  pub settled_is : (new : List Exponents) → new ≡ take k leads ++ after → IsSettled O xs w.degree leads new
+  settled_is new e = record {
+    lower = take k leads;
+    before = before;
+    after = after;
+    old_parts = s.parted;
+    new_parts = record { whole = e; lower_less = s.parted.lower_less; last_equal = last_after };
+    members = p.members;
+    number = number;
+    increasing = p.increasing;
+  }
+
+  -- the same degrees, so the same order of words
+  degrees_same : map (weighted_degree xs) (take k leads ++ after) ≡ map (weighted_degree xs) leads
+  degrees_same =
+      map-append (weighted_degree xs) (take k leads) after ∙
+      (ap (λ ys. map (weighted_degree xs) (take k leads) ++ ys) (same_values (weighted_degree xs) w.degree after before number last_after s.parted.last_equal) ∙
+      (sym (map-append (weighted_degree xs) (take k leads) before) ∙ ap (map (weighted_degree xs)) (take-append-drop k leads)))
+
+  order_same : word_order_of (with_leads L after) ≡ word_order_of (letters_of w.alphabet)
+  order_same = ap (word_order xs) degrees_same
+
+  pub new_leads : AreLetterLeads xs (take k leads ++ after)
+  new_leads m c = ⊎_elim (λ a. s.listing.leads m (contains_take leads k m a)) (λ b. s.listing.leads m (old_lead m b)) (Contains-append_cases (take k leads) after m c)
+
+  new_distinct : AllPairs (λ m n. m ≢ n) (take k leads ++ after)
+  new_distinct =
+      pairs_to (λ m n. m ≢ n) (take k leads ++ after)
+      (pairs_append (λ m n. m ≢ n) (take k leads) after
+      (pairs_take (λ m n. m ≢ n) k leads (pairs_from (λ m n. m ≢ n) leads s.listing.distinct)) (increasing_distinct O W after p.increasing)
+      (λ x y c d e.
+      let a = s.parted.lower_less x c in
+      let b = last_after y d in
+      let q : weighted_degree xs x ≡ weighted_degree xs y = ap (weighted_degree xs) e in
+      omega arith))
+
+  module _ (T : List RewriteRule) (sides : List WordOrZero) (new : List Rule) (hs : AreNewSides w.alphabet k after w.table sides) (ht : HasRightSides w.table T sides) (hr : AreNewRules w.alphabet k after w.rules.items new) where
+    renumbered_at : (i : ℕ) → i < length w.table → IsRenumberedRule L before after (rule_at w.table i) (rule_at T i)
+    renumbered_at i l = (
+      inl (left_lower L HL Z w.degree before after K s.standard w.table exact (rule_at w.table i) (contains_at w.table i no_rule l), sym (ht.left i l)),
+      subst (IsRenumberedSide L before after (rule_at w.table i).right) (sym (ht.right i l)) (hs.each i l),
+    )
+
+    renumbered : AreRenumberedRules L before after w.table T
+    renumbered = record {
+      each = λ t h.
+          let i = rule_index T t h in
+          let b = i.1 in
+          let n = ht.number in
+          let l : i.0 < length w.table = omega arith in
+          (rule_at w.table i.0, contains_at w.table i.0 no_rule l, subst (IsRenumberedRule L before after (rule_at w.table i.0)) i.2 (renumbered_at i.0 l));
+      all = λ r h.
+          let i = rule_index w.table r h in
+          let b = i.1 in
+          let n = ht.number in
+          (rule_at T i.0, contains_at T i.0 no_rule (omega arith), subst (λ (x : RewriteRule). IsRenumberedRule L before after x (rule_at T i.0)) i.2 (renumbered_at i.0 b));
+    }
+
+    new_exact : AreExactRules (with_leads L after) Z w.degree T
+    new_exact = settled_exact L HL Z w.degree before after K w.table T exact renumbered
+
+    -- a rule of the one list at an index, and the same rule of the other
+    new_same : (i j : ℕ) (c d : Rule) → i < length w.rules.items → j < length w.table → rewrite_rule (get_or w.rules.items i d) ≡ rule_at w.table j → rewrite_rule (get_or new i c) ≡ rule_at T j
+    new_same i j c d li lj e =
+        let el : (get_or new i c).word ≡ (rule_at T j).left = hr.word i c d li ∙ (ap (λ (t : RewriteRule). t.left) e ∙ sym (ht.left j lj)) in
+        let er : (get_or new i c).least ≡ (rule_at T j).right =
+        side_unique L HL Z w.degree before after K (get_or w.rules.items i d).least (get_or new i c).least (rule_at T j).right (hr.least i c d li)
+        (subst (λ (t : RewriteRule). IsRenumberedSide L before after t.right (rule_at T j).right) (sym e) (renumbered_at j lj).1) in
+        ap (λ u. record { left = u; right = (get_or new i c).least }) el ∙ ap (λ b. record { left = (rule_at T j).left; right = b }) er
+
+    pub same_rules : AreSameRules new T
+    same_rules = record {
+      there = λ r h.
+          let b = h.1 in
+          let n = hr.number in
+          let li : h.0 < length w.rules.items = omega arith in
+          let old = get_or w.rules.items h.0 r in
+          let j = rule_index w.table (rewrite_rule old) (s.same.there old (contains_at w.rules.items h.0 r li)) in
+          let lj = j.1 in
+          let m = ht.number in
+          subst (Contains T) (sym (new_same h.0 j.0 r r li lj (sym j.2)) ∙ ap rewrite_rule (h.2)) (contains_at T j.0 no_rule (omega arith));
+      back = λ t h.
+          let j = rule_index T t h in
+          let b = j.1 in
+          let m = ht.number in
+          let lj : j.0 < length w.table = omega arith in
+          let x = contains_mapped rewrite_rule w.rules.items (rule_at w.table j.0) (s.same.back (rule_at w.table j.0) (contains_at w.table j.0 no_rule lj)) in
+          let i = x.1 in
+          let li = i.1 in
+          let n = hr.number in
+          subst (Contains (rewrite_rules new)) (new_same i.0 j.0 x.0 x.0 li lj (ap rewrite_rule i.2 ∙ x.2) ∙ j.2)
+          (contains_map rewrite_rule new (get_or new i.0 x.0) (contains_at new i.0 x.0 (omega arith)));
+    }
+
+    words_same : words_of new ≡ words_of w.rules.items
+    words_same =
+        let n = hr.number in
+        let a = words_length new in
+        let b = words_length w.rules.items in
+        ext_get_or [] (words_of new) (words_of w.rules.items) (a ∙ (n ∙ sym b))
+        (λ i l.
+        let d : Rule = record { word = []; least = None } in
+        word_at new i d (omega arith) ∙ (hr.word i d d (omega arith) ∙ sym (word_at w.rules.items i d (omega arith))))
+
+    new_rules : AreRules (with_leads L after) Z w.degree new
+    new_rules =
+        exact_rules (with_leads L after) (last_letters L HL w.degree before after K) Z w.degree T new new_exact same_rules
+        (subst (λ P. IsIncreasing P (words_of new)) (sym order_same) (subst (IsIncreasing (word_order_of (letters_of w.alphabet))) (sym words_same) s.listing.rules.increasing))
+
+    pub listing_settled : (ls : List Exponents) → ls ≡ take k leads ++ after → IsListing (record { letters = letters xs ls; zeros = Z; degree = w.degree; rules = new; closed = false })
+    listing_settled ls e = subst (λ ms. IsListing (record { letters = letters xs ms; zeros = Z; degree = w.degree; rules = new; closed = false })) (sym e) (record {
+      letters = leads_letters xs (take k leads ++ after) w.alphabet.order.x_in_range new_leads;
+      leads = new_leads;
+      distinct = new_distinct;
+      zeros = s.listing.zeros;
+      small = s.listing.small;
+      rules = new_rules;
+      closed = λ t. not_known t;
+    })

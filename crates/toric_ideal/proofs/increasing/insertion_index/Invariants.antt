@@ -1,0 +1,8 @@
+use Rattle.toric_ideal.proofs.IncreasingLists.{IsIndexFrom}
+use Rattle.toric_ideal.proofs.increasing.insertion_index.Given as goal
+
+abbrev pub invariant-seek : goal.invariant-seek
+invariant-seek g l = IsIndexFrom (g.O.Order.order l.o) l.list l.m l.index
+
+abbrev pub decreases-seek : goal.decreases-seek
+decreases-seek g l = l.index
