@@ -1,10 +1,10 @@
 -- A completion whose last leads are numbered again.
-use Rattle.std.proofs.Common.{◌≡◌, ◌≢◌, ℕ, ◌+◌, ◌<◌, ◌≤◌, refl, sym, ◌∙◌, ap, subst, List, [], ◌∷◌, ◌++◌, length, length-append, take, drop, map, get_or, arith, inl, ⊎_elim, false}
+use Rattle.std.proofs.Common.{◌≡◌, ◌≢◌, ℕ, ◌+◌, ◌<◌, ◌≤◌, refl, sym, ◌∙◌, ap, subst, List, [], ◌∷◌, ◌++◌, length, length-append, take, drop, map, get_or, arith, inl, inr, ⊎_elim, false, Some, None}
 use Rattle.std.specs.Prelude.{Contains, AllPairs}
 use Rattle.std.proofs.lemmas.List.{ext_get_or, get_or_default, length-map, length-take-le, map-append, take-append-drop}
 use Rattle.std.proofs.lemmas.List.Elements.{Contains-append_cases}
 use Rattle.std.proofs.Math.Seq.{drop-append_seam, take-append_seam}
-use Rattle.monomial_order.specs.Monomial.{Exponents, IsMonomial, IsMultiple, variable, weighted_degree}
+use Rattle.monomial_order.specs.Monomial.{Exponents, AreCoprime, IsMonomial, IsMultiple, least_common_multiple as lcm, weighted_degree}
 use Rattle.monomial_order.specs.MonomialOrder.{IsIncreasing, IsMonomialOrder, MonomialOrder}
 use Rattle.monomial_order.specs.laws.Lists.{contains_at, contains_here, contains_map, contains_there}
 use Rattle.word_laws.specs.Words.{Letters, AreLetters, lead_degrees, variables, word_order_of}
@@ -17,11 +17,13 @@ use Rattle.monomial_order.specs.Orders.{word_order}
 use Rattle.toric_ideal.specs.declared.completion.Completion.{Completion}
 use Rattle.toric_ideal.specs.declared.index_pair.IndexPair.{IndexPair}
 use Rattle.toric_ideal.specs.declared.rule.Rule.{Rule}
-use Rattle.toric_ideal.specs.Alphabet.{letters_of}
+use Rattle.toric_ideal.specs.Alphabet.{letters_of, IsAlphabet}
 use Rattle.toric_ideal.specs.Increasing.{AreComparable, IsSorted}
 use Rattle.toric_ideal.specs.Leads.{letters, AreLetterLeads}
 use Rattle.toric_ideal.specs.Listing.{AreParted, AreRules, IsListing, IsSettled, OrdersByDegrees}
-use Rattle.toric_ideal.specs.Queue.{IsQueued}
+use Rattle.toric_ideal.specs.Queue.{pair, IsNeedless, IsQueued}
+use Rattle.toric_ideal.specs.Step.{pair_degree, IsPairAt}
+use Rattle.degree_queue.specs.DegreeQueue.{list_of}
 use Rattle.toric_ideal.specs.Rewriting.{rewrite_rule, rewrite_rules, AreExactRules, AreSameRules}
 use Rattle.toric_ideal.specs.Settling.{last_leads, lower_letters, AreNewRules, AreNewSides, CanRenumber, HasRightSides, IsLowerOrLetterSide}
 use Rattle.toric_ideal.specs.SortedRules.{words_of}
@@ -239,7 +241,7 @@ module _ (O : MonomialOrder) (W : IsMonomialOrder O) (w : Completion) (s : IsSou
 
     new_rules : AreRules (with_leads L after) Z w.degree new
     new_rules =
-        exact_rules (with_leads L after) (last_letters L HL w.degree before after K) Z w.degree T new new_exact same_rules
+        exact_rules (with_leads L after) (last_letters L HL w.degree after K.new_leads) Z w.degree T new new_exact same_rules
         (subst (λ P. IsIncreasing P (words_of new)) (sym order_same) (subst (IsIncreasing (word_order_of (letters_of w.alphabet))) (sym words_same) s.listing.rules.increasing))
 
     pub listing_settled : (ls : List Exponents) → ls ≡ take k leads ++ after → IsListing (record { letters = letters xs ls; zeros = Z; degree = w.degree; rules = new; closed = false })
@@ -252,3 +254,67 @@ module _ (O : MonomialOrder) (W : IsMonomialOrder O) (w : Completion) (s : IsSou
       rules = new_rules;
       closed = λ t. not_known t;
     })
+
+  -- the same left sides have pairs of the same degrees, and the same of these are needless
+  module _ (P : MonomialOrder) (c n : ℕ) (T : List RewriteRule) (sides : List WordOrZero) (hs : AreNewSides w.alphabet k after w.table sides) (ht : HasRightSides w.table T sides) where
+    degree_kept : (i j : ℕ) → i < length w.table → j < length w.table → pair_degree P T i j ≡ pair_degree P w.table i j
+    degree_kept i j li lj = ap (λ u. P.degree (lcm u (rule_at T j).left)) (ht.left i li) ∙ ap (λ u. P.degree (lcm (rule_at w.table i).left u)) (ht.left j lj)
+
+    none_kept : (i : ℕ) → i < length w.table → (rule_at w.table i).right ≡ None → (rule_at T i).right ≡ None
+    none_kept i l e = none (rule_at T i).right (subst (λ a. IsRenumberedSide L before after a (rule_at T i).right) e (subst (IsRenumberedSide L before after (rule_at w.table i).right) (sym (ht.right i l)) (hs.each i l)))
+      where
+        none : (b : WordOrZero) → IsRenumberedSide L before after None b → b ≡ None
+        none None h = refl
+        none (Some v) h = absurd h
+
+    needless_kept : (i j : ℕ) → i < length w.table → j < length w.table → IsNeedless w.table i j → IsNeedless T i j
+    needless_kept i j li lj h =
+        ⊎_elim
+        (λ a. inl (subst (λ u. AreCoprime u (rule_at T j).left) (sym (ht.left i li)) (subst (λ u. AreCoprime (rule_at w.table i).left u) (sym (ht.left j lj)) a)))
+        (λ b. inr (none_kept i li b.0, none_kept j lj b.1)) h
+
+    queued_kept : (queue : List (List IndexPair)) → IsQueued P c n w.table queue → IsQueued P c n T queue
+    queued_kept queue q = record {
+      within = let a = q.within in let b = ht.number in omega arith;
+      each = λ d x l h.
+          let y = q.each d x l h in
+          let a = q.within in
+          let r = y.rising in
+          let b = y.below in
+          record { rising = y.rising; below = y.below; degree = degree_kept x.first x.second (omega arith) (omega arith) ∙ y.degree };
+      all = λ i j l m above small.
+          let a = q.within in
+          let li : i < length w.table = omega arith in
+          let lj : j < length w.table = omega arith in
+          let e = degree_kept i j li lj in
+          ⊎_elim (λ x. inl (needless_kept i j li lj x)) (λ x. inr (subst (λ d. Contains (list_of queue d) (pair i j)) (sym e) x))
+          (q.all i j l m (omega arith) (omega arith));
+    }
+
+  module _ (new : List Exponents) (e : new ≡ take k leads ++ after) where
+    pub settled_alphabet : IsAlphabet w.alphabet → (w.alphabet.order.s_degrees.items ≡ map (weighted_degree xs) new) × AreLetterLeads xs new
+    settled_alphabet h = (h.lead_degrees ∙ (sym degrees_same ∙ ap (map (weighted_degree xs)) (sym e)), subst (AreLetterLeads xs) (sym e) new_leads)
+
+    new_length : length new ≡ length leads
+    new_length =
+        ap length e ∙ (length-append (take k leads) after ∙
+        (let n = number in let l : length (take k leads) + length after ≡ length (take k leads) + length before = omega arith in l ∙
+        (sym (length-append (take k leads) before) ∙ ap length (take-append-drop k leads))))
+
+    pub settled_within : k ≤ length new
+    settled_within = let n = new_length in let b = s.within in omega arith
+
+    pub settled_parted : AreParted xs w.degree new (take k new) (drop k new)
+    settled_parted = subst (λ ls. AreParted xs w.degree ls (take k ls) (drop k ls)) (sym e) (record {
+      whole = sym (take-append-drop k (take k leads ++ after));
+      lower_less = λ m c. s.parted.lower_less m (subst (λ ys. Contains ys m) (take_taken k leads after s.within) c);
+      last_equal = λ m c. last_after m (subst (λ ys. Contains ys m) (drop_taken k leads after s.within) c);
+    })
+
+    pub settled_standard : (m : Exponents) → Contains (drop k new) m → ¬ IsMultiple Z m
+    settled_standard m c = s.standard m ((p.members m).1 (subst (λ ys. Contains ys m) (ap (drop k) e ∙ drop_taken k leads after s.within) c))
+
+    module _ (T : List RewriteRule) (sides : List WordOrZero) (hs : AreNewSides w.alphabet k after w.table sides) (ht : HasRightSides w.table T sides) where
+      pub settled_queued : IsQueued (word_order_of (letters xs new)) w.degree w.queued_count T w.pairs
+      settled_queued =
+          subst (λ P. IsQueued P w.degree w.queued_count T w.pairs) (sym (ap (λ ls. word_order_of (letters xs ls)) e ∙ order_same)) (queued_kept (word_order_of (letters_of w.alphabet)) w.degree w.queued_count T sides hs ht w.pairs s.queued)
