@@ -6,11 +6,11 @@ ghost use Rattle.monomial_order.specs.Ranges.{all_between};
 ghost use Rattle.word_laws.specs.Words.{image_of, lead_degrees, word_order_of, IsLeast, IsSWord, IsWord};
 ghost use Rattle.toric_ideal.specs.Leads.{letters};
 ghost use Rattle.toric_ideal.specs.Closing.{closing_max, with_closed, HasMissedWord};
-ghost use Rattle.toric_ideal.specs.Listing.{AgreeTo, AreRules, AreZeros, IsClosed, IsDecided, IsListing};
+ghost use Rattle.toric_ideal.specs.Listing.{AgreeTo, AreRules, AreZeros, IsClosed, IsDecided, IsListing, IsSettled, OrdersByDegrees};
 
 use crate::Rule;
 use crate::completion::Completion;
-use monomial_order::{Memory, Monomial, WordOrder};
+use monomial_order::{Memory, Monomial, Order, WordOrder};
 use std::alloc::Global;
 use std::marker::Model;
 
@@ -67,6 +67,20 @@ impl Words {
             return Ok(());
         }
         self.completion.extend_to(alloc, c, zero)
+    }
+
+    /// Numbers the leads of the last degree again, so that they increase in the order.
+    pub fn settle<O: Order>(&mut self, alloc: Global, o: &O) -> Result<(), Memory>
+        requires { OrdersByDegrees (O.order o.now) self.old.letters.degrees }
+        ensures settled { OnOk result (IsSettled (O.order o.now)
+            self.old.letters.degrees self.old.degree self.old.letters.leads self.new.letters.leads) }
+        ensures x { self.new.letters.degrees ≡ self.old.letters.degrees }
+        ensures zeros { self.new.zeros ≡ self.old.zeros }
+        ensures degree { self.new.degree ≡ self.old.degree }
+        ensures closed { OnOk result (self.new.closed ≡ false) }
+        ensures err { OnErr result (self.new ≡ self.old) }
+    {
+        self.completion.settle(alloc, o)
     }
 
     /// The order of the words.
