@@ -20,4 +20,5 @@ pub mod DegreeRules
 pub mod NewLead
 pub mod Settled
 pub mod NewSides
+pub mod Relettering
 pub mod SettledListings

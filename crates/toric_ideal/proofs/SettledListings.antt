@@ -1,13 +1,13 @@
 -- A completion whose last leads are numbered again.
-use Rattle.std.proofs.Common.{◌≡◌, ◌≢◌, ℕ, ◌+◌, ◌<◌, ◌≤◌, refl, sym, ◌∙◌, ap, subst, List, [], ◌∷◌, ◌++◌, length, length-append, take, drop, map, get_or, arith, inl, inr, ⊎_elim, false, Some, None}
+use Rattle.std.proofs.Common.{◌≡◌, ◌≢◌, ℕ, ◌+◌, ◌<◌, ◌≤◌, refl, sym, ◌∙◌, ap, subst, List, [], ◌∷◌, ◌++◌, length, length-append, take, drop, map, get_or, arith, inl, inr, ⊎_elim, Some, None}
 use Rattle.std.specs.Prelude.{Contains, AllPairs}
 use Rattle.std.proofs.lemmas.List.{ext_get_or, get_or_default, length-map, length-take-le, map-append, take-append-drop}
 use Rattle.std.proofs.lemmas.List.Elements.{Contains-append_cases}
 use Rattle.std.proofs.Math.Seq.{drop-append_seam, take-append_seam}
-use Rattle.monomial_order.specs.Monomial.{Exponents, AreCoprime, IsMonomial, IsMultiple, least_common_multiple as lcm, weighted_degree}
+use Rattle.monomial_order.specs.Monomial.{Exponents, AreCoprime, Divides, IsMonomial, IsMultiple, least_common_multiple as lcm, weighted_degree}
 use Rattle.monomial_order.specs.MonomialOrder.{IsIncreasing, IsMonomialOrder, MonomialOrder}
 use Rattle.monomial_order.specs.laws.Lists.{contains_at, contains_here, contains_map, contains_there}
-use Rattle.word_laws.specs.Words.{Letters, AreLetters, lead_degrees, variables, word_order_of}
+use Rattle.word_laws.specs.Words.{Letters, AreLetters, IsReducible, IsWord, variables, word_order_of}
 use Rattle.word_laws.specs.laws.Images.{degree_weighted}
 use Rattle.word_rewriting.specs.Rewriting.{WordOrZero, RewriteRule}
 use Rattle.word_rewriting.specs.Completeness.{with_leads}
@@ -33,9 +33,10 @@ use Rattle.toric_ideal.proofs.ExactRules.{exact_rules}
 use Rattle.toric_ideal.proofs.LetterLemmas.{leads_letters}
 use Rattle.toric_ideal.proofs.Members.{contains_drop, contains_mapped, contains_take}
 use Rattle.toric_ideal.proofs.Pairs.{increasing_distinct, pairs_append, pairs_drop, pairs_from, pairs_take, pairs_to}
+use Rattle.toric_ideal.proofs.Relettering.{closed_again}
 use Rattle.toric_ideal.proofs.RuleLists.{word_at, words_length}
 use Rattle.toric_ideal.proofs.Settled.{left_lower, right_lower, settled_exact, side_unique}
-use Rattle.toric_ideal.proofs.SoundListings.{not_known, sound_exact}
+use Rattle.toric_ideal.proofs.SoundListings.{sound_exact}
 use Rattle.word_rewriting.specs.laws.Renumbering.{last_letters}
 
 -- the order that gives each x its degree gives each monomial its degree
@@ -244,15 +245,24 @@ module _ (O : MonomialOrder) (W : IsMonomialOrder O) (w : Completion) (s : IsSou
         exact_rules (with_leads L after) (last_letters L HL w.degree after K.new_leads) Z w.degree T new new_exact same_rules
         (subst (λ P. IsIncreasing P (words_of new)) (sym order_same) (subst (IsIncreasing (word_order_of (letters_of w.alphabet))) (sym words_same) s.listing.rules.increasing))
 
-    pub listing_settled : (ls : List Exponents) → ls ≡ take k leads ++ after → IsListing (record { letters = letters xs ls; zeros = Z; degree = w.degree; rules = new; closed = false })
-    listing_settled ls e = subst (λ ms. IsListing (record { letters = letters xs ms; zeros = Z; degree = w.degree; rules = new; closed = false })) (sym e) (record {
+    pub listing_settled : (ls : List Exponents) → ls ≡ take k leads ++ after → IsListing (record { letters = letters xs ls; zeros = Z; degree = w.degree; rules = new; closed = w.closed })
+    listing_settled ls e = subst (λ ms. IsListing (record { letters = letters xs ms; zeros = Z; degree = w.degree; rules = new; closed = w.closed })) (sym e) (record {
       letters = leads_letters xs (take k leads ++ after) w.alphabet.order.x_in_range new_leads;
       leads = new_leads;
       distinct = new_distinct;
       zeros = s.listing.zeros;
       small = s.listing.small;
       rules = new_rules;
-      closed = λ t. not_known t;
+      closed = λ t v hv red.
+          let x = closed_again L HL w.degree before after K Z w.table T
+          (λ r h. (
+            left_lower L HL Z w.degree before after K s.standard w.table exact r h,
+            (let i = rule_index w.table r h in let b = i.1 in let n = ht.number in (rule_at T i.0, contains_at T i.0 no_rule (omega arith), ht.left i.0 b ∙ ap (λ (y : RewriteRule). y.left) i.2)),
+          ))
+          new_exact.rules
+          (λ u hu r. let y = s.listing.closed t u (subst (λ M. IsWord M u) whole hu) (subst (λ M. IsReducible (IsMultiple Z) M u) whole r) in (rewrite_rule y.0, s.same.there y.0 y.1, y.2)) v hv red in
+          let y = contains_mapped rewrite_rule new x.0 (same_rules.back x.0 x.1) in
+          (y.0, y.1, subst (λ (r : RewriteRule). Divides r.left v) (sym y.2) x.2);
     })
 
   -- the same left sides have pairs of the same degrees, and the same of these are needless

@@ -1,5 +1,5 @@
 //! Leads of the last degree, numbered again.
-ghost use Rattle.std.specs.Prelude.{◌≡◌, ◌<◌, ◌≤◌, ℕ, [], false, length, get_or, Contains, IfOk, OnOk, OnErr};
+ghost use Rattle.std.specs.Prelude.{◌≡◌, ◌<◌, ◌≤◌, ℕ, [], length, get_or, Contains, IfOk, OnOk, OnErr};
 ghost use Rattle.word_rewriting.specs.Renumbering.{IsRenumbered};
 ghost use Rattle.word_rules.specs.Rules.{rule_at};
 ghost use Rattle.toric_ideal.specs.Alphabet.{letters_of};
@@ -157,7 +157,7 @@ impl Completion {
         ensures x { self.new.alphabet.order ≡ self.old.alphabet.order }
         ensures zeros { self.new.zeros ≡ self.old.zeros }
         ensures degree { self.new.degree ≡ self.old.degree }
-        ensures closed { OnOk result (self.new.closed ≡ false) }
+        ensures closed { self.new.closed ≡ self.old.closed }
         ensures err { OnErr result (listing_of self.new ≡ listing_of self.old) }
     {
         let first = self.settled_count;
@@ -182,7 +182,6 @@ impl Completion {
         set_sides(&mut self.table, sides);
         self.rules = rules;
         self.alphabet.leads = leads;
-        self.closed = false;
         Ok(())
     }
 }

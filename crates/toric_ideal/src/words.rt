@@ -77,7 +77,7 @@ impl Words {
         ensures x { self.new.letters.degrees ≡ self.old.letters.degrees }
         ensures zeros { self.new.zeros ≡ self.old.zeros }
         ensures degree { self.new.degree ≡ self.old.degree }
-        ensures closed { OnOk result (self.new.closed ≡ false) }
+        ensures closed { self.new.closed ≡ self.old.closed }
         ensures err { OnErr result (self.new ≡ self.old) }
     {
         self.completion.settle(alloc, o)
