@@ -1,22 +1,24 @@
--- The rules of a greater degree, of other zeros and of other leads.
-use Rattle.std.proofs.Common.{◌≡◌, ℕ, suc, ◌≤◌, sym, ap, subst, List, [], ◌++◌, length, arith, inl, inr, ⊎_elim}
-use Rattle.std.specs.Prelude.{Contains, map, Option, Some, None}
-use Rattle.std.proofs.lemmas.List.{map-append}
+-- Rules of degree 0, and rules with other zeros.
+use Rattle.std.proofs.Common.{◌≡◌, ℕ, ◌≤◌, ap, subst, List, [], length, arith, inl, inr, ⊎_elim}
+use Rattle.std.specs.Prelude.{Contains, Option, Some, None}
 use Rattle.std.specs.declared.cmp.Ordering.TheVariants.{Less}
 use Rattle.monomial_order.specs.Monomial.{weighted_degree, Divides, IsMonomial, IsTrimmed, IsMultiple}
+use Rattle.monomial_order.specs.MonomialOrder.{IsMonomialOrder, MonomialOrder}
 use Rattle.monomial_order.specs.laws.Monomial.{weighted_nil}
-use Rattle.monomial_order.specs.laws.Comparing.{divisor_degree, le_or_not, none_below_one, some_exponent, equal_or_not}
-use Rattle.monomial_order.specs.laws.Lists.{contains_left, contains_map, contains_none, contains_right}
+use Rattle.monomial_order.specs.laws.Comparing.{divisor_degree, none_below_one, some_exponent, equal_or_not}
+use Rattle.monomial_order.specs.laws.Lists.{contains_none}
 use Rattle.word_laws.specs.Words.{image_of, word_order_of, AreLetters, IsMinimalReducible, IsReducible, Letters}
 use Rattle.word_laws.specs.laws.Words.{degree_image, degree_x, image_x, word_laws}
+use Rattle.word_rewriting.specs.Completeness.{IsLeastOrZero}
 use Rattle.toric_ideal.specs.declared.rule.Rule.{Rule}
-use Rattle.monomial_order.specs.MonomialOrder.{IsIncreasing}
-use Rattle.toric_ideal.specs.Listing.{AgreeTo, AreRules, IsLeastOrZero}
-use Rattle.toric_ideal.specs.Enumeration.{AreMinimalWords}
-use Rattle.std.proofs.lemmas.List.Elements.{Contains-append_cases}
-use Rattle.toric_ideal.proofs.Members.{contains_mapped}
-use Rattle.toric_ideal.proofs.IncreasingLists.{increasing_append}
-use Rattle.toric_ideal.proofs.EnumerationLemmas.{degree_none}
+use Rattle.toric_ideal.specs.Listing.{AgreeTo, AreRules}
+
+-- a word of degree 0 is 1
+pub degree_none : (O : MonomialOrder) → IsMonomialOrder O → (u : List ℕ) → IsMonomial O.places u → O.degree u ≤ 0 → u ≡ []
+degree_none O W u h d =
+    ⊎_elim (λ e. e)
+    (λ n. let x = some_exponent u h.trimmed n in let l = x.1 in let p = x.2 in let w = h.within in let e = W.exponent_at_most u x.0 (omega arith) in absurd (omega arith))
+    (equal_or_not u [])
 
 module _ (L : Letters) (H : AreLetters L) (zeros : List (List ℕ)) where
   -- at degree 0 there is no rule
@@ -41,28 +43,6 @@ module _ (L : Letters) (H : AreLetters L) (zeros : List (List ℕ)) where
       no_divisor ds z t p d =
           ⊎_elim (λ e. let q : weighted_degree ds z ≡ weighted_degree ds [] = ap (weighted_degree ds) e in let o = weighted_nil ds in omega arith)
           (λ n. let x = some_exponent z t n in let a = x.2 in let b = d x.0 in omega arith) (equal_or_not z [])
-
-  -- the rules of the next degree follow
-  pub rules_more : (d : ℕ) (rules next : List Rule) → AreRules L zeros d rules → AreMinimalWords L zeros (suc d) (map (λ r. r.word) next) →
-      ((w : List ℕ) → IsMinimalReducible (IsMultiple zeros) L w → (word_order_of L).degree w ≡ suc d → Contains (map (λ r. r.word) next) w) →
-      ((r : Rule) → Contains next r → IsLeastOrZero zeros L (image_of L r.word) r.least) → AreRules L zeros (suc d) (rules ++ next)
-  rules_more d rules next R F complete least = record {
-    increasing = subst (IsIncreasing (word_order_of L)) (sym (map-append (λ r. r.word) rules next))
-        (increasing_append (word_order_of L) (word_laws L H) (map (λ r. r.word) rules) (map (λ r. r.word) next) R.increasing F.increasing
-        (λ k m c e.
-        let a = contains_mapped (λ (r : Rule). r.word) rules k c in
-        let da = R.degree a.0 a.1 in
-        let q : (word_order_of L).degree a.0.word ≡ (word_order_of L).degree k = ap (word_order_of L).degree a.2 in
-        let db = F.degree m e in
-        (word_laws L H).degree_first k m (omega arith)));
-    minimal = λ r c. ⊎_elim (R.minimal r) (λ e. F.minimal r.word (contains_map (λ (r : Rule). r.word) next r e)) (Contains-append_cases rules next r c);
-    degree = λ r c. ⊎_elim (λ e. let a = R.degree r e in omega arith) (λ e. let a = F.degree r.word (contains_map (λ (r : Rule). r.word) next r e) in omega arith) (Contains-append_cases rules next r c);
-    least = λ r c. ⊎_elim (R.least r) (least r) (Contains-append_cases rules next r c);
-    all = λ w m k. ⊎_elim
-        (λ e. let r = R.all w m e in (r.0, contains_left rules next r.0 r.1, r.2))
-        (λ e. let r = contains_mapped (λ (r : Rule). r.word) next w (complete w m (let a = e in omega arith)) in (r.0, contains_right rules next r.0 r.1, r.2))
-        (le_or_not ((word_order_of L).degree w) d);
-  }
 
 -- rules to a degree speak of the zeros to that degree alone
 module _ (L : Letters) (H : AreLetters L) (d : ℕ) where
@@ -103,7 +83,7 @@ module _ (L : Letters) (H : AreLetters L) (d : ℕ) where
       minimal = λ v hv r dv. let a = divisor_degree (word_order_of L) (word_laws L H) v w hv.trimmed m.word.trimmed dv in m.minimal v hv (reducible_agrees old new hold there v (omega arith) r) dv;
     }
 
-    least_there : (w : List ℕ) → (word_order_of L).degree w ≤ d → (v : Option (List ℕ)) → IsLeastOrZero old L (image_of L w) v → IsLeastOrZero new L (image_of L w) v
+    least_there : (w : List ℕ) → (word_order_of L).degree w ≤ d → (v : Option (List ℕ)) → IsLeastOrZero (IsMultiple old) L (image_of L w) v → IsLeastOrZero (IsMultiple new) L (image_of L w) v
     least_there w l None h = multiple_agrees old new hold there w l h
     least_there w l (Some v) h = (λ z. h.0 (multiple_agrees new old hnew back w l z), h.1)
 

@@ -1,16 +1,14 @@
 -- The letters of an alphabet.
-use Rattle.std.proofs.Common.{◌≡◌, ℕ, zero, suc, ◌+◌, ◌<◌, ◌≤◌, refl, sym, ◌∙◌, ap, subst, List, [], ◌∷◌, ◌++◌, length, true, length-append, arith, get_or, ⊎_elim}
+use Rattle.std.proofs.Common.{◌≡◌, ℕ, ◌≤◌, ap, subst, List, [], ◌∷◌, ◌++◌, length, true, arith, ⊎_elim}
 use Rattle.std.specs.Prelude.{Contains}
-use Rattle.std.proofs.lemmas.List.{length-map}
-use Rattle.monomial_order.specs.Monomial.{product, variable, weighted_degree}
-use Rattle.monomial_order.specs.laws.Monomial.{product-one, weighted_nil, variable_monomial}
+use Rattle.monomial_order.specs.Monomial.{weighted_degree, IsMonomial}
+use Rattle.word_laws.specs.laws.Images.{weighted_front}
+use Rattle.monomial_order.specs.laws.Monomial.{weighted_nil}
 use Rattle.monomial_order.specs.Ranges.{all_between}
-use Rattle.monomial_order.specs.laws.Orders.{between_first, between_rest, word_small}
+use Rattle.monomial_order.specs.laws.Orders.{between_first, between_rest}
 use Rattle.monomial_order.specs.Orders.{word_order}
 use Rattle.monomial_order.specs.laws.Lists.{contains_cases, contains_none}
-use Rattle.word_laws.specs.Words.{image, image_of, lead_degrees, word_order_of, variables, AreLetters, IsWord, Letters}
-use Rattle.word_laws.specs.laws.Images.{length-variables}
-use Rattle.word_laws.specs.laws.Words.{image_same}
+use Rattle.word_laws.specs.Words.{word_order_of, AreLetters}
 use Rattle.toric_ideal.specs.Leads.{letters, AreLetterLeads}
 use Rattle.toric_ideal.specs.Alphabet.{letters_of, IsAlphabet}
 use Rattle.toric_ideal.specs.declared.alphabet.Alphabet.{Alphabet}
@@ -34,31 +32,7 @@ alphabet_letters a h = leads_letters a.order.x_degrees.items a.leads.items a.ord
 pub alphabet_order : (a : Alphabet) → IsAlphabet a → word_order a.order.x_degrees.items a.order.s_degrees.items ≡ word_order_of (letters_of a)
 alphabet_order a h = ap (word_order a.order.x_degrees.items) h.lead_degrees
 
-pub places_count : (L : Letters) → (word_order_of L).places ≡ length L.degrees + length L.leads
-places_count L = length-append L.degrees (lead_degrees L) ∙ ap (λ x. length L.degrees + x) (length-map L.leads (weighted_degree L.degrees))
-
-image_variable : (i : ℕ) (ms : List (List ℕ)) → image (variable i) ms ≡ get_or ms i []
-image_variable zero [] = refl
-image_variable zero (m ∷ ms) = product-one (product m []) ∙ product-one m
-image_variable (suc i) [] = refl
-image_variable (suc i) (m ∷ ms) = image_variable i ms
-
-get_or_past : (xs ys : List (List ℕ)) (j : ℕ) → get_or (xs ++ ys) (length xs + j) [] ≡ get_or ys j []
-get_or_past [] ys j = ap (λ k. get_or ys k []) (let e : zero + j ≡ j = omega arith in e)
-get_or_past (x ∷ xs) ys j = ap (λ k. get_or (x ∷ (xs ++ ys)) k []) (let e : suc (length xs) + j ≡ suc (length xs + j) = omega arith in e) ∙ get_or_past xs ys j
-
--- the image of the letter of a lead is the lead
-pub image_lead : (L : Letters) (j : ℕ) → image_of L (variable (length L.degrees + j)) ≡ get_or L.leads j []
-image_lead L j =
-    ap (λ k. image_of L (variable (k + j))) (sym (length-variables 0 (length L.degrees))) ∙
-    (image_variable (length (variables 0 (length L.degrees)) + j) (variables 0 (length L.degrees) ++ L.leads) ∙ get_or_past (variables 0 (length L.degrees)) L.leads j)
-
-pub image_x : (L : Letters) → AreLetters L → (i : ℕ) → i < length L.degrees → image_of L (variable i) ≡ variable i
-image_x L H i l = image_same L H (variable i) (variable_monomial (length L.degrees) i l)
-
-pub letter_word : (L : Letters) (i : ℕ) → i < (word_order_of L).places → IsWord L (variable i)
-letter_word L i l = variable_monomial (word_order_of L).places i l
-
-pub letter_small : (a : Alphabet) → IsAlphabet a → (i : ℕ) → i < (word_order_of (letters_of a)).places → (word_order_of (letters_of a)).degree (variable i) ≤ 30000
-letter_small a h i l =
-    subst (λ O. i < O.places → O.degree (variable i) ≤ 30000) (alphabet_order a h) (λ k. word_small a.order.x_degrees.items a.order.s_degrees.items a.order.x_in_range a.order.s_in_range i k) l
+-- a monomial in the x has the same degree as a word
+pub x_degree : (a : Alphabet) → IsAlphabet a → (z : List ℕ) → IsMonomial (length a.order.x_degrees.items) z →
+    weighted_degree (a.order.x_degrees.items ++ a.order.s_degrees.items) z ≡ weighted_degree a.order.x_degrees.items z
+x_degree a h z k = weighted_front a.order.x_degrees.items a.order.s_degrees.items z k.within

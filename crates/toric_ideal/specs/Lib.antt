@@ -1,7 +1,11 @@
 pub mod Leads
 pub mod Alphabet
 pub mod Increasing
-pub mod LeastWords
-pub mod Enumeration
 pub mod Listing
-pub mod Tables
+pub mod Rewriting
+pub mod Step
+pub mod Queue
+pub mod SortedRules
+pub mod State
+pub mod Closing
+pub mod Settling

@@ -1,23 +1,19 @@
 -- Words to a degree: the least words, and the rules that are the minimal reducible words.
-use Rattle.std.specs.Prelude.{◌≡◌, ◌≢◌, ℕ, ◌≤◌, ◌<◌, ◌↔◌, Bool, List, ◌++◌, length, map, Contains, AllPairs, Option, Some, None, IsTrue}
-use Rattle.monomial_order.specs.Limits.{degree_max}
+use Rattle.std.specs.Prelude.{◌≡◌, ◌≢◌, ◌⊎◌, ℕ, ◌≤◌, ◌<◌, ◌↔◌, Bool, true, List, ◌++◌, length, map, Contains, AllPairs, IsTrue}
+use Rattle.monomial_order.specs.Limits.{degree_max, exponent_max}
 use Rattle.monomial_order.specs.Monomial.{Exponents, IsMonomial, Divides, weighted_degree, IsMultiple}
 use Rattle.monomial_order.specs.MonomialOrder.{IsIncreasing, MonomialOrder}
-use Rattle.word_laws.specs.Words.{Letters, AreLetters, word_order_of, image_of, variables, IsLeast, IsMinimalReducible, IsReducible, IsSWord, IsWord}
+use Rattle.word_laws.specs.Words.{Letters, AreLetters, word_order_of, image_of, variables, IsMinimalReducible, IsReducible, IsSWord, IsWord}
+use Rattle.word_rewriting.specs.Completeness.{IsLeastOrZero}
 use Rattle.toric_ideal.specs.declared.rule.Rule.{Rule}
 use Rattle.toric_ideal.specs.Leads.{AreLetterLeads}
-
--- the least word with the image m, and none if m is a multiple of a zero
-abbrev pub IsLeastOrZero : List Exponents → Letters → Exponents → Option Exponents → Type 0
-IsLeastOrZero zeros L m None = IsMultiple zeros m
-IsLeastOrZero zeros L m (Some v) = (¬ IsMultiple zeros m) × IsLeast L m v
 
 -- The rules are the minimal reducible words of degree at most d, increasing, each with the least word of its image.
 pub record AreRules (L : Letters) (zeros : List Exponents) (d : ℕ) (rules : List Rule) : Type 0 where
   pub increasing : IsIncreasing (word_order_of L) (map (λ r. r.word) rules)
   pub minimal : (r : Rule) → Contains rules r → IsMinimalReducible (IsMultiple zeros) L r.word
   pub degree : (r : Rule) → Contains rules r → (word_order_of L).degree r.word ≤ d
-  pub least : (r : Rule) → Contains rules r → IsLeastOrZero zeros L (image_of L r.word) r.least
+  pub least : (r : Rule) → Contains rules r → IsLeastOrZero (IsMultiple zeros) L (image_of L r.word) r.least
   pub all : (w : Exponents) → IsMinimalReducible (IsMultiple zeros) L w → (word_order_of L).degree w ≤ d →
       (r : Rule) × Contains rules r × (r.word ≡ w)
 
@@ -91,3 +87,7 @@ pub record IsNewLead (W : Listing) (m : Exponents) : Type 0 where
 pub record OrdersByDegrees (O : MonomialOrder) (degrees : List ℕ) : Type 0 where
   pub places : O.places ≡ length degrees
   pub gives : map O.degree (variables 0 (length degrees)) ≡ degrees
+
+-- what the rules say of words of degree d is exact
+abbrev pub IsDecided : Listing → ℕ → Type 0
+IsDecided W d = (d ≤ W.degree) ⊎ ((W.closed ≡ true) × (d ≤ exponent_max))

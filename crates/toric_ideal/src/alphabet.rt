@@ -5,7 +5,7 @@ ghost use Rattle.monomial_order.specs.Ranges.{all_between};
 ghost use Rattle.toric_ideal.specs.Alphabet.{IsAlphabet};
 ghost use Rattle.toric_ideal.specs.Leads.{AreLetterLeads};
 
-use crate::growing::copy_monomials;
+use crate::copies::copy_monomials;
 use monomial_order::{Memory, Monomial, Order, WordOrder};
 use std::alloc::Global;
 

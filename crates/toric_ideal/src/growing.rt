@@ -1,106 +1,90 @@
-//! Tables of a greater degree.
-ghost use Rattle.std.specs.Prelude.{◌≡◌, ◌≤◌, ◌<◌, ◌++◌, ◌∷◌, [], suc, IfOk, OnOk};
+//! Rules to a greater degree.
+ghost use Rattle.std.specs.Prelude.{◌≡◌, ◌≤◌, length, IfOk, OnOk, OnErr};
 ghost use Rattle.monomial_order.specs.Limits.{degree_max};
 ghost use Rattle.word_laws.specs.Words.{word_order_of};
+ghost use Rattle.word_rewriting.specs.Completeness.{AreInX};
 ghost use Rattle.toric_ideal.specs.Alphabet.{letters_of, IsAlphabet};
-ghost use Rattle.toric_ideal.specs.Enumeration.{AreNextRules};
-ghost use Rattle.toric_ideal.specs.Increasing.{IsComparable};
-ghost use Rattle.toric_ideal.specs.Tables.{CanGrow, HasSameLetters, IsGrown, IsListed, IsRuleOf};
+ghost use Rattle.toric_ideal.specs.Listing.{AreRules};
+ghost use Rattle.toric_ideal.specs.Rewriting.{AreExactRules, AreSameRules};
+ghost use Rattle.toric_ideal.specs.Queue.{IsQueued};
+ghost use Rattle.toric_ideal.specs.Step.{AreSmallZeros, HaveDegreesTo, IsExtension, KeepsFirst};
 
 use crate::Rule;
-use crate::table::Table;
+use crate::alphabet::Alphabet;
+use crate::degree_step::grow;
+use crate::index_pair::IndexPair;
+use crate::queueing::queue_pairs;
+use crate::sorting::sorted_rules;
+use degree_queue::DegreeQueue;
 use monomial_order::{Memory, Monomial};
 use std::alloc::Global;
+use word_rules::RuleTable;
 
-/// Copies of the monomials.
-pub(crate) fn copy_monomials(alloc: Global, list: &[Monomial]) -> Result<Vec<Monomial>, Memory>
-    ensures { IfOk result (λ v. v.items ≡ list.now) }
-{
-    let mut copies = Vec::with_capacity(alloc, list.len())?;
-    for m in list {
-        copies.push(m.copy(alloc)?)?;
-    }
-    Ok(copies)
-}
-
-/// Copies of the monomials, and of one more.
-pub(crate) fn copy_and_push(
+/// Makes the rules of the degrees above `from` and up to `to`. The pairs of the first rules, `count` of them, are in
+/// the queue; the result says of how many rules they are afterwards.
+pub(crate) fn grow_to(
     alloc: Global,
-    list: &[Monomial],
-    m: &Monomial,
-) -> Result<Vec<Monomial>, Memory>
-    ensures { IfOk result (λ v. v.items ≡ list.now ++ m.now ∷ []) }
+    alphabet: &Alphabet,
+    zeros: &[Monomial],
+    from: u32,
+    to: u32,
+    table: &mut RuleTable,
+    pairs: &mut DegreeQueue<IndexPair>,
+    count: usize,
+) -> Result<usize, Memory>
+    requires alphabet { IsAlphabet alphabet.now }
+    requires zeros { AreInX (letters_of alphabet.now) zeros.now }
+    requires degrees { AreSmallZeros (letters_of alphabet.now) zeros.now }
+    requires leads { HaveDegreesTo from (letters_of alphabet.now) }
+    requires above { from ≤ to }
+    requires small { to ≤ degree_max }
+    requires exact { AreExactRules (letters_of alphabet.now) zeros.now from table.old }
+    requires queued { IsQueued (word_order_of (letters_of alphabet.now)) from count table.old pairs.old }
+    ensures first { KeepsFirst (length table.old) table.old table.new }
+    ensures grown { OnOk result (IsExtension (letters_of alphabet.now) zeros.now from to table.old table.new) }
+    ensures queued { IfOk result (λ n. IsQueued (word_order_of (letters_of alphabet.now)) to n table.new pairs.new) }
 {
-    let mut longer = copy_monomials(alloc, list)?;
-    longer.push(m.copy(alloc)?)?;
-    Ok(longer)
+    let mut degree = from;
+    let mut queued_count = count;
+    'degrees: while degree < to {
+        queue_pairs(alloc, alphabet, degree, table, pairs, queued_count)?;
+        queued_count = table.len();
+        grow(alloc, alphabet, zeros, degree, table, pairs)?;
+        degree += 1;
+    }
+    Ok(queued_count)
 }
 
-/// Copies of the rules.
-pub(crate) fn copy_rules(alloc: Global, rules: &[Rule]) -> Result<Vec<Rule>, Memory>
-    ensures { IfOk result (λ v. v.items ≡ rules.now) }
+/// The same, with the rules in the order of their words too.
+pub(crate) fn grow_rules(
+    alloc: Global,
+    alphabet: &Alphabet,
+    zeros: &[Monomial],
+    from: u32,
+    to: u32,
+    rules: &mut Vec<Rule>,
+    table: &mut RuleTable,
+    pairs: &mut DegreeQueue<IndexPair>,
+    count: usize,
+) -> Result<usize, Memory>
+    requires alphabet { IsAlphabet alphabet.now }
+    requires zeros { AreInX (letters_of alphabet.now) zeros.now }
+    requires degrees { AreSmallZeros (letters_of alphabet.now) zeros.now }
+    requires leads { HaveDegreesTo from (letters_of alphabet.now) }
+    requires above { from ≤ to }
+    requires small { to ≤ degree_max }
+    requires rules { AreRules (letters_of alphabet.now) zeros.now from rules.old.items }
+    requires same { AreSameRules rules.old.items table.old }
+    requires queued { IsQueued (word_order_of (letters_of alphabet.now)) from count table.old pairs.old }
+    ensures first { KeepsFirst (length table.old) table.old table.new }
+    ensures rules { OnOk result (AreRules (letters_of alphabet.now) zeros.now to rules.new.items) }
+    ensures same { OnOk result (AreSameRules rules.new.items table.new) }
+    ensures queued { IfOk result (λ n. IsQueued (word_order_of (letters_of alphabet.now)) to n table.new pairs.new) }
+    ensures err { OnErr result (rules.new.items ≡ rules.old.items) }
 {
-    let mut copies = Vec::with_capacity(alloc, rules.len())?;
-    for rule in rules {
-        copies.push(rule.copy(alloc)?)?;
-    }
-    Ok(copies)
-}
-
-impl Table {
-    /// The rule of a word.
-    fn rule(&self, alloc: Global, word: &Monomial) -> Result<Rule, Memory>
-        requires alphabet { IsAlphabet self.now.alphabet }
-        requires word { IsComparable (word_order_of (letters_of self.now.alphabet)) word.now }
-        ensures { IfOk result (IsRuleOf self.now word.now) }
-    {
-        let least = self
-            .alphabet
-            .least_or_zero(alloc, self.zeros.as_slice(), word)?;
-        Ok(Rule {
-            word: word.copy(alloc)?,
-            least,
-        })
-    }
-
-    /// The rules of the next degree.
-    fn next_rules(&self, alloc: Global) -> Result<Vec<Rule>, Memory>
-        requires { CanGrow self.now }
-        ensures { IfOk result (λ rs. AreNextRules self.now rs.items) }
-    {
-        let mut rules = Vec::new(alloc);
-        let words = self.next_words(alloc)?;
-        'words: for word in &words {
-            rules.push(self.rule(alloc, word)?)?;
-        }
-        Ok(rules)
-    }
-
-    /// The table of the next degree.
-    fn grown(self, alloc: Global) -> Result<Table, Memory>
-        requires { CanGrow self }
-        ensures { IfOk result (λ t. IsGrown self t) }
-    {
-        let mut next = self.next_rules(alloc)?;
-        let mut table = self;
-        table.rules.append(&mut next)?;
-        table.degree += 1;
-        Ok(table)
-    }
-
-    /// The table of a degree.
-    pub(crate) fn grown_to(self, alloc: Global, degree: u32) -> Result<Table, Memory>
-        requires listed { IsListed self }
-        requires above { self.degree ≤ degree }
-        requires small { degree ≤ degree_max }
-        ensures listed { IfOk result IsListed }
-        ensures degree { IfOk result (λ t. t.degree ≡ degree) }
-        ensures same { IfOk result (λ t. HasSameLetters self t) }
-    {
-        let mut table = self;
-        'degrees: while table.degree < degree {
-            table = table.grown(alloc)?;
-        }
-        Ok(table)
-    }
+    let first = table.len();
+    let queued_count = grow_to(alloc, alphabet, zeros, from, to, table, pairs, count)?;
+    let mut new = sorted_rules(alloc, &alphabet.order, table, first)?;
+    rules.append(&mut new)?;
+    Ok(queued_count)
 }

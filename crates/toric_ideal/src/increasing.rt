@@ -1,14 +1,13 @@
 //! Increasing lists of monomials.
-ghost use Rattle.std.specs.Prelude.{◌≤◌, drop, length, IfOk, OnOk};
-ghost use Rattle.toric_ideal.specs.Increasing.{AreComparable, IsComparable, IsInsertionIndex, IsInserted, IsSorted, IsSortedFrom};
+ghost use Rattle.std.specs.Prelude.{IfOk, OnOk};
+ghost use Rattle.toric_ideal.specs.Increasing.{AreComparable, IsComparable, IsInsertionIndex, IsInserted, IsSorted};
 ghost use Rattle.monomial_order.specs.MonomialOrder.{IsIncreasing};
 
-use crate::growing::copy_monomials;
 use monomial_order::{Memory, Monomial, Order};
 use std::alloc::Global;
 
 /// Inserts the monomial, unless it is in the list.
-pub(crate) fn insert<O: Order>(o: &O, list: &mut Vec<Monomial>, m: Monomial) -> Result<(), Memory>
+fn insert<O: Order>(o: &O, list: &mut Vec<Monomial>, m: Monomial) -> Result<(), Memory>
     requires increasing { IsIncreasing (O.order o.now) list.old.items }
     requires comparable { AreComparable (O.order o.now) list.old.items }
     requires monomial { IsComparable (O.order o.now) m }
@@ -50,22 +49,4 @@ pub(crate) fn sorted<O: Order>(
         insert(o, &mut increasing, m.copy(alloc)?)?;
     }
     Ok(increasing)
-}
-
-/// Copies of the first monomials, so many, and then the increasing list of the others.
-pub(crate) fn sorted_from<O: Order>(
-    alloc: Global,
-    o: &O,
-    list: &[Monomial],
-    count: usize,
-) -> Result<Vec<Monomial>, Memory>
-    requires within { count ≤ length list.now }
-    requires comparable { AreComparable (O.order o.now) (drop count list.now) }
-    ensures { IfOk result (λ v. IsSortedFrom (O.order o.now) count list.now v.items) }
-{
-    let (front, back) = list.split_at(count);
-    let mut whole = copy_monomials(alloc, front)?;
-    let mut last = sorted(alloc, o, back)?;
-    whole.append(&mut last)?;
-    Ok(whole)
 }

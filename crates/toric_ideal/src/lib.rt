@@ -1,23 +1,25 @@
-//! Words of leading monomials, exact to a degree.
+//! Words of leading monomials, exact to a degree, or in every degree if the rules are closed.
 //!
-//! Nothing is stored of a word but the rules, which are the minimal reducible words. The least word with an image is
-//! found lead by lead, through the products of leads that divide the image. The rules of a degree are found letter
-//! by letter, through the words of that degree, and no multiple of a rule is looked at. So a call of `least` or
-//! `factor` grows with the number of products of leads that divide the image, and a new degree with the number of its
-//! words that are not reducible. The memory grows with the rules. During a call it also holds a few monomials for
-//! each letter and each step of degree.
+//! The rules are the minimal reducible words, each with the least word of its image. They come degree by degree: a rule
+//! for each new zero, and for each pair of rules whose normal forms differ. So a least word is a normal form. A pair
+//! waits in a queue for its degree; the pairs of the rules of the last degree are made when a greater one is asked for.
 #![tactic(auto)]
 
 mod alphabet;
-mod enumeration;
+mod closing;
+mod completion;
+mod copies;
+mod degree_step;
 mod growing;
 mod increasing;
-mod least;
-mod letters;
-mod relisting;
+mod index_pair;
+mod new_zeros;
+mod normal_forms;
+mod queueing;
+mod right_sides;
 mod rule;
-mod table;
-mod word_with_image;
+mod settling;
+mod sorting;
 mod words;
 
 pub use rule::Rule;

@@ -1,16 +1,15 @@
 //! Words to a degree.
-ghost use Rattle.std.specs.Prelude.{◌≡◌, ◌≤◌, ◌<◌, ◌≢◌, ◌++◌, ◌∷◌, [], ℕ, List, length, max, true, false, IsOk, IfOk, OnOk, OnErr, IfSome, IsSome, IsNone, IsTrue};
+ghost use Rattle.std.specs.Prelude.{◌≡◌, ◌≤◌, ◌<◌, ◌≢◌, ◌++◌, ◌∷◌, [], ◌↔◌, length, max, true, false, Contains, IsOk, IfOk, OnOk, OnErr, IfSome, IsSome, IsNone, IsTrue};
 ghost use Rattle.monomial_order.specs.Limits.{degree_max};
 ghost use Rattle.monomial_order.specs.Monomial.{Exponents, weighted_degree, IsMonomial, IsMultiple};
-ghost use Rattle.monomial_order.specs.MonomialOrder.{MonomialOrder};
 ghost use Rattle.monomial_order.specs.Ranges.{all_between};
 ghost use Rattle.word_laws.specs.Words.{image_of, lead_degrees, word_order_of, IsLeast, IsSWord, IsWord};
 ghost use Rattle.toric_ideal.specs.Leads.{letters};
-ghost use Rattle.toric_ideal.specs.Listing.{AgreeTo, AreRules, AreZeros, IsClosed, IsListing, IsNewLead, IsSettled, OrdersByDegrees};
+ghost use Rattle.toric_ideal.specs.Closing.{closing_max, with_closed, HasMissedWord};
+ghost use Rattle.toric_ideal.specs.Listing.{AgreeTo, AreRules, AreZeros, IsClosed, IsDecided, IsListing, IsSettled, OrdersByDegrees};
 
 use crate::Rule;
-use crate::alphabet::Alphabet;
-use crate::table::Table;
+use crate::completion::Completion;
 use monomial_order::{Memory, Monomial, Order, WordOrder};
 use std::alloc::Global;
 use std::marker::Model;
@@ -20,8 +19,7 @@ use std::marker::Model;
 /// A monomial in the x counts as zero if a member of the zero list divides it.
 #[derive(Drop)]
 pub struct Words {
-    table: Table,
-    settled_count: usize,
+    completion: Completion,
 }
 
 impl Model for Words {
@@ -29,11 +27,11 @@ impl Model for Words {
 
     ghost Value = { Listing };
 
-    ghost use Rattle.toric_ideal.specs.Tables.{listing_of, IsParted};
+    ghost use Rattle.toric_ideal.specs.State.{listing_of, IsSound};
 
-    ghost view = { λ w. listing_of w.table };
+    ghost view = { λ w. listing_of w.completion };
 
-    ghost invariant = { λ w. IsParted w.table w.settled_count };
+    ghost invariant = { λ w. IsSound w.completion };
 }
 
 impl Words {
@@ -44,10 +42,8 @@ impl Words {
         ensures zeros { IfOk result (λ w. w.zeros ≡ []) }
         ensures degree { IfOk result (λ w. w.degree ≡ 0) }
     {
-        let alphabet = Alphabet::new(alloc, x_degrees, Vec::new(alloc))?;
         Ok(Words {
-            table: Table::new(alloc, alphabet, Vec::new(alloc)),
-            settled_count: 0,
+            completion: Completion::new(alloc, x_degrees)?,
         })
     }
 
@@ -61,31 +57,16 @@ impl Words {
         ensures letters { self.new.letters ≡ self.old.letters }
         ensures degree { OnOk result (self.new.degree ≡ max self.old.degree c) }
         ensures new_zeros { OnOk result (self.old.degree < c → self.new.zeros ≡ zero.now) }
+        ensures closed { OnOk result (self.old.degree < c → IsTrue self.new.closed ↔ (IsTrue self.old.closed ×
+            ((z : Exponents) → Contains zero.now z → Contains self.old.zeros z))) }
         ensures old_zeros { c ≤ self.old.degree → self.new ≡ self.old }
         ensures reached { c ≤ self.old.degree → IsOk result }
         ensures err { OnErr result (self.new ≡ self.old) }
     {
-        if c <= self.table.degree {
+        if c <= self.completion.degree {
             return Ok(());
         }
-        let extended = self.table.extended(alloc, c, zero)?;
-        self.settled_count = extended.alphabet.leads.len();
-        self.table = extended;
-        Ok(())
-    }
-
-    /// Makes m the next lead.
-    pub fn push_lead(&mut self, alloc: Global, m: &Monomial) -> Result<(), Memory>
-        requires { IsNewLead self.old m.now }
-        ensures letters { OnOk result (self.new.letters
-            ≡ letters self.old.letters.degrees (self.old.letters.leads ++ m.now ∷ [])) }
-        ensures zeros { self.new.zeros ≡ self.old.zeros }
-        ensures degree { self.new.degree ≡ self.old.degree }
-        ensures err { OnErr result (self.new ≡ self.old) }
-    {
-        let relisted = self.table.with_lead(alloc, m)?;
-        self.table = relisted;
-        Ok(())
+        self.completion.extend_to(alloc, c, zero)
     }
 
     /// Numbers the leads of the last degree again, so that they increase in the order.
@@ -96,11 +77,10 @@ impl Words {
         ensures x { self.new.letters.degrees ≡ self.old.letters.degrees }
         ensures zeros { self.new.zeros ≡ self.old.zeros }
         ensures degree { self.new.degree ≡ self.old.degree }
+        ensures closed { self.new.closed ≡ self.old.closed }
         ensures err { OnErr result (self.new ≡ self.old) }
     {
-        let settled = self.table.settled(alloc, o, self.settled_count)?;
-        self.table = settled;
-        Ok(())
+        self.completion.settle(alloc, o)
     }
 
     /// The order of the words.
@@ -108,7 +88,7 @@ impl Words {
         ensures x { result.now.x_degrees.items ≡ self.now.letters.degrees }
         ensures s { result.now.s_degrees.items ≡ lead_degrees self.now.letters }
     {
-        &self.table.alphabet.order
+        &self.completion.alphabet.order
     }
 
     /// The leads, in the order of their letters.
@@ -116,48 +96,46 @@ impl Words {
         ensures same { result.now ≡ self.now.letters.leads }
         ensures listing { IsListing self.now }
     {
-        self.table.alphabet.leads.as_slice()
+        self.completion.alphabet.leads.as_slice()
     }
 
     /// The monomials whose multiples count as zero.
     pub fn zeros(&self) -> &[Monomial]
         ensures { result.now ≡ self.now.zeros }
     {
-        self.table.zeros.as_slice()
+        self.completion.zeros.as_slice()
     }
 
     /// The degree to which the words are listed.
     pub fn degree(&self) -> u32
         ensures { result ≡ self.now.degree }
     {
-        self.table.degree
+        self.completion.degree
     }
 
     /// The least s-word with the image m, if there is one.
     pub fn factor(&self, alloc: Global, m: &Monomial) -> Result<Option<Monomial>, Memory>
         requires monomial { IsMonomial (length self.now.letters.degrees) m.now }
         requires standard { ¬ IsMultiple self.now.zeros m.now }
-        requires degree { weighted_degree self.now.letters.degrees m.now ≤ self.now.degree }
+        requires degree { IsDecided self.now (weighted_degree self.now.letters.degrees m.now) }
         ensures s_word { IfOk result (λ v. IfSome v (IsSWord self.now.letters)) }
         ensures least { IfOk result (λ v. IfSome v (IsLeast self.now.letters m.now)) }
         ensures none { IfOk result (λ v.
             IsNone v → (u : Exponents) → IsSWord self.now.letters u → image_of self.now.letters u ≢ m.now) }
     {
-        self.table.alphabet.factor(alloc, m)
+        self.completion.factor(alloc, m)
     }
 
     /// The least word with the image of w, or None if that is a multiple of a zero.
     pub fn least(&self, alloc: Global, w: &Monomial) -> Result<Option<Monomial>, Memory>
         requires word { IsWord self.now.letters w.now }
-        requires degree { (word_order_of self.now.letters).degree w.now ≤ self.now.degree }
+        requires degree { IsDecided self.now ((word_order_of self.now.letters).degree w.now) }
         ensures least { IfOk result (λ v. IfSome v (IsLeast self.now.letters (image_of self.now.letters w.now))) }
         ensures standard { IfOk result (λ v.
             IsSome v → ¬ IsMultiple self.now.zeros (image_of self.now.letters w.now)) }
         ensures zero { IfOk result (λ v. IsNone v → IsMultiple self.now.zeros (image_of self.now.letters w.now)) }
     {
-        self.table
-            .alphabet
-            .least_or_zero(alloc, self.table.zeros.as_slice(), w)
+        self.completion.least(alloc, w)
     }
 
     /// The minimal reducible words of degree at most the degree, increasing.
@@ -165,15 +143,28 @@ impl Words {
         ensures same { result.now ≡ self.now.rules }
         ensures exact { AreRules self.now.letters self.now.zeros self.now.degree result.now }
     {
-        self.table.rules.as_slice()
+        self.completion.rules.as_slice()
     }
 
-    /// Whether the rules are known to divide every reducible word. They never are yet.
+    /// Whether the word of a rule divides every reducible word, here and in all degrees. It looks at the pairs of rules
+    /// above the degree, and ends at the first that is not joined. `zero` has the zeros of every degree.
+    pub fn closed(&mut self, alloc: Global, zero: &[Monomial]) -> Result<bool, Memory>
+        requires zero { (z : Exponents) → Contains zero.now z ↔ Contains self.old.zeros z }
+        requires small { self.old.degree ≤ closing_max }
+        ensures yes { IfOk result (λ r. r ≡ true → IsClosed self.old) }
+        ensures no { IfOk result (λ r. r ≡ false → HasMissedWord self.old) }
+        ensures state { IfOk result (λ r. self.new ≡ with_closed r self.old) }
+        ensures known { self.old.closed ≡ true → IsOk result }
+        ensures memory { OnErr result (self.new ≡ self.old) }
+    {
+        self.completion.close(alloc)
+    }
+
+    /// Whether the rules are known to divide every reducible word.
     pub fn known_closed(&self) -> bool
         ensures same { result ≡ self.now.closed }
         ensures closed { IsTrue result → IsClosed self.now }
-        ensures never { result ≡ false }
     {
-        self.table.known_closed()
+        self.completion.closed
     }
 }

@@ -1,0 +1,68 @@
+use Rattle.std.proofs.Common.{refl, sym, subst}
+use Rattle.std.specs.Prelude.{IfSome}
+use Rattle.word_rewriting.specs.Rewriting.{HasJoinablePair}
+use Rattle.monomial_order.specs.Monomial.{least_common_multiple}
+use Rattle.word_rules.specs.Rules.{rule_at, AreDecreasing, IsSmallWord}
+use Rattle.toric_ideal.specs.Alphabet.{letters_of}
+use Rattle.toric_ideal.specs.Rewriting.{rewrite_rule}
+use Rattle.toric_ideal.specs.Step.{IsGrowing, IsOriented}
+use Rattle.toric_ideal.proofs.LetterLemmas.{alphabet_letters, alphabet_order}
+use Rattle.toric_ideal.proofs.DegreeRules.{growing_decreasing, pair_small, first_small, second_small, pair_same, pair_left, pair_pushed, pair_joined}
+use Rattle.toric_ideal.proofs.degree_step.join_pair.Goals as goal
+
+pub pair_normal_forms-requires-clause-decreasing : goal.pair_normal_forms-requires-clause-decreasing
+pair_normal_forms-requires-clause-decreasing c =
+    let a = c.args.alphabet.now in
+    let H = alphabet_letters a c.requires.alphabet in
+    subst (λ O. AreDecreasing O c.args.table.now) (sym (alphabet_order a c.requires.alphabet))
+    (growing_decreasing (letters_of a) H c.args.zeros.now c.requires.zeros c.args.c c.args.first c.args.table.now c.requires.growing)
+
+pub pair_normal_forms-requires-clause-small : goal.pair_normal_forms-requires-clause-small
+pair_normal_forms-requires-clause-small c =
+    let a = c.args.alphabet.now in
+    let H = alphabet_letters a c.requires.alphabet in
+    subst (λ O. IsSmallWord O (least_common_multiple (rule_at c.args.table.now c.args.i).left (rule_at c.args.table.now c.args.j).left)) (sym (alphabet_order a c.requires.alphabet))
+    (pair_small (letters_of a) H c.args.zeros.now c.requires.zeros c.args.c c.args.first c.args.table.now c.requires.growing c.requires.small c.args.i c.args.j c.requires.pair)
+
+pub oriented-requires-clause-first : goal.oriented-requires-clause-first
+oriented-requires-clause-first c =
+    let a = c.args.alphabet.now in
+    let H = alphabet_letters a c.requires.alphabet in
+    subst (λ O. IfSome c.in_ok-u.u (IsSmallWord O)) (sym (alphabet_order a c.requires.alphabet))
+    (first_small (letters_of a) H c.args.zeros.now c.requires.zeros c.args.c c.args.first c.args.table.now c.requires.growing c.requires.small c.args.i c.args.j c.requires.pair c.in_ok-u.u c.in_ok-u.v c.in_ok-u.ensures)
+
+pub oriented-requires-clause-second : goal.oriented-requires-clause-second
+oriented-requires-clause-second c =
+    let a = c.args.alphabet.now in
+    let H = alphabet_letters a c.requires.alphabet in
+    subst (λ O. IfSome c.in_ok-u.v (IsSmallWord O)) (sym (alphabet_order a c.requires.alphabet))
+    (second_small (letters_of a) H c.args.zeros.now c.requires.zeros c.args.c c.args.first c.args.table.now c.requires.growing c.requires.small c.args.i c.args.j c.requires.pair c.in_ok-u.u c.in_ok-u.v c.in_ok-u.ensures)
+
+pub push-requires : goal.push-requires
+push-requires c =
+    let a = c.args.alphabet.now in
+    let H = alphabet_letters a c.requires.alphabet in
+    pair_left (letters_of a) H c.args.zeros.now c.requires.zeros c.args.c c.args.first c.args.table.now c.requires.growing c.requires.small c.args.i c.args.j c.requires.pair c.in_ok-u.u c.in_ok-u.v c.in_ok-u.ensures
+    (rewrite_rule c.in-Some.rule) (subst (λ O. IsOriented O c.in_ok-u.u c.in_ok-u.v (rewrite_rule c.in-Some.rule)) (alphabet_order a c.requires.alphabet) c.in-Some.ensures.some)
+
+pub returns-in_ok-push-clause-growing : goal.returns-in_ok-push-clause-growing
+returns-in_ok-push-clause-growing c =
+    let a = c.args.alphabet.now in
+    let H = alphabet_letters a c.requires.alphabet in
+    subst (IsGrowing (letters_of a) c.args.zeros.now c.args.c c.args.first) (sym c.in_ok-push.ensures.last)
+    (pair_pushed (letters_of a) H c.args.zeros.now c.requires.zeros c.args.c c.args.first c.args.table.now c.requires.growing c.requires.small c.args.i c.args.j c.requires.pair c.in_ok-u.u c.in_ok-u.v c.in_ok-u.ensures
+    (rewrite_rule c.in-Some.rule) (subst (λ O. IsOriented O c.in_ok-u.u c.in_ok-u.v (rewrite_rule c.in-Some.rule)) (alphabet_order a c.requires.alphabet) c.in-Some.ensures.some))
+
+pub returns-in_ok-push-clause-joined : goal.returns-in_ok-push-clause-joined
+returns-in_ok-push-clause-joined c =
+    let a = c.args.alphabet.now in
+    let H = alphabet_letters a c.requires.alphabet in
+    subst (λ S. HasJoinablePair S (rule_at c.args.table.now c.args.i) (rule_at c.args.table.now c.args.j)) (sym c.in_ok-push.ensures.last)
+    (pair_joined (letters_of a) H c.args.zeros.now c.requires.zeros c.args.c c.args.first c.args.table.now c.requires.growing c.requires.small c.args.i c.args.j c.requires.pair c.in_ok-u.u c.in_ok-u.v c.in_ok-u.ensures
+    (rewrite_rule c.in-Some.rule) (subst (λ O. IsOriented O c.in_ok-u.u c.in_ok-u.v (rewrite_rule c.in-Some.rule)) (alphabet_order a c.requires.alphabet) c.in-Some.ensures.some))
+
+pub returns-in_default-clause-joined : goal.returns-in_default-clause-joined
+returns-in_default-clause-joined c =
+    let a = c.args.alphabet.now in
+    let H = alphabet_letters a c.requires.alphabet in
+    pair_same (letters_of a) H c.args.zeros.now c.requires.zeros c.args.c c.args.first c.args.table.now c.requires.growing c.requires.small c.args.i c.args.j c.requires.pair c.in_ok-u.u c.in_ok-u.v c.in_ok-u.ensures (c.in_default.ensures.none refl)

@@ -1,0 +1,12 @@
+use Rattle.std.proofs.Common.{sym, subst}
+use Rattle.toric_ideal.specs.Alphabet.{letters_of}
+use Rattle.toric_ideal.specs.Step.{IsRewrittenAt}
+use Rattle.toric_ideal.proofs.LetterLemmas.{alphabet_letters}
+use Rattle.toric_ideal.proofs.Cleaning.{rewritten_at}
+use Rattle.toric_ideal.proofs.right_sides.rewrite_right_side.Goals as goal
+
+pub returns-clause-rewritten : goal.returns-clause-rewritten
+returns-clause-rewritten c =
+    let a = c.args.alphabet.now in
+    subst (λ T. IsRewrittenAt (letters_of a) c.args.zeros.now c.args.table.now T c.args.i) (sym c.set_right.ensures)
+    (rewritten_at (letters_of a) (alphabet_letters a c.requires.alphabet) c.args.zeros.now c.args.table.now c.requires.rules c.args.i c.in_ok-rewritten.rewritten c.requires.inside c.in_ok-rewritten.ensures)

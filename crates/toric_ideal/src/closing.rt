@@ -1,0 +1,122 @@
+//! Whether the rules divide every reducible word.
+ghost use Rattle.std.specs.Prelude.{◌≡◌, ◌↔◌, ◌≤◌, ◌<◌, ℕ, true, false, length, IsOk, IfOk, OnErr, IsTrue};
+ghost use Rattle.word_laws.specs.Words.{word_order_of};
+ghost use Rattle.toric_ideal.specs.Alphabet.{letters_of, IsAlphabet};
+ghost use Rattle.toric_ideal.specs.Closing.{closing_max, with_closed, CanClose, HasMissedWord, IsPairJoined, JoinsPairsOf, ShowsMissedWord};
+ghost use Rattle.toric_ideal.specs.Listing.{IsClosed};
+ghost use Rattle.toric_ideal.specs.State.{listing_of, IsSound};
+
+use crate::alphabet::Alphabet;
+use crate::completion::Completion;
+use monomial_order::{Memory, Monomial, Order};
+use std::alloc::Global;
+use word_rules::RuleTable;
+
+/// Whether the words, or zeros, are the same.
+fn are_same(u: &Option<Monomial>, v: &Option<Monomial>) -> bool
+    ensures { IsTrue result ↔ (u.now ≡ v.now) }
+{
+    match (u, v) {
+        (None, None) => true,
+        (Some(u), Some(v)) => u == v,
+        _ => false,
+    }
+}
+
+/// Whether the pair of two rules is joined, if its degree is above c.
+fn is_joined(
+    alloc: Global,
+    alphabet: &Alphabet,
+    zeros: &[Monomial],
+    c: u32,
+    table: &RuleTable,
+    i: usize,
+    j: usize,
+) -> Result<bool, Memory>
+    requires alphabet { IsAlphabet alphabet.now }
+    requires rules { CanClose (letters_of alphabet.now) zeros.now c table.now }
+    requires first { i < length table.now }
+    requires second { j < length table.now }
+    ensures yes { IfOk result (λ r. r ≡ true → IsPairJoined (word_order_of (letters_of alphabet.now)) c table.now i j) }
+    ensures no { IfOk result (λ r. r ≡ false → ShowsMissedWord (letters_of alphabet.now) zeros.now table.now) }
+{
+    let degree = alphabet.order.degree(&table.lcm(alloc, i, j)?);
+    if degree <= c {
+        return Ok(true);
+    }
+    let (u, v) = table.pair_normal_forms(alloc, &alphabet.order, i, j)?;
+    Ok(are_same(&u, &v))
+}
+
+/// Whether the pairs of a rule with those before it are joined.
+fn are_joined(
+    alloc: Global,
+    alphabet: &Alphabet,
+    zeros: &[Monomial],
+    c: u32,
+    table: &RuleTable,
+    j: usize,
+) -> Result<bool, Memory>
+    requires alphabet { IsAlphabet alphabet.now }
+    requires rules { CanClose (letters_of alphabet.now) zeros.now c table.now }
+    requires inside { j < length table.now }
+    ensures yes { IfOk result (λ r. r ≡ true → JoinsPairsOf (word_order_of (letters_of alphabet.now)) c table.now j) }
+    ensures no { IfOk result (λ r. r ≡ false → ShowsMissedWord (letters_of alphabet.now) zeros.now table.now) }
+{
+    let sharing = table.sharing(alloc, j)?;
+    'sharing: for i in &sharing {
+        if !is_joined(alloc, alphabet, zeros, c, table, *i, j)? {
+            return Ok(false);
+        }
+    }
+    Ok(true)
+}
+
+/// Whether all pairs of rules are joined.
+pub(crate) fn all_joined(
+    alloc: Global,
+    alphabet: &Alphabet,
+    zeros: &[Monomial],
+    c: u32,
+    table: &RuleTable,
+) -> Result<bool, Memory>
+    requires alphabet { IsAlphabet alphabet.now }
+    requires rules { CanClose (letters_of alphabet.now) zeros.now c table.now }
+    ensures yes { IfOk result (λ r. r ≡ true → (j : ℕ) → j < length table.now
+        → JoinsPairsOf (word_order_of (letters_of alphabet.now)) c table.now j) }
+    ensures no { IfOk result (λ r. r ≡ false → ShowsMissedWord (letters_of alphabet.now) zeros.now table.now) }
+{
+    'rules: for j in 0..table.len() {
+        if !are_joined(alloc, alphabet, zeros, c, table, j)? {
+            return Ok(false);
+        }
+    }
+    Ok(true)
+}
+
+impl Completion {
+    /// Whether the word of a rule divides every reducible word.
+    pub(crate) fn close(&mut self, alloc: Global) -> Result<bool, Memory>
+        requires sound { IsSound self.old }
+        requires small { self.old.degree ≤ closing_max }
+        ensures sound { IsSound self.new }
+        ensures yes { IfOk result (λ r. r ≡ true → IsClosed (listing_of self.old)) }
+        ensures no { IfOk result (λ r. r ≡ false → HasMissedWord (listing_of self.old)) }
+        ensures state { IfOk result (λ r. listing_of self.new ≡ with_closed r (listing_of self.old)) }
+        ensures known { self.old.closed ≡ true → IsOk result }
+        ensures memory { OnErr result (listing_of self.new ≡ listing_of self.old) }
+    {
+        if self.closed {
+            return Ok(true);
+        }
+        let closed = all_joined(
+            alloc,
+            &self.alphabet,
+            self.zeros.as_slice(),
+            self.degree,
+            &self.table,
+        )?;
+        self.closed = closed;
+        Ok(closed)
+    }
+}

@@ -1,0 +1,91 @@
+//! The pairs of rules that wait for their degree.
+ghost use Rattle.std.specs.Prelude.{◌≡◌, ◌≤◌, ◌<◌, ◌+◌, length, OnOk};
+ghost use Rattle.word_laws.specs.Words.{word_order_of};
+ghost use Rattle.toric_ideal.specs.Alphabet.{letters_of, IsAlphabet};
+ghost use Rattle.toric_ideal.specs.Queue.{IsPairQueued, IsQueued};
+ghost use Rattle.toric_ideal.specs.Step.{AreSmallWords};
+
+use crate::alphabet::Alphabet;
+use crate::index_pair::IndexPair;
+use degree_queue::{DEGREE_MAX, DegreeQueue};
+use monomial_order::{Memory, Order};
+use std::alloc::Global;
+use word_rules::RuleTable;
+
+/// Puts the pair of two rules into the queue, if its degree is above c and at most the greatest one, and the rules do
+/// not both go to zero.
+fn queue_pair(
+    alloc: Global,
+    alphabet: &Alphabet,
+    c: u32,
+    table: &RuleTable,
+    pairs: &mut DegreeQueue<IndexPair>,
+    i: usize,
+    j: usize,
+) -> Result<(), Memory>
+    requires alphabet { IsAlphabet alphabet.now }
+    requires rules { AreSmallWords (letters_of alphabet.now) table.now }
+    requires first { i < length table.now }
+    requires second { j < length table.now }
+    ensures { OnOk result (IsPairQueued (word_order_of (letters_of alphabet.now)) c table.now i j pairs.old pairs.new) }
+{
+    if table.right(i).is_none() && table.right(j).is_none() {
+        return Ok(());
+    }
+    let degree = alphabet.order.degree(&table.lcm(alloc, i, j)?);
+    if degree <= c || degree > DEGREE_MAX {
+        return Ok(());
+    }
+    match pairs.push(
+        degree,
+        IndexPair {
+            first: i,
+            second: j,
+        },
+    ) {
+        Ok(()) => Ok(()),
+        Err(_pair) => Err(Memory),
+    }
+}
+
+/// Puts the pairs of rule j with those before it into the queue.
+fn queue_pairs_of(
+    alloc: Global,
+    alphabet: &Alphabet,
+    c: u32,
+    table: &RuleTable,
+    pairs: &mut DegreeQueue<IndexPair>,
+    j: usize,
+) -> Result<(), Memory>
+    requires alphabet { IsAlphabet alphabet.now }
+    requires rules { AreSmallWords (letters_of alphabet.now) table.now }
+    requires inside { j < length table.now }
+    requires queued { IsQueued (word_order_of (letters_of alphabet.now)) c j table.now pairs.old }
+    ensures { OnOk result (IsQueued (word_order_of (letters_of alphabet.now)) c (j + 1) table.now pairs.new) }
+{
+    let sharing = table.sharing(alloc, j)?;
+    'sharing: for i in &sharing {
+        queue_pair(alloc, alphabet, c, table, pairs, *i, j)?;
+    }
+    Ok(())
+}
+
+/// Puts the pairs of the rules from the index `count` on into the queue.
+pub(crate) fn queue_pairs(
+    alloc: Global,
+    alphabet: &Alphabet,
+    c: u32,
+    table: &RuleTable,
+    pairs: &mut DegreeQueue<IndexPair>,
+    count: usize,
+) -> Result<(), Memory>
+    requires alphabet { IsAlphabet alphabet.now }
+    requires rules { AreSmallWords (letters_of alphabet.now) table.now }
+    requires queued { IsQueued (word_order_of (letters_of alphabet.now)) c count table.now pairs.old }
+    ensures { OnOk result (IsQueued (word_order_of (letters_of alphabet.now)) c (length table.now) table.now pairs.new) }
+{
+    'rules: for j in count..table.len() {
+        queue_pairs_of(alloc, alphabet, c, table, pairs, j)?;
+    }
+    Ok(())
+}
