@@ -29,7 +29,7 @@ module _ (O : MonomialOrder) (W : IsMonomialOrder O) where
       }
 
   -- a member before an index is the one just before it, or less than that
-  increasing_before : (ms : List (List ℕ)) (j : ℕ) → IsIncreasing O ms → j < length ms → (k : List ℕ) → Contains (take (suc j) ms) k → (k ≡ get_or ms j []) ⊎ (O.compare k (get_or ms j []) ≡ Less)
+  pub increasing_before : (ms : List (List ℕ)) (j : ℕ) → IsIncreasing O ms → j < length ms → (k : List ℕ) → Contains (take (suc j) ms) k → (k ≡ get_or ms j []) ⊎ (O.compare k (get_or ms j []) ≡ Less)
   increasing_before [] j r l k c = absurd (omega arith)
   increasing_before (m ∷ ms) zero r l k c = ⊎_elim (λ e. inl (sym e)) (λ n. absurd (contains_none k n)) (contains_cases m [] k c)
   increasing_before (m ∷ ms) (suc j) r l k c =
@@ -46,6 +46,58 @@ module _ (O : MonomialOrder) (W : IsMonomialOrder O) where
         after = h.after;
       }
 
+  increasing_drop : (i : ℕ) (ms : List (List ℕ)) → IsIncreasing O ms → IsIncreasing O (drop i ms)
+  increasing_drop zero ms r = r
+  increasing_drop (suc i) [] r = tt
+  increasing_drop (suc i) (m ∷ ms) r = increasing_drop i ms (increasing_tail O m ms r)
+
+  -- the members before low are less than m, and those from high on aren't
+  pub record IsSearched (ms : List (List ℕ)) (m : List ℕ) (low high : ℕ) : Type 0 where
+    pub rising : low ≤ high
+    pub before : (k : List ℕ) → Contains (take low ms) k → O.compare k m ≡ Less
+    pub from : IsIndexFrom O ms m high
+
+  pub search_start : (ms : List (List ℕ)) (m : List ℕ) → IsSearched ms m 0 (length ms)
+  search_start ms m = record { rising = omega arith; before = λ k c. absurd (contains_none k c); from = index_start ms m }
+
+  pub search_up : (ms : List (List ℕ)) (m : List ℕ) (low high j : ℕ) → IsIncreasing O ms → j < high → O.compare (get_or ms j []) m ≡ Less →
+      IsSearched ms m low high → IsSearched ms m (suc j) high
+  search_up ms m low high j r l less h =
+      let w = h.from.within in
+      record {
+        rising = omega arith;
+        before = λ k c. ⊎_elim (λ q. subst (λ x. O.compare x m ≡ Less) (sym q) less) (λ b. W.total.trans k (get_or ms j []) m b less)
+            (increasing_before ms j r (omega arith) k c);
+        from = h.from;
+      }
+
+  pub search_down : (ms : List (List ℕ)) (m : List ℕ) (low high j : ℕ) → IsIncreasing O ms → low ≤ j → j < high → O.compare (get_or ms j []) m ≢ Less →
+      IsSearched ms m low high → IsSearched ms m low j
+  search_down ms m low high j r l u n h =
+      let w = h.from.within in
+      let e : drop j ms ≡ get_or ms j [] ∷ drop (suc j) ms = drop-cons ms j [] (omega arith) in
+      let s : IsIncreasing O (get_or ms j [] ∷ drop (suc j) ms) = subst (IsIncreasing O) e (increasing_drop j ms r) in
+      record {
+        rising = l;
+        before = h.before;
+        from = record {
+          within = omega arith;
+          after = λ k c x. ⊎_elim (λ q. n (subst (λ y. O.compare y m ≡ Less) (sym q) x))
+              (λ d. n (W.total.trans (get_or ms j []) k m (increasing_below O W (get_or ms j []) (drop (suc j) ms) s k d) x))
+              (contains_cases (get_or ms j []) (drop (suc j) ms) k (subst (λ ys. Contains ys k) e c));
+        };
+      }
+
+  pub search_end : (ms : List (List ℕ)) (m : List ℕ) (low high : ℕ) → high ≤ low → IsSearched ms m low high → IsInsertionIndex O ms m low
+  search_end ms m low high l h =
+      let w = h.from.within in
+      let g = h.rising in
+      record {
+        within = omega arith;
+        before = h.before;
+        after = λ k c. h.from.after k (subst (λ i. Contains (drop i ms) k) (let e : low ≡ high = omega arith in e) c);
+      }
+
   pub index_first : (ms : List (List ℕ)) (m : List ℕ) → IsIndexFrom O ms m 0 → IsInsertionIndex O ms m 0
   index_first ms m h = record { within = h.within; before = λ k c. absurd (contains_none k c); after = h.after }
 
@@ -59,11 +111,6 @@ module _ (O : MonomialOrder) (W : IsMonomialOrder O) where
   increasing_take zero ms r = tt
   increasing_take (suc i) [] r = tt
   increasing_take (suc i) (m ∷ ms) r = increasing_cons O m (take i ms) (λ n c. increasing_below O W m ms r n (contains_take ms i n c)) (increasing_take i ms (increasing_tail O m ms r))
-
-  increasing_drop : (i : ℕ) (ms : List (List ℕ)) → IsIncreasing O ms → IsIncreasing O (drop i ms)
-  increasing_drop zero ms r = r
-  increasing_drop (suc i) [] r = tt
-  increasing_drop (suc i) (m ∷ ms) r = increasing_drop i ms (increasing_tail O m ms r)
 
   above_all : (ms : List (List ℕ)) (m : List ℕ) (i : ℕ) → IsIncreasing O ms → IsInsertionIndex O ms m i → (i < length ms → get_or ms i [] ≢ m) → (k : List ℕ) → Contains (drop i ms) k → O.compare m k ≡ Less
   above_all ms m i r p n k c = ⊎_elim (λ l. later l) (λ g. absurd (none g)) (le_or_not (suc i) (length ms))

@@ -18,11 +18,17 @@ fn insertion_index<O: Order>(o: &O, rules: &[Rule], word: &Monomial) -> usize
     requires word { IsSmallWord (O.order o.now) word.now }
     ensures { IsInsertionIndex (O.order o.now) (words_of rules.now) word.now result }
 {
-    let mut index = rules.len();
-    'seek: while index > 0 && !o.compare(&rules[index - 1].word, word).is_lt() {
-        index -= 1;
+    let mut low = 0;
+    let mut high = rules.len();
+    'seek: while low < high {
+        let middle = low + (high - low) / 2;
+        if o.compare(&rules[middle].word, word).is_lt() {
+            low = middle + 1;
+        } else {
+            high = middle;
+        }
     }
-    index
+    low
 }
 
 /// Inserts a rule, unless its word is there.
