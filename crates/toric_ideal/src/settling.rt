@@ -164,13 +164,7 @@ impl Completion {
         let (lower, unsorted) = self.alphabet.leads.as_slice().split_at(first);
         let mut last = sorted(alloc, o, unsorted)?;
         let mut leads = copy_monomials(alloc, lower)?;
-        let sides = new_sides(
-            alloc,
-            &self.alphabet,
-            first,
-            last.as_slice(),
-            &self.table,
-        )?;
+        let sides = new_sides(alloc, &self.alphabet, first, last.as_slice(), &self.table)?;
         let rules = new_rules(
             alloc,
             &self.alphabet,
