@@ -3,7 +3,7 @@ use Rattle.std.proofs.Common.{◌≡◌, ◌≢◌, ℕ, ◌+◌, ◌<◌, ◌�
 use Rattle.std.specs.Prelude.{Contains, AllPairs}
 use Rattle.std.proofs.lemmas.List.{ext_get_or, length-take-le, map-append, take-append-drop}
 use Rattle.std.proofs.lemmas.List.Elements.{Contains-append_cases}
-use Rattle.std.proofs.Math.Seq.{drop-append_seam, drop-length, take-append_seam}
+use Rattle.std.proofs.Math.Seq.{drop-append_seam, take-append_seam}
 use Rattle.monomial_order.specs.Monomial.{Exponents, AreCoprime, Divides, IsMonomial, IsMultiple, least_common_multiple as lcm, weighted_degree}
 use Rattle.monomial_order.specs.MonomialOrder.{IsIncreasing, IsMonomialOrder, MonomialOrder}
 use Rattle.monomial_order.specs.laws.Lists.{contains_at, contains_here, contains_map, contains_there}
@@ -51,23 +51,6 @@ leads_comparable O xs leads k W f h m c =
     let s = l.small in
     let e = fits_degree O xs W f m l.monomial in
     record { monomial = subst (λ n. IsMonomial n m) (sym f.places) l.monomial; small = omega arith }
-
--- without leads of the last degree nothing changes
-pub settled_none : (O : MonomialOrder) (w : Completion) → IsSound w → w.settled_count ≡ length w.alphabet.leads.items →
-    IsSettled O w.alphabet.order.x_degrees.items w.degree w.alphabet.leads.items w.alphabet.leads.items
-settled_none O w s e =
-    let leads = w.alphabet.leads.items in
-    let none : drop w.settled_count leads ≡ [] = ap (λ k. drop k leads) e ∙ drop-length leads in
-    record {
-      lower = take w.settled_count leads;
-      before = drop w.settled_count leads;
-      after = drop w.settled_count leads;
-      old_parts = s.parted;
-      new_parts = s.parted;
-      members = λ m. ((λ c. c), (λ c. c));
-      number = refl;
-      increasing = subst (IsIncreasing O) (sym none) tt;
-    }
 
 same_values : (f : Exponents → ℕ) (d : ℕ) (ms ns : List Exponents) → length ms ≡ length ns → ((m : Exponents) → Contains ms m → f m ≡ d) → ((m : Exponents) → Contains ns m → f m ≡ d) → map f ms ≡ map f ns
 same_values f d [] [] e h k = refl
