@@ -22,3 +22,4 @@ pub mod Settled
 pub mod NewSides
 pub mod Relettering
 pub mod SettledListings
+pub mod StandardLeads

@@ -1,12 +1,11 @@
 -- New letters of leads, and right sides with them.
-use Rattle.std.proofs.Common.{◌≡◌, ◌≢◌, ℕ, suc, ◌+◌, ◌-◌, ◌<◌, ◌≤◌, refl, sym, ◌∙◌, ap, subst, List, [], ◌∷◌, ◌++◌, length, length-append, take, drop, set, get_or, arith, ◌⊎◌, inl, inr, ⊎_elim, Some, None}
+use Rattle.std.proofs.Common.{◌≡◌, ℕ, suc, ◌+◌, ◌<◌, ◌≤◌, refl, sym, ◌∙◌, ap, subst, List, [], ◌∷◌, ◌++◌, length, length-append, take, set, get_or, arith, inl, inr, ⊎_elim, None}
 use Rattle.std.specs.Prelude.{Contains}
 use Rattle.std.proofs.lemmas.List.{get_or-drop, get_or-set_same, get_or-set_other, get_or_default, get_or_append_left, get_or_push, length-set, length-take-le}
 use Rattle.monomial_order.specs.Monomial.{Exponents, variable}
 use Rattle.monomial_order.specs.laws.Comparing.{numbers_or_not}
 use Rattle.monomial_order.specs.laws.Monomial.{variable_length}
 use Rattle.monomial_order.specs.laws.Lists.{contains_at}
-use Rattle.word_laws.specs.Words.{Letters, IsWord}
 use Rattle.word_rewriting.specs.Rewriting.{WordOrZero, RewriteRule}
 use Rattle.word_rewriting.specs.Completeness.{lead_letter}
 use Rattle.word_rewriting.specs.Renumbering.{IsRenumbered}
@@ -14,7 +13,7 @@ use Rattle.word_rewriting.specs.laws.Letters.{places_count}
 use Rattle.word_rules.specs.Rules.{no_rule, rule_at}
 use Rattle.toric_ideal.specs.declared.alphabet.Alphabet.{Alphabet}
 use Rattle.toric_ideal.specs.declared.rule.Rule.{Rule}
-use Rattle.toric_ideal.specs.Settling.{last_leads, lower_letters, AreNewRules, AreNewSides, CanRenumber, HasRightSides, IsLowerOrLetter, IsNewSide}
+use Rattle.toric_ideal.specs.Settling.{last_leads, lower_letters, CanRenumber, HasRightSides, IsLowerOrLetter, IsNewSide}
 
 module _ (a : Alphabet) (k : ℕ) (after : List Exponents) (h : CanRenumber a k after) (w : Exponents) (c : IsLowerOrLetter (lower_letters a k) (last_leads a k) w) where
   lower_count : length (take k a.leads.items) ≡ k

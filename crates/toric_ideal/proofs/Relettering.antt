@@ -1,17 +1,17 @@
 -- Words whose letters of the last leads are numbered again, in every degree.
-use Rattle.std.proofs.Common.{◌≡◌, ◌≢◌, ℕ, zero, suc, ◌+◌, ◌-◌, ◌<◌, ◌≤◌, refl, sym, ◌∙◌, ap, subst, List, [], ◌∷◌, length, length-append, get_or, arith, ◌⊎◌, inl, inr, ⊎_elim}
+use Rattle.std.proofs.Common.{◌≡◌, ℕ, zero, suc, ◌+◌, ◌-◌, ◌<◌, ◌≤◌, refl, sym, ◌∙◌, ap, subst, List, [], ◌∷◌, length, length-append, get_or, arith, ◌⊎◌, inl, inr, ⊎_elim}
 use Rattle.std.specs.Prelude.{Contains}
 use Rattle.std.proofs.lemmas.List.{get_or_default}
-use Rattle.monomial_order.specs.Monomial.{Exponents, Divides, IsMonomial, IsMultiple, IsTrimmed, exponent, product, variable}
+use Rattle.monomial_order.specs.Monomial.{Exponents, Divides, IsMultiple, IsTrimmed, exponent, product, variable}
 use Rattle.monomial_order.specs.laws.Cofactors.{cofactor, divides_or_not, length-product_right, same_exponents, Divides-product_right}
-use Rattle.monomial_order.specs.laws.Comparing.{equal_or_not, le_or_not, numbers_or_not, proper_divisor}
+use Rattle.monomial_order.specs.laws.Comparing.{le_or_not, numbers_or_not, proper_divisor}
 use Rattle.monomial_order.specs.laws.Lists.{contains_at, find_member}
 use Rattle.monomial_order.specs.laws.Monomial.{exponent_past, exponent-product, IsMonomial-product, variable_divides, variable_off, variable_trimmed}
 use Rattle.word_laws.specs.Words.{Letters, AreLetters, word_order_of, image_of, IsLeast, IsReducible, IsSmaller, IsWord}
 use Rattle.word_laws.specs.laws.Words.{image_times, image_x, word_laws}
 use Rattle.word_laws.specs.laws.Reducible.{least_unique, least_word, multiple_closed, multiple_decided}
 use Rattle.word_rewriting.specs.Rewriting.{RewriteRule, HasLeftDivisor}
-use Rattle.word_rewriting.specs.Completeness.{lead_letter, with_leads, AreRewriteRules}
+use Rattle.word_rewriting.specs.Completeness.{with_leads, AreRewriteRules}
 use Rattle.word_rewriting.specs.Renumbering.{AreRenumbered}
 use Rattle.word_rewriting.specs.laws.Letters.{letter_word, places_count}
 use Rattle.word_rewriting.specs.laws.MoreLeads.{image_stays, new_image, word_stays}

@@ -1,7 +1,7 @@
 -- A completion whose last leads are numbered again.
 use Rattle.std.proofs.Common.{◌≡◌, ◌≢◌, ℕ, ◌+◌, ◌<◌, ◌≤◌, refl, sym, ◌∙◌, ap, subst, List, [], ◌∷◌, ◌++◌, length, length-append, take, drop, map, get_or, arith, inl, inr, ⊎_elim, Some, None}
 use Rattle.std.specs.Prelude.{Contains, AllPairs}
-use Rattle.std.proofs.lemmas.List.{ext_get_or, get_or_default, length-map, length-take-le, map-append, take-append-drop}
+use Rattle.std.proofs.lemmas.List.{ext_get_or, length-take-le, map-append, take-append-drop}
 use Rattle.std.proofs.lemmas.List.Elements.{Contains-append_cases}
 use Rattle.std.proofs.Math.Seq.{drop-append_seam, take-append_seam}
 use Rattle.monomial_order.specs.Monomial.{Exponents, AreCoprime, Divides, IsMonomial, IsMultiple, least_common_multiple as lcm, weighted_degree}
@@ -11,7 +11,7 @@ use Rattle.word_laws.specs.Words.{Letters, AreLetters, IsReducible, IsWord, vari
 use Rattle.word_laws.specs.laws.Images.{degree_weighted}
 use Rattle.word_rewriting.specs.Rewriting.{WordOrZero, RewriteRule}
 use Rattle.word_rewriting.specs.Completeness.{with_leads}
-use Rattle.word_rewriting.specs.Renumbering.{AreRenumbered, AreRenumberedRules, IsRenumbered, IsRenumberedRule, IsRenumberedSide}
+use Rattle.word_rewriting.specs.Renumbering.{AreRenumbered, AreRenumberedRules, IsRenumberedRule, IsRenumberedSide}
 use Rattle.word_rules.specs.Rules.{no_rule, rule_at}
 use Rattle.monomial_order.specs.Orders.{word_order}
 use Rattle.toric_ideal.specs.declared.completion.Completion.{Completion}
@@ -22,7 +22,7 @@ use Rattle.toric_ideal.specs.Increasing.{AreComparable, IsSorted}
 use Rattle.toric_ideal.specs.Leads.{letters, AreLetterLeads}
 use Rattle.toric_ideal.specs.Listing.{AreParted, AreRules, IsListing, IsSettled, OrdersByDegrees}
 use Rattle.toric_ideal.specs.Queue.{pair, IsNeedless, IsQueued}
-use Rattle.toric_ideal.specs.Step.{pair_degree, IsPairAt}
+use Rattle.toric_ideal.specs.Step.{pair_degree}
 use Rattle.degree_queue.specs.DegreeQueue.{list_of}
 use Rattle.toric_ideal.specs.Rewriting.{rewrite_rule, rewrite_rules, AreExactRules, AreSameRules}
 use Rattle.toric_ideal.specs.Settling.{last_leads, lower_letters, AreNewRules, AreNewSides, CanRenumber, HasRightSides, IsLowerOrLetterSide}

@@ -1,5 +1,5 @@
 -- Rules whose last leads are numbered again.
-use Rattle.std.specs.Prelude.{◌≡◌, ◌⊎◌, ℕ, ◌+◌, ◌≤◌, ◌<◌, List, [], length, take, drop, get_or, Contains, Some, None}
+use Rattle.std.specs.Prelude.{◌≡◌, ◌⊎◌, ℕ, ◌+◌, ◌≤◌, ◌<◌, List, length, take, drop, get_or, Contains, Some, None}
 use Rattle.monomial_order.specs.Monomial.{Exponents}
 use Rattle.word_laws.specs.Words.{Letters, IsWord}
 use Rattle.word_rewriting.specs.Rewriting.{WordOrZero, RewriteRule}

@@ -147,7 +147,7 @@ pub(crate) fn new_rules(
 
 impl Completion {
     /// Numbers the leads of the last degree again, so that they increase in the order. All that takes memory is made
-    /// first.
+    /// first. If there are none, nothing is done.
     pub(crate) fn settle<O: Order>(&mut self, alloc: Global, o: &O) -> Result<(), Memory>
         requires sound { IsSound self.old }
         requires order { OrdersByDegrees (O.order o.now) (letters_of self.old.alphabet).degrees }
@@ -161,16 +161,13 @@ impl Completion {
         ensures err { OnErr result (listing_of self.new ≡ listing_of self.old) }
     {
         let first = self.settled_count;
+        if first == self.alphabet.leads.len() {
+            return Ok(());
+        }
         let (lower, unsorted) = self.alphabet.leads.as_slice().split_at(first);
         let mut last = sorted(alloc, o, unsorted)?;
         let mut leads = copy_monomials(alloc, lower)?;
-        let sides = new_sides(
-            alloc,
-            &self.alphabet,
-            first,
-            last.as_slice(),
-            &self.table,
-        )?;
+        let sides = new_sides(alloc, &self.alphabet, first, last.as_slice(), &self.table)?;
         let rules = new_rules(
             alloc,
             &self.alphabet,

@@ -1,4 +1,4 @@
-use Rattle.std.proofs.Common.{length, ◌-◌, ◌≢◌, ◌<◌, ◌≤◌, ℕ, [], get_or}
+use Rattle.std.proofs.Common.{length, ◌-◌, ◌≢◌, ◌<◌, ℕ, [], get_or}
 use Rattle.toric_ideal.proofs.settling.index_of.Given as goal
 
 abbrev pub invariant-seek : goal.invariant-seek

@@ -1,7 +1,6 @@
 use Rattle.std.proofs.Common.{sym, subst}
 use Rattle.std.specs.Prelude.{Contains}
 use Rattle.monomial_order.specs.laws.Lists.{contains_at}
-use Rattle.toric_ideal.proofs.NewSides.{rules_next}
 use Rattle.toric_ideal.proofs.settling.new_rules.Goals as goal
 
 pub new_least-requires-clause-side : goal.new_least-requires-clause-side

@@ -1,5 +1,5 @@
-use Rattle.std.proofs.Common.{◌≡◌, arith, length, ap, ◌-◌, ◌+◌, ◌<◌}
-use Rattle.toric_ideal.proofs.NewSides.{becomes, lead_there, stays}
+use Rattle.std.proofs.Common.{◌≡◌, arith, length, ap, ◌-◌}
+use Rattle.toric_ideal.proofs.NewSides.{lead_there}
 use Rattle.toric_ideal.proofs.settling.renumbered.Goals as goal
 
 pub index_of-requires : goal.index_of-requires

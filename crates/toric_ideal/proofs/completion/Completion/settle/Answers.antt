@@ -1,7 +1,7 @@
-use Rattle.std.proofs.Common.{◌≡◌, ◌++◌, ◌∙◌, sym, ap, subst, drop, take, List, length}
+use Rattle.std.proofs.Common.{◌≡◌, ◌++◌, ◌∙◌, sym, ap, subst, drop, take, List}
 use Rattle.std.specs.Prelude.{Contains}
 use Rattle.toric_ideal.specs.Increasing.{AreComparable, IsSorted}
-use Rattle.toric_ideal.specs.Settling.{last_leads, lower_letters, AreNewRules, AreNewSides, CanRenumber, HasRightSides, IsLowerOrLetterSide}
+use Rattle.toric_ideal.specs.Settling.{AreNewRules, AreNewSides, CanRenumber, HasRightSides}
 use Rattle.toric_ideal.specs.declared.rule.Rule.{Rule}
 use Rattle.toric_ideal.proofs.SettledListings.{can_renumber, leads_comparable, listing_settled, rule_sides, same_rules, settled_alphabet, settled_is, settled_parted, settled_queued, settled_standard, settled_within, table_sides}
 use Rattle.toric_ideal.proofs.completion.Completion.settle.Goals as goal
