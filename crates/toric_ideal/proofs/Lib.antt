@@ -18,3 +18,5 @@ pub mod ClosedRules
 pub mod ClosedListings
 pub mod DegreeRules
 pub mod NewLead
+pub mod Renamings
+pub mod PushedLead
