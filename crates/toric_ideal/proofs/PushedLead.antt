@@ -6,10 +6,10 @@ use Rattle.std.proofs.Math.ListN.{get_or-append, get_or-map}
 use Rattle.std.proofs.lemmas.List.Quantifiers.{all_pairs_push}
 use Rattle.monomial_order.specs.Monomial.{Exponents, variable, weighted_degree, least_common_multiple as lcm, IsMonomial, IsMultiple, AreCoprime}
 use Rattle.monomial_order.specs.MonomialOrder.{IsIncreasing, MonomialOrder}
-use Rattle.monomial_order.specs.laws.Monomial.{variable_length, variable_off, IsMonomial-least_common_multiple}
+use Rattle.monomial_order.specs.laws.Monomial.{variable_length, variable_off, weighted_nil, IsMonomial-least_common_multiple}
 use Rattle.monomial_order.specs.laws.Comparing.{equal_or_not, increasing_below, increasing_cons, increasing_tail, proper_divisor}
 use Rattle.monomial_order.specs.laws.Lists.{contains_at, contains_cases, contains_either, contains_here, contains_left, contains_map, contains_none, contains_right, contains_there}
-use Rattle.word_laws.specs.Words.{Letters, AreLetters, word_order_of, image_of, IsWord, IsLeast, IsReducible, IsSWord}
+use Rattle.word_laws.specs.Words.{Letters, AreLetters, lead_degrees, word_order_of, image_of, IsWord, IsLeast, IsReducible, IsSWord}
 use Rattle.word_laws.specs.laws.Words.{word_laws, degree_image, degree_x, x_word}
 use Rattle.word_rewriting.specs.Rewriting.{WordOrZero, RewriteRule}
 use Rattle.word_rewriting.specs.Completeness.{lead_letter, with_leads}
@@ -17,7 +17,7 @@ use Rattle.word_rewriting.specs.Renumbering.{AreLastLeads}
 use Rattle.word_rewriting.specs.laws.Letters.{places_count, letter_image, letter_word}
 use Rattle.word_rewriting.specs.laws.MoreLeads.{compare_stays}
 use Rattle.word_rewriting.specs.laws.Renumbering.{last_letters}
-use Rattle.word_rules.specs.Rules.{no_rule, rule_at}
+use Rattle.word_rules.specs.Rules.{no_rule, rule_at, IsSmallWord}
 use Rattle.degree_queue.specs.DegreeQueue.{list_of}
 use Rattle.toric_ideal.specs.declared.completion.Completion.{Completion}
 use Rattle.toric_ideal.specs.declared.index_pair.IndexPair.{IndexPair}
@@ -25,7 +25,8 @@ use Rattle.toric_ideal.specs.declared.rule.Rule.{Rule}
 use Rattle.toric_ideal.specs.Leads.{letters, AreLetterLeads, IsLetterLead}
 use Rattle.toric_ideal.specs.declared.alphabet.Alphabet.{Alphabet}
 use Rattle.toric_ideal.specs.Alphabet.{letters_of, IsAlphabet}
-use Rattle.toric_ideal.proofs.LetterLemmas.{x_degree}
+use Rattle.toric_ideal.proofs.LetterLemmas.{alphabet_order, x_degree}
+use Rattle.monomial_order.specs.Orders.{word_order}
 use Rattle.toric_ideal.specs.Increasing.{IsInsertionIndex}
 use Rattle.toric_ideal.specs.Listing.{AreParted, IsDecided, AreRules, IsListing, IsNewLead}
 use Rattle.toric_ideal.specs.Queue.{IsQueued, IsQueuedPair, IsNeedless}
@@ -82,6 +83,12 @@ module _ (w : Completion) (s : IsSound w) (m : Exponents) (n : IsNewLead (listin
     distinct = λ i j d l k. absurd (omega arith);
   }
 
+  -- the letter at the place after the last one
+  pub letter_is : (k : ℕ) (l : Exponents) → k ≡ (word_order w.alphabet.order.x_degrees.items w.alphabet.order.s_degrees.items).places → l ≡ variable k → l ≡ lead_letter L (length L.leads + 0)
+  letter_is k l e f =
+      f ∙ ap variable (e ∙ (ap (λ (O : MonomialOrder). O.places) (alphabet_order w.alphabet s.alphabet) ∙
+      (places_count L ∙ (let z : length L.degrees + length L.leads ≡ length L.degrees + (length L.leads + 0) = omega arith in z))))
+
   pub lead_decided : IsDecided (listing_of w) ((word_order_of L).degree m)
   lead_decided = inl (let e = degree_x L H m n.monomial in let d = n.degree in omega arith)
 
@@ -107,6 +114,9 @@ module _ (w : Completion) (s : IsSound w) (m : Exponents) (n : IsNewLead (listin
         (contains_either (drop w.settled_count L.leads) (m ∷ []) x (subst (λ ys. Contains ys x) (drop-append-le w.settled_count L.leads (m ∷ []) s.within) c));
   }
 
+  pub pushed_within : w.settled_count ≤ length (L.leads ++ m ∷ [])
+  pushed_within = let a = length-append L.leads (m ∷ []) in let b = s.within in omega arith
+
   HM : AreLetters M
   HM = last_letters L H w.degree (m ∷ []) last
 
@@ -126,6 +136,16 @@ module _ (w : Completion) (s : IsSound w) (m : Exponents) (n : IsNewLead (listin
 
     least_degree : (word_order_of L).degree u ≡ w.degree
     least_degree = sym (degree_image L H u) ∙ (ap (word_order_of L).degree least.image ∙ (degree_x L H m n.monomial ∙ n.degree))
+
+    pub least_small : IsSmallWord (word_order_of L) u
+    least_small = record { word = least.word; small = let e = least_degree in let l = s.listing.small in omega arith }
+
+    pub least_some : u ≢ []
+    least_some e =
+        let z = weighted_nil (L.degrees ++ lead_degrees L) in
+        let q : weighted_degree (L.degrees ++ lead_degrees L) u ≡ weighted_degree (L.degrees ++ lead_degrees L) [] = ap (weighted_degree (L.degrees ++ lead_degrees L)) e in
+        let d : weighted_degree (L.degrees ++ lead_degrees L) u ≡ w.degree = least_degree in
+        let p = new_lead.positive in let r = n.degree in absurd (omega arith)
 
     -- the word of no rule is that of the lead
     pub word_new : (r : Rule) → Contains w.rules.items r → r.word ≢ u
