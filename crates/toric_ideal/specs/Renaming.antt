@@ -1,8 +1,10 @@
 -- Right sides that become the letter of a new lead.
-use Rattle.std.specs.Prelude.{◌≡◌, ◌≢◌, ◌⊎◌, ℕ, ◌<◌, List, ◌++◌, ◌∷◌, [], length, Contains, Some}
+use Rattle.std.specs.Prelude.{◌≡◌, ◌≢◌, ◌⊎◌, ℕ, ◌<◌, List, ◌++◌, ◌∷◌, [], length, take, drop, Contains, Some}
 use Rattle.monomial_order.specs.Monomial.{Exponents}
 use Rattle.word_rewriting.specs.Rewriting.{RewriteRule}
 use Rattle.word_rules.specs.Rules.{rule_at}
+use Rattle.toric_ideal.specs.declared.rule.Rule.{Rule}
+use Rattle.toric_ideal.specs.Rewriting.{rewrite_rules}
 use Rattle.toric_ideal.specs.declared.renaming.Renaming.{Renaming}
 
 -- the right side w becomes the letter, and another one stays
@@ -33,3 +35,8 @@ lead_rule w letter = record { left = w; right = Some letter }
 -- the rules, with that of the new lead, whose left side is w
 abbrev pub IsLettered : Exponents → Exponents → List RewriteRule → List RewriteRule → Type 0
 IsLettered w letter R S = AreRenamed w letter (R ++ lead_rule w letter ∷ []) S
+
+-- the new list has the rule at the index, and around it the old rules, renamed
+abbrev pub HasRenamedAround : Exponents → Exponents → List Rule → List Rule → ℕ → Rule → Type 0
+HasRenamedAround w letter old new i t =
+    (D : List Rule) × AreRenamed w letter (rewrite_rules old) (rewrite_rules D) × (new ≡ take i D ++ t ∷ drop i D)

@@ -1,11 +1,13 @@
 //! One lead more.
-ghost use Rattle.std.specs.Prelude.{◌≡◌, ◌≢◌, ◌<◌, ◌++◌, ◌∷◌, [], true, false, IfOk, OnOk, OnErr};
+ghost use Rattle.std.specs.Prelude.{◌≡◌, ◌≢◌, ◌≤◌, ◌<◌, ◌++◌, ◌∷◌, [], take, drop, length, false, vec_len, vec_capacity, IfOk, OnOk, OnErr};
 ghost use Rattle.word_laws.specs.Words.{IsLeast};
 ghost use Rattle.word_rewriting.specs.Completeness.{with_leads};
 ghost use Rattle.toric_ideal.specs.Alphabet.{letters_of, IsAlphabet};
 ghost use Rattle.toric_ideal.specs.Leads.{IsLetterLead};
 ghost use Rattle.toric_ideal.specs.Listing.{IsNewLead};
-ghost use Rattle.toric_ideal.specs.Renaming.{lead_rule};
+ghost use Rattle.monomial_order.specs.Monomial.{Exponents};
+ghost use Rattle.toric_ideal.specs.Renaming.{lead_rule, AreRenamings, HasRenamedAround};
+ghost use Rattle.toric_ideal.specs.Rewriting.{rewrite_rules};
 ghost use Rattle.toric_ideal.specs.State.{listing_of, IsSound};
 
 use crate::Rule;
@@ -64,6 +66,32 @@ fn push_letter(
     }
 }
 
+/// Inserts a rule, for which there is room.
+fn insert_reserved(rules: &mut Vec<Rule>, index: usize, rule: Rule)
+    requires within { index ≤ vec_len rules.old }
+    requires room { vec_len rules.old < vec_capacity rules.old }
+    ensures { rules.new.items ≡ take index rules.old.items ++ rule ∷ drop index rules.old.items }
+{
+    match rules.insert(index, rule) {
+        Ok(()) => {}
+        Err(_full) => unreachable!(),
+    }
+}
+
+/// Renames least words in the list, and inserts a rule, for which there is room.
+fn rename_and_insert(rules: &mut Vec<Rule>, renamings: Vec<Renaming>, index: usize, rule: Rule)
+    requires within { index ≤ vec_len rules.old }
+    requires room { vec_len rules.old < vec_capacity rules.old }
+    requires renamings { (w letter : Exponents) ×
+        AreRenamings w letter (rewrite_rules rules.old.items) (length rules.old.items) renamings.items }
+    ensures { (w letter : Exponents) →
+        AreRenamings w letter (rewrite_rules rules.old.items) (length rules.old.items) renamings.items →
+        HasRenamedAround w letter rules.old.items rules.new.items index rule }
+{
+    rename_list(rules, renamings);
+    insert_reserved(rules, index, rule);
+}
+
 impl Completion {
     /// The least word with the image m.
     fn standard_word(&self, alloc: Global, m: &Monomial) -> Result<Monomial, Memory>
@@ -103,11 +131,7 @@ impl Completion {
         self.rules.reserve(1)?;
         push_letter(alloc, &mut self.alphabet, &mut self.table, m, word, letter)?;
         rename_table(&mut self.table, in_table);
-        rename_list(&mut self.rules, in_list);
-        match self.rules.insert(index, rule) {
-            Ok(()) => {}
-            Err(_full) => unreachable!(),
-        }
+        rename_and_insert(&mut self.rules, in_list, index, rule);
         self.closed = false;
         Ok(())
     }

@@ -79,7 +79,6 @@ returns-clause-sound c =
     let l = c.in_ok-letter.letter in
     let least = c.in_ok-word.ensures in
     let T = c.rename_table.new.table in
-    let D = c.rename_list.new.rules in
     let L = letters_of w.alphabet in
     let k = lead_letter L (length L.leads + 0) in
     let el : l ≡ k = letter_is w s m n c.places.result l c.places.ensures c.in_ok-letter.ensures in
@@ -90,11 +89,6 @@ returns-clause-sound c =
     subst (λ z. IsLettered u z w.table T) el (subst (λ (R : List RewriteRule). AreRenamed u l R T) eT
     (c.rename_table.ensures u l (subst (λ (R : List RewriteRule). AreRenamings u l R (length R) c.in_ok-in_table.in_table.items) (sym eT)
     (renamings_pushed u l w.table c.in_ok-in_table.in_table.items ne c.in_ok-in_table.ensures)))) in
-    let e0 : c.deref_mut.result.now ≡ w.rules.items = c.deref_mut.ensures.value ∙ c.reserve.ensures.items in
-    let y : AreRenamed u k (rewrite_rules w.rules.items) (rewrite_rules D) =
-    subst (λ z. AreRenamed u z (rewrite_rules w.rules.items) (rewrite_rules D)) el (subst (λ (rs : List Rule). AreRenamed u l (rewrite_rules rs) (rewrite_rules D)) e0
-    (c.rename_list.ensures u l (subst (λ (rs : List Rule). AreRenamings u l (rewrite_rules rs) (length rs) c.in_ok-in_list.in_list.items) (sym e0)
-    (subst (λ (rs : List Rule). AreRenamings u l (rewrite_rules rs) (length rs) c.in_ok-in_list.in_list.items) c.as_slice.ensures.value c.in_ok-in_list.ensures)))) in
     let t : Rule = record { word = c.in_ok-copy.field-0; least = Some c.in_ok-copy-2.field-0 } in
     let et : rewrite_rule t ≡ lead_rule u k =
     ap (λ z. record { left = z; right = Some c.in_ok-copy-2.field-0 }) c.in_ok-copy.ensures.same ∙ ap (λ z. record { left = u; right = Some z }) (c.in_ok-copy-2.ensures.same ∙ el) in
@@ -102,10 +96,17 @@ returns-clause-sound c =
     let place : IsInsertionIndex (word_order_of L) (words_of w.rules.items) u i =
     subst (λ O. IsInsertionIndex O (words_of w.rules.items) u i) (alphabet_order w.alphabet s.alphabet)
     (subst (λ (rs : List Rule). IsInsertionIndex (word_order w.alphabet.order.x_degrees.items w.alphabet.order.s_degrees.items) (words_of rs) u i) c.as_slice-2.ensures.value c.insertion_index-index.ensures) in
-    let ei : c.insert.new.self.items ≡ take i D ++ t ∷ drop i D = c.in-Ok.ensures.items in
+    let er = c.reserve.ensures.items in
+    let a =
+    c.rename_and_insert.ensures u l (subst (λ (rs : List Rule). AreRenamings u l (rewrite_rules rs) (length rs) c.in_ok-in_list.in_list.items) (sym er)
+    (subst (λ (rs : List Rule). AreRenamings u l (rewrite_rules rs) (length rs) c.in_ok-in_list.in_list.items) c.as_slice.ensures.value c.in_ok-in_list.ensures)) in
+    let D = a.0 in
+    let y : AreRenamed u k (rewrite_rules w.rules.items) (rewrite_rules D) =
+    subst (λ z. AreRenamed u z (rewrite_rules w.rules.items) (rewrite_rules D)) el (subst (λ (rs : List Rule). AreRenamed u l (rewrite_rules rs) (rewrite_rules D)) er a.1) in
+    let ei = a.2 in
     record {
       alphabet = c.push_letter.ensures.alphabet;
-      listing = subst (λ K. IsListing (record { letters = K; zeros = w.zeros.items; degree = w.degree; rules = c.insert.new.self.items; closed = false })) (sym eL)
+      listing = subst (λ K. IsListing (record { letters = K; zeros = w.zeros.items; degree = w.degree; rules = c.rename_and_insert.new.rules.items; closed = false })) (sym eL)
           (subst (λ (rs : List Rule). IsListing (record { letters = with_leads L (m ∷ []); zeros = w.zeros.items; degree = w.degree; rules = rs; closed = false })) (sym ei)
           (pushed_listing w s m n u least T x D y i place t et));
       same = subst (λ (rs : List Rule). AreSameRules rs T) (sym ei) (pushed_same w s m n u least T x D y i place t et);
