@@ -62,8 +62,10 @@ module _ (w letter : Exponents) (R : List RewriteRule) where
         (λ q. subst (λ j. (rule_at (set T x.index t) j).left ≡ (rule_at R j).left) (sym q) (ap (λ (s : RewriteRule). s.left) here ∙ h.lefts x.index))
         (λ ne. ap (λ (s : RewriteRule). s.left) (get_or-set_other T x.index k t no_rule ne) ∙ h.lefts k) (numbers_or_not k x.index);
     rights = λ k l. ⊎_elim
-        (λ q. inr (subst (λ j. (rule_at R j).right ≡ Some w) (sym q) r.right,
-        subst (λ j. (rule_at (set T x.index t) j).right ≡ Some letter) (sym q) (ap (λ (s : RewriteRule). s.right) here ∙ ap Some r.becomes)))
+        (λ q. inr (
+          subst (λ j. (rule_at R j).right ≡ Some w) (sym q) r.right,
+          subst (λ j. (rule_at (set T x.index t) j).right ≡ Some letter) (sym q) (ap (λ (s : RewriteRule). s.right) here ∙ ap Some r.becomes),
+        ))
         (λ ne.
         let other = ap (λ (s : RewriteRule). s.right) (get_or-set_other T x.index k t no_rule ne) in
         ⊎_elim (λ a. inl (other ∙ a.0, λ s. left_over k ne (a.1 s))) (λ b. inr (b.0, other ∙ b.1)) (h.rights k l)) (numbers_or_not k x.index);

@@ -79,7 +79,6 @@ pub(crate) fn list_renamings(
     Ok(renamings)
 }
 
-
 /// Renames right sides in the table. It takes no memory.
 pub(crate) fn rename_table(table: &mut RuleTable, renamings: Vec<Renaming>)
     requires { (w letter : Exponents) × AreRenamings w letter table.old (length table.old) renamings.items }

@@ -16,12 +16,12 @@ rules-preserved c =
     let e = ap (λ (r : RewriteRule). r.right) (listed_rule c.args.rules.now i c.index-rules-index.result (let t = c.rules-test.true in omega arith)) ∙ ap (λ (r : Rule). r.least) (sym c.index-rules-index.is) in
     elim c.if-has_least.branch [
       | then-has_least+in_ok-letter+in_ok-push b ↦
-        subst (λ v. AreRenamings w x R (i + 1) v.items) (sym b.renamings-is) (subst (AreRenamings w x R (i + 1)) (sym b.in_ok-push.ensures.items)
-        (renamings_more w x R i c.rules.renamings.items (record { index = i; letter = b.in_ok-letter.letter }) refl (record {
-          within = let n = rewrite_length c.args.rules.now in let t = c.rules-test.true in omega arith;
-          right = e ∙ c.has_least.ensures.yes b.if-has_least.true;
-          becomes = b.in_ok-letter.ensures.same;
-        }) c.rules.invariant))
+          subst (λ v. AreRenamings w x R (i + 1) v.items) (sym b.renamings-is) (subst (AreRenamings w x R (i + 1)) (sym b.in_ok-push.ensures.items)
+          (renamings_more w x R i c.rules.renamings.items (record { index = i; letter = b.in_ok-letter.letter }) refl (record {
+            within = let n = rewrite_length c.args.rules.now in let t = c.rules-test.true in omega arith;
+            right = e ∙ c.has_least.ensures.yes b.if-has_least.true;
+            becomes = b.in_ok-letter.ensures.same;
+          }) c.rules.invariant))
       | else-has_least b ↦
-        subst (λ v. AreRenamings w x R (i + 1) v.items) (sym b.renamings-is) (renamings_skip w x R i c.rules.renamings.items (λ q. c.has_least.ensures.no b.if-has_least.false (sym e ∙ q)) c.rules.invariant)
+          subst (λ v. AreRenamings w x R (i + 1) v.items) (sym b.renamings-is) (renamings_skip w x R i c.rules.renamings.items (λ q. c.has_least.ensures.no b.if-has_least.false (sym e ∙ q)) c.rules.invariant)
     ]
