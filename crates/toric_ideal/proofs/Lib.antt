@@ -23,3 +23,5 @@ pub mod NewSides
 pub mod Relettering
 pub mod SettledListings
 pub mod StandardLeads
+pub mod Renamings
+pub mod PushedLead

@@ -36,7 +36,7 @@ module _ (L : Letters) (H : AreLetters L) (Z : List Exponents) (d : ℕ) (m : Ex
   letter_image = new_image L H (m ∷ []) new 0
 
   -- a word with the degree of L has it in M
-  degree_stays : (v : Exponents) → IsWord L v → (word_order_of M).degree v ≡ (word_order_of L).degree v
+  pub degree_stays : (v : Exponents) → IsWord L v → (word_order_of M).degree v ≡ (word_order_of L).degree v
   degree_stays v k =
       sym (degree_image M HM v) ∙ (ap (word_order_of M).degree (image_stays L (m ∷ []) v k) ∙
       (degree_x M HM (image_of L v) (image_x L H v) ∙ (sym (degree_x L H (image_of L v) (image_x L H v)) ∙ degree_image L H v)))

@@ -5,6 +5,7 @@ pub mod Listing
 pub mod Rewriting
 pub mod Step
 pub mod Queue
+pub mod Renaming
 pub mod SortedRules
 pub mod State
 pub mod Closing

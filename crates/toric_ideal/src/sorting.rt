@@ -12,7 +12,7 @@ use std::alloc::Global;
 use word_rules::RuleTable;
 
 /// The index of the first rule whose word is not less.
-fn insertion_index<O: Order>(o: &O, rules: &[Rule], word: &Monomial) -> usize
+pub(crate) fn insertion_index<O: Order>(o: &O, rules: &[Rule], word: &Monomial) -> usize
     requires increasing { IsIncreasing (O.order o.now) (words_of rules.now) }
     requires small { HaveSmallWords (O.order o.now) rules.now }
     requires word { IsSmallWord (O.order o.now) word.now }

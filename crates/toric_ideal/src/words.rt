@@ -6,7 +6,7 @@ ghost use Rattle.monomial_order.specs.Ranges.{all_between};
 ghost use Rattle.word_laws.specs.Words.{image_of, lead_degrees, word_order_of, IsLeast, IsSWord, IsWord};
 ghost use Rattle.toric_ideal.specs.Leads.{letters};
 ghost use Rattle.toric_ideal.specs.Closing.{closing_max, with_closed, HasMissedWord};
-ghost use Rattle.toric_ideal.specs.Listing.{AgreeTo, AreRules, AreZeros, IsClosed, IsDecided, IsListing, IsSettled, OrdersByDegrees};
+ghost use Rattle.toric_ideal.specs.Listing.{AgreeTo, AreRules, AreZeros, IsClosed, IsDecided, IsListing, IsNewLead, IsSettled, OrdersByDegrees};
 
 use crate::Rule;
 use crate::completion::Completion;
@@ -67,6 +67,19 @@ impl Words {
             return Ok(());
         }
         self.completion.extend_to(alloc, c, zero)
+    }
+
+    /// Makes m the next lead.
+    pub fn push_lead(&mut self, alloc: Global, m: &Monomial) -> Result<(), Memory>
+        requires { IsNewLead self.old m.now }
+        ensures letters { OnOk result (self.new.letters
+            ≡ letters self.old.letters.degrees (self.old.letters.leads ++ m.now ∷ [])) }
+        ensures zeros { self.new.zeros ≡ self.old.zeros }
+        ensures degree { self.new.degree ≡ self.old.degree }
+        ensures closed { OnOk result (self.new.closed ≡ false) }
+        ensures err { OnErr result (self.new ≡ self.old) }
+    {
+        self.completion.push_lead(alloc, m)
     }
 
     /// Numbers the leads of the last degree again, so that they increase in the order.

@@ -1,0 +1,116 @@
+use Rattle.std.proofs.Common.{◌≡◌, ◌≢◌, ◌≤◌, ◌+◌, ◌∙◌, ◌++◌, ◌∷◌, [], List, Some, arith, ap, false, length, subst, sym, take, drop}
+use Rattle.monomial_order.specs.Monomial.{Exponents}
+use Rattle.monomial_order.specs.MonomialOrder.{IsIncreasing}
+use Rattle.word_laws.specs.Words.{word_order_of, Letters}
+use Rattle.word_rewriting.specs.Rewriting.{RewriteRule}
+use Rattle.word_rewriting.specs.Completeness.{lead_letter, with_leads}
+use Rattle.monomial_order.specs.Orders.{word_order}
+use Rattle.word_rules.specs.Rules.{IsSmallWord}
+use Rattle.toric_ideal.specs.declared.completion.Completion.{Completion}
+use Rattle.toric_ideal.specs.declared.rule.Rule.{Rule}
+use Rattle.toric_ideal.specs.Alphabet.{letters_of}
+use Rattle.toric_ideal.specs.Increasing.{IsInsertionIndex}
+use Rattle.toric_ideal.specs.Listing.{AreParted, IsListing}
+use Rattle.toric_ideal.specs.Queue.{IsQueued}
+use Rattle.toric_ideal.specs.Renaming.{lead_rule, AreRenamed, AreRenamings, IsLettered}
+use Rattle.toric_ideal.specs.Rewriting.{rewrite_rule, rewrite_rules, AreSameRules}
+use Rattle.toric_ideal.specs.SortedRules.{words_of}
+use Rattle.toric_ideal.proofs.LetterLemmas.{alphabet_order}
+use Rattle.toric_ideal.proofs.Renamings.{renamings_pushed}
+use Rattle.toric_ideal.proofs.PushedLead.{least_small, least_some, letter_is, letter_new, new_lead, pushed_listing, pushed_parted, pushed_queued, pushed_same, pushed_within}
+use Rattle.toric_ideal.proofs.completion.Completion.push_lead.Goals as goal
+
+pub insertion_index-index-requires-clause-increasing : goal.insertion_index-index-requires-clause-increasing
+insertion_index-index-requires-clause-increasing c =
+    let w = c.args.self.now in
+    subst (λ O. IsIncreasing O (words_of c.as_slice-2.result.now)) (sym (alphabet_order w.alphabet c.requires.sound.alphabet))
+    (subst (λ (rs : List Rule). IsIncreasing (word_order_of (letters_of w.alphabet)) (words_of rs)) (sym c.as_slice-2.ensures.value) c.requires.sound.listing.rules.increasing)
+
+pub insertion_index-index-requires-clause-word : goal.insertion_index-index-requires-clause-word
+insertion_index-index-requires-clause-word c =
+    let w = c.args.self.now in
+    subst (λ O. IsSmallWord O c.in_ok-word.word) (sym (alphabet_order w.alphabet c.requires.sound.alphabet)) (least_small w c.requires.sound c.args.m.now c.requires.lead c.in_ok-word.word c.in_ok-word.ensures)
+
+pub push_letter-requires-clause-lead : goal.push_letter-requires-clause-lead
+push_letter-requires-clause-lead c = new_lead c.args.self.now c.requires.sound c.args.m.now c.requires.lead
+
+pub push_letter-requires-clause-word : goal.push_letter-requires-clause-word
+push_letter-requires-clause-word c = least_some c.args.self.now c.requires.sound c.args.m.now c.requires.lead c.in_ok-word.word c.in_ok-word.ensures
+
+pub returns-in_err-push_letter-clause-sound : goal.returns-in_err-push_letter-clause-sound
+returns-in_err-push_letter-clause-sound c =
+    let w = c.args.self.now in
+    let s = c.requires.sound in
+    let L = letters_of w.alphabet in
+    let eL = c.in_err-push_letter.ensures.err_letters in
+    let eT = c.in_err-push_letter.ensures.err_table in
+    let er = c.reserve.ensures.items in
+    record {
+      alphabet = c.push_letter.ensures.alphabet;
+      listing = subst (λ K. IsListing (record { letters = K; zeros = w.zeros.items; degree = w.degree; rules = c.reserve.new.self.items; closed = w.closed })) (sym eL)
+          (subst (λ (rs : List Rule). IsListing (record { letters = L; zeros = w.zeros.items; degree = w.degree; rules = rs; closed = w.closed })) (sym er) s.listing);
+      same = subst (λ (T : List RewriteRule). AreSameRules c.reserve.new.self.items T) (sym eT) (subst (λ (rs : List Rule). AreSameRules rs w.table) (sym er) s.same);
+      queued = subst (λ K. IsQueued (word_order_of K) w.degree w.queued_count c.push_letter.new.table w.pairs) (sym eL)
+          (subst (λ (T : List RewriteRule). IsQueued (word_order_of L) w.degree w.queued_count T w.pairs) (sym eT) s.queued);
+      within = subst (λ (K : Letters). w.settled_count ≤ length K.leads) (sym eL) s.within;
+      parted = subst (λ (K : Letters). AreParted K.degrees w.degree K.leads (take w.settled_count K.leads) (drop w.settled_count K.leads)) (sym eL) s.parted;
+    }
+
+pub rename_table-requires : goal.rename_table-requires
+rename_table-requires c =
+    let w = c.args.self.now in
+    let u = c.in_ok-word.word in
+    let l = c.in_ok-letter.letter in
+    let el = letter_is w c.requires.sound c.args.m.now c.requires.lead c.places.result l c.places.ensures c.in_ok-letter.ensures in
+    let ne = subst (λ x. x ≢ u) (sym el) (letter_new w c.requires.sound c.args.m.now c.requires.lead u c.in_ok-word.ensures) in (
+      u,
+      l,
+      subst (λ (T : List RewriteRule). AreRenamings u l T (length T) c.in_ok-in_table.in_table.items) (sym c.in_ok-push_letter.ensures.table)
+          (renamings_pushed u l w.table c.in_ok-in_table.in_table.items ne c.in_ok-in_table.ensures),
+    )
+
+pub returns-clause-sound : goal.returns-clause-sound
+returns-clause-sound c =
+    let w = c.args.self.now in
+    let s = c.requires.sound in
+    let m = c.args.m.now in
+    let n = c.requires.lead in
+    let u = c.in_ok-word.word in
+    let l = c.in_ok-letter.letter in
+    let least = c.in_ok-word.ensures in
+    let T = c.rename_table.new.table in
+    let L = letters_of w.alphabet in
+    let k = lead_letter L (length L.leads + 0) in
+    let el : l ≡ k = letter_is w s m n c.places.result l c.places.ensures c.in_ok-letter.ensures in
+    let ne : l ≢ u = subst (λ x. x ≢ u) (sym el) (letter_new w s m n u least) in
+    let eT = c.in_ok-push_letter.ensures.table in
+    let eL = c.in_ok-push_letter.ensures.letters in
+    let x : IsLettered u k w.table T =
+    subst (λ z. IsLettered u z w.table T) el (subst (λ (R : List RewriteRule). AreRenamed u l R T) eT
+    (c.rename_table.ensures u l (subst (λ (R : List RewriteRule). AreRenamings u l R (length R) c.in_ok-in_table.in_table.items) (sym eT)
+    (renamings_pushed u l w.table c.in_ok-in_table.in_table.items ne c.in_ok-in_table.ensures)))) in
+    let t : Rule = record { word = c.in_ok-copy.field-0; least = Some c.in_ok-copy-2.field-0 } in
+    let et : rewrite_rule t ≡ lead_rule u k =
+    ap (λ z. record { left = z; right = Some c.in_ok-copy-2.field-0 }) c.in_ok-copy.ensures.same ∙ ap (λ z. record { left = u; right = Some z }) (c.in_ok-copy-2.ensures.same ∙ el) in
+    let i = c.insertion_index-index.result in
+    let place : IsInsertionIndex (word_order_of L) (words_of w.rules.items) u i =
+    subst (λ O. IsInsertionIndex O (words_of w.rules.items) u i) (alphabet_order w.alphabet s.alphabet)
+    (subst (λ (rs : List Rule). IsInsertionIndex (word_order w.alphabet.order.x_degrees.items w.alphabet.order.s_degrees.items) (words_of rs) u i) c.as_slice-2.ensures.value c.insertion_index-index.ensures) in
+    let er = c.reserve.ensures.items in
+    let a =
+    c.rename_and_insert.ensures u l (subst (λ (rs : List Rule). AreRenamings u l (rewrite_rules rs) (length rs) c.in_ok-in_list.in_list.items) (sym er)
+    (subst (λ (rs : List Rule). AreRenamings u l (rewrite_rules rs) (length rs) c.in_ok-in_list.in_list.items) c.as_slice.ensures.value c.in_ok-in_list.ensures)) in
+    let D = a.0 in
+    let y : AreRenamed u k (rewrite_rules w.rules.items) (rewrite_rules D) =
+    subst (λ z. AreRenamed u z (rewrite_rules w.rules.items) (rewrite_rules D)) el (subst (λ (rs : List Rule). AreRenamed u l (rewrite_rules rs) (rewrite_rules D)) er a.1) in
+    let ei = a.2 in
+    record {
+      alphabet = c.push_letter.ensures.alphabet;
+      listing = subst (λ K. IsListing (record { letters = K; zeros = w.zeros.items; degree = w.degree; rules = c.rename_and_insert.new.rules.items; closed = false })) (sym eL)
+          (subst (λ (rs : List Rule). IsListing (record { letters = with_leads L (m ∷ []); zeros = w.zeros.items; degree = w.degree; rules = rs; closed = false })) (sym ei)
+          (pushed_listing w s m n u least T x D y i place t et));
+      same = subst (λ (rs : List Rule). AreSameRules rs T) (sym ei) (pushed_same w s m n u least T x D y i place t et);
+      queued = subst (λ K. IsQueued (word_order_of K) w.degree w.queued_count T w.pairs) (sym eL) (pushed_queued w s m n u least T x);
+      within = subst (λ (K : Letters). w.settled_count ≤ length K.leads) (sym eL) (pushed_within w s m n);
+      parted = subst (λ (K : Letters). AreParted K.degrees w.degree K.leads (take w.settled_count K.leads) (drop w.settled_count K.leads)) (sym eL) (pushed_parted w s m n);
+    }

@@ -1,0 +1,115 @@
+//! Right sides that become a letter.
+ghost use Rattle.std.specs.Prelude.{◌≡◌, ◌≢◌, ◌<◌, ◌≤◌, length, set, Some, true, false, IfOk};
+ghost use Rattle.monomial_order.specs.Monomial.{Exponents};
+ghost use Rattle.word_rules.specs.Rules.{rule_at};
+ghost use Rattle.toric_ideal.specs.Renaming.{AreRenamed, AreRenamings};
+ghost use Rattle.toric_ideal.specs.Rewriting.{rewrite_rules};
+
+use crate::Rule;
+use monomial_order::{Memory, Monomial};
+use std::alloc::Global;
+use word_rules::RuleTable;
+
+/// The index of a rule, and what its right side becomes.
+#[derive(Drop)]
+pub(crate) struct Renaming {
+    pub(crate) index: usize,
+    pub(crate) letter: Monomial,
+}
+
+/// Whether the right side at an index is the word.
+fn goes_to(table: &RuleTable, i: usize, word: &Monomial) -> bool
+    requires { i < length table.now }
+    ensures yes { result ≡ true → (rule_at table.now i).right ≡ Some word.now }
+    ensures no { result ≡ false → (rule_at table.now i).right ≢ Some word.now }
+{
+    match table.right(i) {
+        Some(right) => right == word,
+        None => false,
+    }
+}
+
+/// Whether the least word of a rule is the word.
+fn has_least(rule: &Rule, word: &Monomial) -> bool
+    ensures yes { result ≡ true → rule.now.least ≡ Some word.now }
+    ensures no { result ≡ false → rule.now.least ≢ Some word.now }
+{
+    match &rule.least {
+        Some(right) => right == word,
+        None => false,
+    }
+}
+
+/// The renamings of the right sides in the table that are the word.
+pub(crate) fn table_renamings(
+    alloc: Global,
+    table: &RuleTable,
+    word: &Monomial,
+    letter: &Monomial,
+) -> Result<Vec<Renaming>, Memory>
+    ensures { IfOk result (λ v. AreRenamings word.now letter.now table.now (length table.now) v.items) }
+{
+    let mut renamings = Vec::new(alloc);
+    'rules: for index in 0..table.len() {
+        if goes_to(table, index, word) {
+            let letter = letter.copy(alloc)?;
+            renamings.push(Renaming { index, letter })?;
+        }
+    }
+    Ok(renamings)
+}
+
+/// The renamings of the least words in the list that are the word.
+pub(crate) fn list_renamings(
+    alloc: Global,
+    rules: &[Rule],
+    word: &Monomial,
+    letter: &Monomial,
+) -> Result<Vec<Renaming>, Memory>
+    ensures { IfOk result (λ v.
+        AreRenamings word.now letter.now (rewrite_rules rules.now) (length rules.now) v.items) }
+{
+    let mut renamings = Vec::new(alloc);
+    'rules: for index in 0..rules.len() {
+        if has_least(&rules[index], word) {
+            let letter = letter.copy(alloc)?;
+            renamings.push(Renaming { index, letter })?;
+        }
+    }
+    Ok(renamings)
+}
+
+/// Renames right sides in the table. It takes no memory.
+pub(crate) fn rename_table(table: &mut RuleTable, renamings: Vec<Renaming>)
+    requires { (w letter : Exponents) × AreRenamings w letter table.old (length table.old) renamings.items }
+    ensures { (w letter : Exponents) → AreRenamings w letter table.old (length table.old) renamings.items
+        → AreRenamed w letter table.old table.new }
+{
+    let mut renamings = renamings;
+    'rename: while let Some(renaming) = renamings.pop() {
+        table.set_right(renaming.index, Some(renaming.letter));
+    }
+}
+
+/// Replaces the least word of a rule.
+fn set_least(rules: &mut [Rule], index: usize, letter: Monomial)
+    requires { index < length rules.old }
+    ensures { rewrite_rules rules.new ≡ set (rewrite_rules rules.old) index
+        (record { left = (rule_at (rewrite_rules rules.old) index).left; right = Some letter }) }
+{
+    rules[index].least = Some(letter);
+}
+
+/// Renames least words in the list. It takes no memory.
+pub(crate) fn rename_list(rules: &mut [Rule], renamings: Vec<Renaming>)
+    requires { (w letter : Exponents) ×
+        AreRenamings w letter (rewrite_rules rules.old) (length rules.old) renamings.items }
+    ensures { (w letter : Exponents) →
+        AreRenamings w letter (rewrite_rules rules.old) (length rules.old) renamings.items
+        → AreRenamed w letter (rewrite_rules rules.old) (rewrite_rules rules.new) }
+{
+    let mut renamings = renamings;
+    'rename: while let Some(renaming) = renamings.pop() {
+        set_least(rules, renaming.index, renaming.letter);
+    }
+}
