@@ -3,7 +3,7 @@ ghost use Rattle.std.specs.Prelude.{◌≡◌, ◌≢◌, ◌≤◌, length, IfO
 ghost use Rattle.monomial_order.specs.Monomial.{weighted_degree, Exponents, IsMonomial, IsMultiple};
 ghost use Rattle.word_laws.specs.Words.{image_of, IsSWord};
 
-use crate::zeros::{DEGREE_MAX, are_zeros, degree_of, has_up_to};
+use crate::zeros::{CLOSING_MAX, DEGREE_MAX, are_zeros, degree_of, has_up_to};
 use monomial_order::{Monomial, Tie, WeightOrder};
 use std::alloc::Global;
 use std::test::Fail;
@@ -86,4 +86,22 @@ pub(crate) fn settle(alloc: Global, words: &mut Words, tie: Tie) -> Result<(), F
     let order = WeightOrder::new(alloc, x_degrees(words), &[], tie)?;
     words.settle(alloc, &order)?;
     Ok(())
+}
+
+/// Copies of the monomials.
+fn copies(alloc: Global, list: &[Monomial]) -> Result<Vec<Monomial>, Fail>
+    ensures { IfOk result (λ v. v.items ≡ list.now) }
+{
+    let mut copies = Vec::with_capacity(alloc, list.len())?;
+    for m in list {
+        copies.push(m.copy(alloc)?)?;
+    }
+    Ok(copies)
+}
+
+/// Whether the words are closed at their degree.
+pub(crate) fn is_closed(alloc: Global, words: &mut Words) -> Result<bool, Fail> {
+    ensure(words.degree() <= CLOSING_MAX, "a great degree")?;
+    let zeros = copies(alloc, words.zeros())?;
+    Ok(words.closed(alloc, zeros.as_slice())?)
 }

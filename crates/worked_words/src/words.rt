@@ -1,5 +1,5 @@
 //! Words of leads, worked out by hand.
-use crate::walk::{extend, factor, least, push, settle, x_degrees};
+use crate::walk::{extend, factor, is_closed, least, push, settle, x_degrees};
 use crate::zeros::are_degrees;
 use monomial_order::{Monomial, Tie};
 use std::alloc::Global;
@@ -22,6 +22,9 @@ fn step(
         "lead" => push(alloc, words, &monomial(alloc, what)?),
         "lex" => settle(alloc, words, Tie::Lex),
         "revlex" => settle(alloc, words, Tie::RevLex),
+        "closed" => ensure(is_closed(alloc, words)? && words.known_closed(), step),
+        "open" => ensure(!is_closed(alloc, words)? && !words.known_closed(), step),
+        "unknown" => ensure(!words.known_closed(), step),
         _ => look(alloc, words, step),
     }
 }
@@ -46,8 +49,11 @@ fn is_rule(alloc: Global, n: usize, rule: &Rule, text: &str) -> Result<bool, Fai
     Ok(is_word(alloc, n, Some(&rule.word), word)? && is_word(alloc, n, rule.least.as_ref(), least)?)
 }
 
-/// Whether the rules are those of the text, in this order.
+/// Whether the rules are those of the text, in this order, or there is none and the text is `-`.
 fn are_rules(alloc: Global, n: usize, rules: &[Rule], text: &str) -> Result<bool, Fail> {
+    if text == "-" {
+        return Ok(rules.is_empty());
+    }
     let mut rest = rules.iter();
     for expected in text.split(", ") {
         match rest.next() {
@@ -68,7 +74,6 @@ fn see_rules(alloc: Global, row: &str) -> Result<(), Fail> {
         step(alloc, &mut words, &mut zeros, text)?;
     }
     let n = degrees.len();
-    ensure(!words.known_closed(), "known closed")?;
     ensure(are_rules(alloc, n, words.rules(), part(row, 2))?, row)
 }
 
@@ -105,6 +110,45 @@ fn rules_are_those_worked_out(rt: HostRuntime) -> Result<(), Fail> {
          s1*s2 > -, z*s2 > s3, s1*s3 > -",
         // the leads x^2 and x^3, as in the ring of a cusp: s1^3 = x^6 = s2^2
         "1 | to 2, lead x^2, to 3, lead x^3, to 6 | x^2 > s1, x*s1 > s2, x*s2 > s1^2, s1^3 > s2^2",
+    ] {
+        see_rules(rt.alloc(), row)?;
+    }
+    Ok(())
+}
+
+#[test]
+fn closed_words_are_known(rt: HostRuntime) -> Result<(), Fail> {
+    for row in [
+        // no lead
+        "1 1 | to 1, unknown, closed, to 15000 | -",
+        "1 1 | to 1, lead x, to 2, lead x*y, lex, to 3, closed, to 15000, factor x^9*y^4 = s1^5*s2^4 | x > s1, y*s1 > s2",
+        // leads that are coprime
+        "2 3 | to 6, lead x^3, lead y^2, lex, closed, to 15000, factor x^6*y^2 = s1*s2^2 | y^2 > s1, x^3 > s2",
+        "1 1 1 | to 2, lead x*z, lead y^2, lex, closed | y^2 > s1, x*z > s2",
+        // the square of a letter is zero
+        "1 | to 1, lead x, zero x^2, to 2, closed | x > s1, s1^2 > -",
+        // so is s1^2 here, of degree 4
+        "1 1 | zero x^2, zero y^2, to 2, lead x*y, to 3, open | y^2 > -, x*y > s1, x^2 > -, y*s1 > -, x*s1 > -",
+        "1 1 | zero x^2, zero y^2, to 2, lead x*y, to 4, closed | y^2 > -, x*y > s1, x^2 > -, y*s1 > -, x*s1 > -, \
+         s1^2 > -",
+        // s1*s4 = x*y^4 = s2*s3 has the degree 5
+        "1 1 | to 1, lead x, to 2, lead x*y, to 3, lead x*y^2, to 4, lead x*y^3, open | x > s1, y*s1 > s2, y*s2 > s3, \
+         s1*s3 > s2^2, y*s3 > s4",
+        // z*s1 and z*s2, of degree 2, have a critical pair of degree 3: s1*s4 = x*y*z = s2*s3
+        "1 1 1 | to 1, lead x, lead y, lex, to 2, lead x*z, lead y*z, lex, open | y > s1, x > s2, z*s2 > s4, z*s1 > s3",
+        "1 1 1 | to 1, lead x, lead y, lex, to 2, lead x*z, lead y*z, lex, to 3, closed, to 15000 | y > s1, x > s2, \
+         z*s2 > s4, z*s1 > s3, s1*s4 > s2*s3",
+        // s1^3 = x^6 = s2^2: the rules to 5 have degrees of at most 4
+        "1 | to 2, lead x^2, to 3, lead x^3, to 5, open | x^2 > s1, x*s1 > s2, x*s2 > s1^2",
+        "1 | to 2, lead x^2, to 3, lead x^3, to 6, closed | x^2 > s1, x*s1 > s2, x*s2 > s1^2, s1^3 > s2^2",
+        // y has the degree 2: s2^3 = x^6 = s4^2
+        "1 2 | to 2, lead x^2, lead y, lex, to 3, lead x^3, lead x*y, lex, to 5, open | y > s1, x^2 > s2, x*s2 > s4, \
+         x*s1 > s3, x*s4 > s2^2, x*s3 > s1*s2, s1*s4 > s2*s3",
+        "1 2 | to 2, lead x^2, lead y, lex, to 3, lead x^3, lead x*y, lex, to 6, closed, to 15000 | y > s1, x^2 > s2, \
+         x*s2 > s4, x*s1 > s3, x*s4 > s2^2, x*s3 > s1*s2, s1*s4 > s2*s3, s2^3 > s4^2, s1*s2^2 > s3*s4, s1^2*s2 > s3^2",
+        // a lead or a zero more
+        "1 1 | to 1, lead x, closed, lead y, unknown, lex, closed | y > s1, x > s2",
+        "1 1 | to 1, lead y, closed, zero x^2, to 2, unknown, closed | y > s1, x^2 > -",
     ] {
         see_rules(rt.alloc(), row)?;
     }

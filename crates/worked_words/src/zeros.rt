@@ -10,6 +10,9 @@ use monomial_order::Monomial;
 /// The greatest degree that is listed to, and of a letter.
 pub(crate) const DEGREE_MAX: u32 = 30_000;
 
+/// The greatest degree at which words may be asked whether they are closed.
+pub(crate) const CLOSING_MAX: u32 = 15_000;
+
 /// Whether each degree is from 1 to `DEGREE_MAX`.
 pub(crate) fn are_degrees(degrees: &[u32]) -> bool
     ensures { IsTrue result → all_between 1 degree_max degrees.now ≡ true }

@@ -1,5 +1,6 @@
 use Rattle.std.proofs.Common.{◌≡◌, ◌≢◌, ◌≤◌, ◌+◌, ◌∙◌, ◌++◌, ◌∷◌, [], List, Some, arith, ap, false, length, subst, sym, take, drop}
-use Rattle.monomial_order.specs.Monomial.{Exponents}
+use Rattle.std.specs.Prelude.{Contains}
+use Rattle.monomial_order.specs.Monomial.{Exponents, IsMultiple}
 use Rattle.monomial_order.specs.MonomialOrder.{IsIncreasing}
 use Rattle.word_laws.specs.Words.{word_order_of, Letters}
 use Rattle.word_rewriting.specs.Rewriting.{RewriteRule}
@@ -18,6 +19,7 @@ use Rattle.toric_ideal.specs.SortedRules.{words_of}
 use Rattle.toric_ideal.proofs.LetterLemmas.{alphabet_order}
 use Rattle.toric_ideal.proofs.Renamings.{renamings_pushed}
 use Rattle.toric_ideal.proofs.PushedLead.{least_small, least_some, letter_is, letter_new, new_lead, pushed_listing, pushed_parted, pushed_queued, pushed_same, pushed_within}
+use Rattle.toric_ideal.proofs.StandardLeads.{standard_pushed}
 use Rattle.toric_ideal.proofs.completion.Completion.push_lead.Goals as goal
 
 pub insertion_index-index-requires-clause-increasing : goal.insertion_index-index-requires-clause-increasing
@@ -54,6 +56,7 @@ returns-in_err-push_letter-clause-sound c =
           (subst (λ (T : List RewriteRule). IsQueued (word_order_of L) w.degree w.queued_count T w.pairs) (sym eT) s.queued);
       within = subst (λ (K : Letters). w.settled_count ≤ length K.leads) (sym eL) s.within;
       parted = subst (λ (K : Letters). AreParted K.degrees w.degree K.leads (take w.settled_count K.leads) (drop w.settled_count K.leads)) (sym eL) s.parted;
+      standard = subst (λ (K : Letters). (x : Exponents) → Contains (drop w.settled_count K.leads) x → ¬ IsMultiple w.zeros.items x) (sym eL) s.standard;
     }
 
 pub rename_table-requires : goal.rename_table-requires
@@ -113,4 +116,6 @@ returns-clause-sound c =
       queued = subst (λ K. IsQueued (word_order_of K) w.degree w.queued_count T w.pairs) (sym eL) (pushed_queued w s m n u least T x);
       within = subst (λ (K : Letters). w.settled_count ≤ length K.leads) (sym eL) (pushed_within w s m n);
       parted = subst (λ (K : Letters). AreParted K.degrees w.degree K.leads (take w.settled_count K.leads) (drop w.settled_count K.leads)) (sym eL) (pushed_parted w s m n);
+      standard = subst (λ (K : Letters). (x : Exponents) → Contains (drop w.settled_count K.leads) x → ¬ IsMultiple w.zeros.items x) (sym eL)
+          (standard_pushed w.zeros.items w.alphabet.leads.items w.settled_count m s.within n.standard s.standard);
     }
