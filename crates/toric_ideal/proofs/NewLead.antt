@@ -1,8 +1,8 @@
 -- One lead more: its letter is irreducible, and with a rule for the least word of the lead the rules generate as before.
-use Rattle.std.proofs.Common.{◌≡◌, ◌≢◌, ℕ, ◌+◌, ◌<◌, ◌≤◌, refl, sym, ◌∙◌, ap, subst, List, [], ◌∷◌, length, get_or, arith, ◌⊎◌, inl, inr, ⊎_elim, Some, None}
+use Rattle.std.proofs.Common.{◌≡◌, ◌≢◌, ℕ, ◌+◌, ◌≤◌, sym, ◌∙◌, ap, subst, List, [], ◌∷◌, length, arith, ◌⊎◌, inl, inr, ⊎_elim, Some, None}
 use Rattle.std.specs.Prelude.{Contains}
 use Rattle.std.specs.declared.cmp.Ordering.TheVariants.{Less}
-use Rattle.monomial_order.specs.Monomial.{Exponents, Divides, IsMonomial, IsMultiple, weighted_degree}
+use Rattle.monomial_order.specs.Monomial.{Exponents, Divides, IsMonomial, IsMultiple}
 use Rattle.monomial_order.specs.laws.Cofactors.{Divides-trans}
 use Rattle.monomial_order.specs.laws.Comparing.{degree_falls, equal_or_not, not_below_self, proper_divisor, three_ways}
 use Rattle.monomial_order.specs.laws.Lists.{contains_here}
@@ -13,7 +13,7 @@ use Rattle.word_rewriting.specs.Completeness.{lead_letter, with_leads, AreRewrit
 use Rattle.word_rewriting.specs.Renumbering.{AreLastLeads}
 use Rattle.word_rewriting.specs.laws.NormalForms.{divided_reducible}
 use Rattle.word_laws.specs.laws.Reducible.{multiple_closed}
-use Rattle.word_rewriting.specs.laws.MoreLeads.{compare_stays, image_stays, letters_stay, smaller_stays, word_stays, new_image, new_letter_smaller}
+use Rattle.word_rewriting.specs.laws.MoreLeads.{compare_stays, image_stays, smaller_stays, word_stays, new_image, new_letter_smaller}
 use Rattle.word_rewriting.specs.laws.Renumbering.{last_letters, word_cases}
 use Rattle.toric_ideal.specs.Rewriting.{AreExactRules}
 use Rattle.toric_ideal.specs.Step.{IsWithLetter}

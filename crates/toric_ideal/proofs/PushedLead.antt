@@ -1,17 +1,17 @@
 -- The listing with one lead more.
-use Rattle.std.proofs.Common.{◌≡◌, ◌≢◌, ℕ, suc, ◌+◌, ◌<◌, ◌≤◌, refl, sym, ◌∙◌, ap, subst, List, [], ◌∷◌, ◌++◌, length, length-append, take, drop, get_or, arith, ◌⊎◌, inl, inr, ⊎_elim, Some, None, false}
+use Rattle.std.proofs.Common.{◌≡◌, ◌≢◌, ℕ, ◌+◌, ◌<◌, ◌≤◌, refl, sym, ◌∙◌, ap, subst, List, [], ◌∷◌, ◌++◌, length, length-append, take, drop, get_or, arith, ◌⊎◌, inl, inr, ⊎_elim, Some, None, false}
 use Rattle.std.specs.Prelude.{map, Contains, AllPairs}
 use Rattle.std.proofs.lemmas.List.{drop-append-le, ext_get_or, get_or_default, map-append, take-append-drop, take-append-le}
-use Rattle.std.proofs.Math.ListN.{get_or-append, get_or-map}
+use Rattle.std.proofs.Math.ListN.{get_or-append}
 use Rattle.std.proofs.lemmas.List.Quantifiers.{all_pairs_push}
 use Rattle.monomial_order.specs.Monomial.{Exponents, variable, weighted_degree, least_common_multiple as lcm, IsMonomial, IsMultiple, AreCoprime}
 use Rattle.monomial_order.specs.MonomialOrder.{IsIncreasing, MonomialOrder}
 use Rattle.monomial_order.specs.laws.Monomial.{variable_length, variable_off, weighted_nil, IsMonomial-least_common_multiple}
-use Rattle.monomial_order.specs.laws.Comparing.{equal_or_not, increasing_below, increasing_cons, increasing_tail, proper_divisor}
+use Rattle.monomial_order.specs.laws.Comparing.{proper_divisor}
 use Rattle.monomial_order.specs.laws.Lists.{contains_at, contains_cases, contains_either, contains_here, contains_left, contains_map, contains_none, contains_right, contains_there}
-use Rattle.word_laws.specs.Words.{Letters, AreLetters, lead_degrees, word_order_of, image_of, IsWord, IsLeast, IsReducible, IsSWord}
+use Rattle.word_laws.specs.Words.{Letters, AreLetters, lead_degrees, word_order_of, IsWord, IsLeast, IsReducible}
 use Rattle.word_laws.specs.laws.Words.{word_laws, degree_image, degree_x, x_word}
-use Rattle.word_rewriting.specs.Rewriting.{WordOrZero, RewriteRule}
+use Rattle.word_rewriting.specs.Rewriting.{RewriteRule}
 use Rattle.word_rewriting.specs.Completeness.{lead_letter, with_leads}
 use Rattle.word_rewriting.specs.Renumbering.{AreLastLeads}
 use Rattle.word_rewriting.specs.laws.Letters.{places_count, letter_image, letter_word}
@@ -20,21 +20,20 @@ use Rattle.word_rewriting.specs.laws.Renumbering.{last_letters}
 use Rattle.word_rules.specs.Rules.{no_rule, rule_at, IsSmallWord}
 use Rattle.degree_queue.specs.DegreeQueue.{list_of}
 use Rattle.toric_ideal.specs.declared.completion.Completion.{Completion}
-use Rattle.toric_ideal.specs.declared.index_pair.IndexPair.{IndexPair}
 use Rattle.toric_ideal.specs.declared.rule.Rule.{Rule}
-use Rattle.toric_ideal.specs.Leads.{letters, AreLetterLeads, IsLetterLead}
+use Rattle.toric_ideal.specs.Leads.{AreLetterLeads, IsLetterLead}
 use Rattle.toric_ideal.specs.declared.alphabet.Alphabet.{Alphabet}
 use Rattle.toric_ideal.specs.Alphabet.{letters_of, IsAlphabet}
 use Rattle.toric_ideal.proofs.LetterLemmas.{alphabet_order, x_degree}
 use Rattle.monomial_order.specs.Orders.{word_order}
 use Rattle.toric_ideal.specs.Increasing.{IsInsertionIndex}
 use Rattle.toric_ideal.specs.Listing.{AreParted, IsDecided, AreRules, IsListing, IsNewLead}
-use Rattle.toric_ideal.specs.Queue.{IsQueued, IsQueuedPair, IsNeedless}
+use Rattle.toric_ideal.specs.Queue.{IsQueued}
 use Rattle.toric_ideal.specs.Renaming.{lead_rule, IsRenamedRule, AreRenamed, IsLettered}
 use Rattle.toric_ideal.specs.Rewriting.{rewrite_rule, rewrite_rules, AreExactRules, AreSameRules}
 use Rattle.toric_ideal.specs.SortedRules.{words_of, IsInsertedRule}
 use Rattle.toric_ideal.specs.State.{listing_of, IsSound}
-use Rattle.toric_ideal.specs.Step.{pair_degree, AreBothZero, IsPairAt, IsWithLetter}
+use Rattle.toric_ideal.specs.Step.{pair_degree, IsWithLetter}
 use Rattle.toric_ideal.proofs.ExactRules.{exact_rules}
 use Rattle.toric_ideal.proofs.Members.{contains_drop, contains_mapped, contains_parts, contains_take}
 use Rattle.toric_ideal.proofs.NewLead.{degree_stays, lead_exact}

@@ -1,7 +1,7 @@
-use Rattle.std.proofs.Common.{◌+◌, ◌∙◌, length, refl, sym, ap, subst, arith}
+use Rattle.std.proofs.Common.{◌+◌, ◌∙◌, refl, sym, ap, subst, arith}
 use Rattle.word_rewriting.specs.Rewriting.{RewriteRule}
 use Rattle.toric_ideal.specs.declared.rule.Rule.{Rule}
-use Rattle.toric_ideal.specs.Rewriting.{rewrite_rule, rewrite_rules}
+use Rattle.toric_ideal.specs.Rewriting.{rewrite_rules}
 use Rattle.toric_ideal.specs.Renaming.{AreRenamings}
 use Rattle.toric_ideal.proofs.Renamings.{listed_rule, renamings_more, renamings_skip, rewrite_length}
 use Rattle.toric_ideal.proofs.renaming.list_renamings.Goals as goal

@@ -1,7 +1,6 @@
 use Rattle.std.proofs.Common.{◌∙◌, ap, set, sym, Some}
 use Rattle.std.proofs.lemmas.List.{map-set}
 use Rattle.word_rewriting.specs.Rewriting.{RewriteRule}
-use Rattle.toric_ideal.specs.declared.rule.Rule.{Rule}
 use Rattle.toric_ideal.specs.Rewriting.{rewrite_rule, rewrite_rules}
 use Rattle.toric_ideal.proofs.Renamings.{listed_rule}
 use Rattle.toric_ideal.proofs.renaming.set_least.Goals as goal

@@ -1,4 +1,4 @@
-use Rattle.std.proofs.Common.{◌+◌, length, refl, sym, subst, arith}
+use Rattle.std.proofs.Common.{◌+◌, refl, sym, subst, arith}
 use Rattle.toric_ideal.specs.Renaming.{AreRenamings}
 use Rattle.toric_ideal.proofs.Renamings.{renamings_more, renamings_skip}
 use Rattle.toric_ideal.proofs.renaming.table_renamings.Goals as goal

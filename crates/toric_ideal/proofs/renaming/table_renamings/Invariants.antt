@@ -1,4 +1,3 @@
-use Rattle.std.proofs.Common.{◌≤◌, length}
 use Rattle.toric_ideal.specs.Renaming.{AreRenamings}
 use Rattle.toric_ideal.proofs.renaming.table_renamings.Given as goal
 

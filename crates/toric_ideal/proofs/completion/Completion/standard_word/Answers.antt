@@ -1,8 +1,3 @@
-use Rattle.std.proofs.Common.{◌≤◌, ◌∙◌, inl, subst, sym}
-use Rattle.word_laws.specs.laws.Words.{degree_x}
-use Rattle.toric_ideal.specs.Alphabet.{letters_of}
-use Rattle.toric_ideal.specs.Listing.{IsDecided}
-use Rattle.toric_ideal.specs.State.{listing_of}
 use Rattle.toric_ideal.proofs.PushedLead.{lead_decided}
 use Rattle.toric_ideal.proofs.SoundListings.{factor_none, factor_some}
 use Rattle.toric_ideal.proofs.completion.Completion.standard_word.Goals as goal
