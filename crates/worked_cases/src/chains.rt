@@ -2,13 +2,13 @@
 ghost use Rattle.std.specs.Prelude.{◌≡◌, [], OnOk};
 ghost use Rattle.worked_rows.specs.Rings.{IsIn, IsRing};
 
-use worked_rows::rings::{Ring, X_AND_Y, polynomial, ring};
-use worked_rows::rows::{ensure, number};
 use linked_terms::TermChain;
 use monomial_order::{Monomial, Term};
 use std::alloc::Global;
 use std::test::Fail;
 use word_field::{Field, WordField};
+use worked_rows::rings::{Ring, X_AND_Y, polynomial, ring};
+use worked_rows::rows::{ensure, number};
 
 /// Adds a product such as `2*x times x + y`.
 fn add(alloc: Global, p: &Ring, chain: &mut TermChain<WordField>, product: &str) -> Result<(), Fail>

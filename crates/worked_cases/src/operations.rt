@@ -5,14 +5,14 @@ ghost use Rattle.poly_core.specs.Presentation.{weight_order_of};
 ghost use Rattle.polynomials.specs.Value.{value_degree, HasSmallValue};
 ghost use Rattle.worked_rows.specs.Rings.{IsIn, IsLowIn, IsRing};
 
-use worked_rows::monomials::monomial;
-use worked_rows::rings::{Ring, X_AND_Y, degree, polynomial, polynomials, ring, text_of};
-use worked_rows::rows::{ensure, judge, number, part};
 use monomial_order::{Order, Term};
 use poly_core::{NameTable, Poly};
 use std::alloc::Global;
 use std::test::Fail;
 use word_field::{Field, WordField};
+use worked_rows::monomials::monomial;
+use worked_rows::rings::{Ring, X_AND_Y, degree, polynomial, polynomials, ring, text_of};
+use worked_rows::rows::{ensure, judge, number, part};
 
 /// The greatest degree that is computed with.
 const EXPONENT_MAX: u32 = 65_535;

@@ -4,14 +4,14 @@ ghost use Rattle.monomial_order.specs.Monomial.{exponent};
 ghost use Rattle.worked_rows.specs.Rings.{IsIn, IsRing};
 
 use crate::products::small;
-use worked_rows::rings::{Ring, polynomial, ring};
-use worked_rows::rows::{ensure, judge, number, numbers, part};
 use monomial_order::{Memory, Monomial, Order, OrderFault, Row, Tie, WeightOrder, WordOrder};
 use poly_core::Poly;
 use std::alloc::Global;
 use std::cmp::Ordering;
 use std::test::Fail;
 use word_field::WordField;
+use worked_rows::rings::{Ring, polynomial, ring};
+use worked_rows::rows::{ensure, judge, number, numbers, part};
 
 /// So many rows with the same entries.
 fn rows(alloc: Global, entries: &[u32], count: u32) -> Result<Vec<Row>, Memory> {

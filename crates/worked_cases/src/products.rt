@@ -2,11 +2,11 @@
 ghost use Rattle.std.specs.Prelude.{ℕ, ◌≤◌, IfOk};
 ghost use Rattle.monomial_order.specs.Monomial.{exponent};
 
-use worked_rows::monomials::{is_word, monomial};
-use worked_rows::rows::{ensure, part};
 use monomial_order::Monomial;
 use std::alloc::Global;
 use std::test::Fail;
+use worked_rows::monomials::{is_word, monomial};
+use worked_rows::rows::{ensure, part};
 
 /// A monomial whose exponents are at most 7.
 pub(crate) fn small(alloc: Global, text: &str) -> Result<Monomial, Fail>

@@ -4,14 +4,14 @@ ghost use Rattle.monomial_order.specs.declared.word_order.WordOrder.{WordOrder};
 ghost use Rattle.worked_rows.specs.Rings.{IsRing};
 ghost use Rattle.worked_cases.specs.Witnesses.{HasRoom, IsLowPair, IsLowPairIn, IsPairIn};
 
-use worked_rows::rings::{Ring, polynomial, ring, text_of};
-use worked_rows::rows::{ensure, judge, number, part};
 use monomial_order::WordOrder;
 use poly_core::{Names, Poly};
 use std::alloc::Global;
 use std::test::Fail;
 use witness::{Tracked, element, generator, product, reduce, scale, sum};
 use word_field::{Field, WordField};
+use worked_rows::rings::{Ring, polynomial, ring, text_of};
+use worked_rows::rows::{ensure, judge, number, part};
 
 /// The generators x^2 + y^2 and x*y over the field of 101 elements.
 const SQUARES_AND_PRODUCT: &str =

@@ -1,8 +1,8 @@
 //! The fields.
-use worked_rows::rows::{ensure, judge, number, part};
 use std::alloc::Global;
 use std::test::Fail;
 use word_field::{Field, WordField};
+use worked_rows::rows::{ensure, judge, number, part};
 
 /// Sees that the greatest number is that of -1, which is its own inverse.
 fn ends_at_minus_one<F: Field>(f: &F) -> bool {

@@ -1,9 +1,9 @@
 //! The fields of pairs.
-use worked_rows::rows::{ensure, judge, number, part};
 use ext_field::PairField;
 use std::alloc::Global;
 use std::test::Fail;
 use word_field::Field;
+use worked_rows::rows::{ensure, judge, number, part};
 
 /// The numbers of the products of an element, given by its number, by those of the numbers 0, 1 and so on.
 fn products<F: Field>(alloc: Global, f: &F, a: u64) -> Result<String, Fail> {

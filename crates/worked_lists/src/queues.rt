@@ -1,8 +1,8 @@
 //! Queues by degree.
-use worked_rows::rows::{ensure, judge, number, part};
 use degree_queue::{DEGREE_MAX, DegreeQueue};
 use std::alloc::Global;
 use std::test::Fail;
+use worked_rows::rows::{ensure, judge, number, part};
 
 type Queue = DegreeQueue<String>;
 

@@ -2,13 +2,13 @@
 ghost use Rattle.std.specs.Prelude.{IfOk, IfSome};
 ghost use Rattle.worked_rows.specs.Rings.{IsIn, IsRing};
 
-use worked_rows::rings::{Ring, X_AND_Y, polynomial, ring, text_of};
-use worked_rows::rows::{judge, part};
 use poly_core::{Poly, write_monomial};
 use polynomial_text::{LineFault, read_canonical, read_poly};
 use std::alloc::Global;
 use std::test::Fail;
 use word_field::WordField;
+use worked_rows::rings::{Ring, X_AND_Y, polynomial, ring, text_of};
+use worked_rows::rows::{judge, part};
 
 /// The canonical text of the polynomial of a line, or the kind of the line's fault.
 fn outcome(alloc: Global, p: &Ring, line: &str) -> Result<String, Fail>

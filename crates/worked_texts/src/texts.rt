@@ -2,8 +2,6 @@
 ghost use Rattle.std.specs.Prelude.{All};
 ghost use Rattle.worked_rows.specs.Rings.{IsIn, IsRing};
 
-use worked_rows::rings::{Ring, X_AND_Y, ring, text_of};
-use worked_rows::rows::{ensure, judge, number, part};
 use monomial_order::Memory;
 use poly_core::Poly;
 use presentation_text::laws::read_written;
@@ -11,6 +9,8 @@ use presentation_text::{AnyPresentation, TEXT_MAX, read, read_any, read_polys, w
 use std::alloc::Global;
 use std::test::Fail;
 use word_field::WordField;
+use worked_rows::rings::{Ring, X_AND_Y, ring, text_of};
+use worked_rows::rows::{ensure, judge, number, part};
 
 /// Sees that the canonical text of a presentation is the expected one.
 fn see_written(alloc: Global, p: &Ring, expected: &str) -> Result<(), Fail>

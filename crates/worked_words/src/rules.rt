@@ -5,12 +5,12 @@ ghost use Rattle.word_laws.specs.Words.{word_order_of};
 ghost use Rattle.word_rewriting.specs.Samples.{sample_rules, square_and_cube};
 ghost use Rattle.word_rules.specs.Rules.{IsSmallWord};
 
-use worked_rows::monomials::{is_word, word};
-use worked_rows::rows::{ensure, number, part};
 use monomial_order::{Monomial, WordOrder};
 use std::alloc::Global;
 use std::test::Fail;
 use word_rules::RuleTable;
+use worked_rows::monomials::{is_word, word};
+use worked_rows::rows::{ensure, number, part};
 
 /// The order of the words in x, s1 and s2.
 fn order(alloc: Global) -> Result<WordOrder, Fail>
