@@ -36,7 +36,7 @@ fn insertion_index<O: Order>(o: &O, list: &[Monomial], m: &Monomial) -> usize
 }
 
 /// The increasing list of copies of the monomials of the list.
-pub(crate) fn sorted<O: Order>(
+pub fn sorted<O: Order>(
     alloc: Global,
     o: &O,
     list: &[Monomial],

@@ -24,5 +24,6 @@ mod settling;
 mod sorting;
 mod words;
 
+pub use increasing::sorted;
 pub use rule::Rule;
 pub use words::Words;

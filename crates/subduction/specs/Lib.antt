@@ -1,0 +1,6 @@
+pub mod Basis
+pub mod Subduced
+pub mod Steps
+pub mod NewElements
+pub mod Settling
+pub mod laws

@@ -1,0 +1,3 @@
+-- Lemmas that proofs here and in the crates above cite.
+pub mod Elements
+pub mod WitnessWords

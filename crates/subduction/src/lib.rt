@@ -1,0 +1,17 @@
+//! Bases of subalgebras to a degree, and subduction by them.
+#![tactic(auto)]
+
+mod basis;
+mod coefficients;
+mod ideal_leads;
+pub mod laws;
+mod new_elements;
+mod settling;
+mod subduction;
+mod term_sum;
+mod witness_words;
+mod word_step;
+
+pub use basis::Basis;
+pub use subduction::{Subduced, subduce, subduce_with};
+pub use word_values::Values;
