@@ -86,14 +86,18 @@ module _ {F E : Type 0} (P : Presented E) (H : IsPresentation P) where
         );
         degree = omega arith;
         elements = λ i t l. let e = B.elements i t l in record { tracked = e.tracked; monic = e.monic; standard = e.standard };
-        parts = (b.elements, [], record {
-          whole = sym (append-nil b.elements);
-          lower_less = subst (λ ts. All (λ (t : Tracked F E). degree_of O t.value < W.degree) ts) (sym (B.parts.2).whole)
-              (All-append (λ (t : Tracked F E). degree_of O t.value < W.degree) B.parts.0 B.parts.1
-              (λ i t l. let a = (B.parts.2).lower_less i t l in omega arith)
-              (λ i t l. let a = (B.parts.2).last_equal i t l in omega arith));
-          last_equal = λ i t l. absurd (omega arith);
-        });
+        parts = (
+          b.elements,
+          [],
+          record {
+            whole = sym (append-nil b.elements);
+            lower_less = subst (λ ts. All (λ (t : Tracked F E). degree_of O t.value < W.degree) ts) (sym (B.parts.2).whole)
+                (All-append (λ (t : Tracked F E). degree_of O t.value < W.degree) B.parts.0 B.parts.1
+                (λ i t l. let a = (B.parts.2).lower_less i t l in omega arith)
+                (λ i t l. let a = (B.parts.2).last_equal i t l in omega arith));
+            last_equal = λ i t l. absurd (omega arith);
+          },
+        );
         by_order = B.by_order;
       }
 

@@ -183,11 +183,15 @@ module _ {F E : Type 0} (P : Presented E) (H : IsPresentation P) (b : BasisState
       );
       degree = let l = B.degree in let e = ap (λ (x : Rattle.quotient_gb.specs.Quotient.QuotientState E). x.degree) q in omega arith;
       elements = subst (All (IsBasisElement P b')) (sym elements) (All-append (IsBasisElement P b') b.elements (u ∷ []) (λ i t l. element_longer (get_or b.elements i t) (B.elements i t l)) (only e));
-      parts = (B.parts.0, B.parts.1 ++ u ∷ [], record {
-        whole = elements ∙ (ap (λ ts. ts ++ u ∷ []) (B.parts.2).whole ∙ append_assoc B.parts.0 B.parts.1 (u ∷ []));
-        lower_less = λ i t l. let a = (B.parts.2).lower_less i t l in omega arith;
-        last_equal = All-append (λ (t : Tracked F E). degree_of O t.value ≡ b'.words.degree) B.parts.1 (u ∷ []) (λ i t l. (B.parts.2).last_equal i t l ∙ sym w) (at_u (d ∙ sym w));
-      });
+      parts = (
+        B.parts.0,
+        B.parts.1 ++ u ∷ [],
+        record {
+          whole = elements ∙ (ap (λ ts. ts ++ u ∷ []) (B.parts.2).whole ∙ append_assoc B.parts.0 B.parts.1 (u ∷ []));
+          lower_less = λ i t l. let a = (B.parts.2).lower_less i t l in omega arith;
+          last_equal = All-append (λ (t : Tracked F E). degree_of O t.value ≡ b'.words.degree) B.parts.1 (u ∷ []) (λ i t l. (B.parts.2).last_equal i t l ∙ sym w) (at_u (d ∙ sym w));
+        },
+      );
       by_order = record {
         no_x = none;
         degrees = more ∙ (ap (λ xs. xs ++ degree_of O u.value ∷ []) (B.by_order).degrees ∙

@@ -172,8 +172,10 @@ module _ {F E : Type 0} (P : Presented E) (H : IsPresentation P) (b : BasisState
         (λ m k. let w = weighted m (contains_left (leads_of lower) (leads_of before) m k) in let l = low_lead m k in omega arith)
         (λ m k. weighted m (contains_right (leads_of lower) (leads_of before) m k) ∙ last_lead m k) in
         let e : s.after ≡ S = same s.after S s.increasing sorted.increasing
-        (λ m. (λ k. (sorted.members m).0 (subst (λ ns. Contains ns m) u.1 ((s.members m).1 k)),
-        λ k. (s.members m).0 (subst (λ ns. Contains ns m) (sym u.1) ((sorted.members m).1 k)))) in
+        (λ m. (
+          λ k. (sorted.members m).0 (subst (λ ns. Contains ns m) u.1 ((s.members m).1 k)),
+          λ k. (s.members m).0 (subst (λ ns. Contains ns m) (sym u.1) ((sorted.members m).1 k)),
+        )) in
         s.new_parts.whole ∙ (ap (λ ns. ns ++ s.after) u.0 ∙ ap (λ ns. leads_of lower ++ ns) (e ∙ sym done.1))
 
     -- the degrees are as before
@@ -210,11 +212,15 @@ module _ {F E : Type 0} (P : Presented E) (H : IsPresentation P) (b : BasisState
               (subst (λ k. Contains b.words.zeros z ↔ (Contains b.quotient.leads z × (O.degree z ≤ k))) (sym degree) (B.zeros z)));
           degree = let q = ap (λ (q : QuotientState E). q.degree) quotient in let l = B.degree in omega arith;
           elements = new_elements P H b B lower before p c us done.0 e by degrees;
-          parts = (lower, us, subst (λ k. AreInParts P k c.elements lower us) (sym degree) (record {
-            whole = e;
-            lower_less = p.lower_less;
-            last_equal = contains-All (λ (t : Tracked F E). degree_of O t.value ≡ d) us degrees;
-          }));
+          parts = (
+            lower,
+            us,
+            subst (λ k. AreInParts P k c.elements lower us) (sym degree) (record {
+              whole = e;
+              lower_less = p.lower_less;
+              last_equal = contains-All (λ (t : Tracked F E). degree_of O t.value ≡ d) us degrees;
+            }),
+          );
           by_order = subst (IsWitnessOrder P (values_of c.elements)) (sym by) (record {
             no_x = B.by_order.no_x;
             degrees = B.by_order.degrees ∙ ap (λ ks. map (generator_degree O) fs ++ ks) (same_degrees c.elements e);

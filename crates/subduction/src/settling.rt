@@ -8,39 +8,13 @@ ghost use Rattle.toric_ideal.specs.Increasing.{AreComparable};
 ghost use Rattle.witness.specs.Tracking.{by_order, values_of, IsCanonicalPair};
 ghost use Rattle.subduction.specs.Settling.{AreLess, AreMadeInOrder, IsLess};
 
+use crate::coefficients::coefficient_at_lead;
 use monomial_order::{Memory, Monomial, Order, WordOrder};
 use poly_core::{Poly, Presentation};
 use std::alloc::Global;
 use toric_ideal::sorted;
 use witness::Tracked;
 use word_field::Field;
-
-/// The coefficient of a at m.
-fn coefficient_at<F: Field>(f: &F, a: &Poly<F>, m: &Monomial) -> F::Elem
-    requires { (o : MonomialOrder) × IsMonomialOrder o × IsCanonical (F.ops f.now) o a.now }
-    ensures { result ≡ coefficient (F.ops f.now) a.now m.now }
-{
-    'terms: for t in a.terms() {
-        if t.at == *m {
-            return t.by;
-        }
-    }
-    f.zero()
-}
-
-/// The coefficient of a at the lead of b.
-fn coefficient_at_lead<F: Field>(alloc: Global, f: &F, a: &Poly<F>, b: &Poly<F>) -> F::Elem
-    requires { (o : MonomialOrder) × IsMonomialOrder o × IsCanonical (F.ops f.now) o a.now }
-    ensures { result ≡ coefficient (F.ops f.now) a.now (lead_monomial b.now) }
-{
-    match b.lead() {
-        Some(first) => coefficient_at(f, a, &first.at),
-        None => {
-            let one = Monomial::one(alloc);
-            coefficient_at(f, a, &one)
-        }
-    }
-}
 
 /// Takes away the multiple of u that takes the monomial at the lead of u away.
 fn without_lead<F: Field, O: Order>(

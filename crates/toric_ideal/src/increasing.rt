@@ -36,11 +36,7 @@ fn insertion_index<O: Order>(o: &O, list: &[Monomial], m: &Monomial) -> usize
 }
 
 /// The increasing list of copies of the monomials of the list.
-pub fn sorted<O: Order>(
-    alloc: Global,
-    o: &O,
-    list: &[Monomial],
-) -> Result<Vec<Monomial>, Memory>
+pub fn sorted<O: Order>(alloc: Global, o: &O, list: &[Monomial]) -> Result<Vec<Monomial>, Memory>
     requires { AreComparable (O.order o.now) list.now }
     ensures { IfOk result (λ v. IsSorted (O.order o.now) list.now v.items) }
 {
