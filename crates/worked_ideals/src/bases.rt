@@ -5,13 +5,13 @@ ghost use Rattle.monomial_order.specs.Monomial.{Exponents};
 ghost use Rattle.poly_core.specs.Presentation.{weight_order_of};
 ghost use Rattle.monomial_basis.specs.Products.{AreFactors, IsFactor};
 
-use crate::zeros::degree_of;
 use monomial_basis::{is_product, minimal_generators};
 use monomial_order::{Monomial, Order, Tie, WeightOrder};
 use std::alloc::Global;
 use std::test::Fail;
 use worked_rows::monomials::{is_word, monomial};
 use worked_rows::rows::{ensure, judge, number, numbers, part};
+use worked_words::zeros::degree_of;
 
 /// The greatest degree that is computed with.
 const EXPONENT_MAX: u32 = 65_535;

@@ -7,7 +7,6 @@ ghost use Rattle.quotient_gb.specs.Quotient.{IsQuotientOf};
 ghost use Rattle.worked_rows.specs.Rings.{IsIn, IsRing};
 
 use crate::bases::are_monomials;
-use crate::zeros::DEGREE_MAX;
 use monomial_order::{Order, WeightOrder};
 use poly_core::Poly;
 use quotient_gb::Quotient;
@@ -17,9 +16,7 @@ use word_field::WordField;
 use worked_rows::monomials::monomial;
 use worked_rows::rings::{Ring, polynomial, ring, text_of};
 use worked_rows::rows::{ensure, judge, number, part};
-
-/// The greatest degree at which a quotient may be asked whether it is closed.
-const CLOSING_MAX: u32 = 15_000;
+use worked_words::zeros::{CLOSING_MAX, DEGREE_MAX};
 
 /// The ring modulo the ideal of a row: its size, names, weights, order, and the generators of the ideal.
 fn ring_of(alloc: Global, row: &str) -> Result<Ring, Fail>

@@ -7,20 +7,15 @@ use Rattle.std.proofs.lemmas.List.Elements.{All-cons}
 use Rattle.std.proofs.lemmas.List.Kept.{AllPairs-cons}
 use Rattle.monomial_order.specs.Monomial.{Exponents, weighted_degree, Divides}
 use Rattle.monomial_order.specs.Orders.{weight_order}
-use Rattle.monomial_order.specs.laws.Lists.{contains_cases}
 use Rattle.word_laws.specs.Words.{variables}
 use Rattle.word_laws.specs.laws.Images.{variables_degrees}
+use Rattle.worked_words.specs.laws.Members.{each_member}
 use Rattle.toric_ideal.specs.Listing.{AreZeros, OrdersByDegrees, IsZero}
 
 -- what holds of the first member and of the others holds of each
 pub all_members : {A : Type 0} (P : A → Type 0) (all : List A) (x : A) (xs : List A) → all ≡ x ∷ xs →
     P x → All P xs → All P all
 all_members P all x xs e p h = subst (All P) (sym e) (All-cons P x xs p h)
-
-pub each_member : {A : Type 0} (P : A → Type 0) (all : List A) (x : A) (xs : List A) → all ≡ x ∷ xs →
-    P x → ((y : A) → Contains xs y → P y) → (y : A) → Contains all y → P y
-each_member P all x xs e p h y i =
-    ⊎_elim (λ q. subst P q p) (h y) (contains_cases x xs y (subst (λ l. Contains l y) e i))
 
 -- one zero more
 pub are_zeros_cons : (degrees : List ℕ) (c : ℕ) (all : List Exponents) (z : Exponents) (zs : List Exponents) →

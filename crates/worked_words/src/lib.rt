@@ -1,4 +1,5 @@
 //! Tests of words and of tables of rules: cases that were worked out by hand, as rows of text.
+//! `zeros` serves other tests too.
 #![tactic(auto)]
 
 #[cfg(test)]
@@ -7,5 +8,4 @@ mod rules;
 mod walk;
 #[cfg(test)]
 mod words;
-#[cfg(test)]
-mod zeros;
+pub mod zeros;

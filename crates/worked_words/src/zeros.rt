@@ -8,13 +8,13 @@ ghost use Rattle.toric_ideal.specs.Listing.{AreZeros, IsZero};
 use monomial_order::Monomial;
 
 /// The greatest degree that is listed to, and of a letter.
-pub(crate) const DEGREE_MAX: u32 = 30_000;
+pub const DEGREE_MAX: u32 = 30_000;
 
-/// The greatest degree at which words may be asked whether they are closed.
-pub(crate) const CLOSING_MAX: u32 = 15_000;
+/// The greatest degree at which words or a quotient may be asked whether they are closed.
+pub const CLOSING_MAX: u32 = 15_000;
 
 /// Whether each degree is from 1 to `DEGREE_MAX`.
-pub(crate) fn are_degrees(degrees: &[u32]) -> bool
+pub fn are_degrees(degrees: &[u32]) -> bool
     ensures { IsTrue result → all_between 1 degree_max degrees.now ≡ true }
 {
     match degrees.split_first() {
@@ -24,7 +24,7 @@ pub(crate) fn are_degrees(degrees: &[u32]) -> bool
 }
 
 /// The degree, if it can be counted.
-pub(crate) fn degree_of(degrees: &[u32], exponents: &[u16]) -> Option<u32>
+pub fn degree_of(degrees: &[u32], exponents: &[u16]) -> Option<u32>
     ensures { IfSome result (λ d. d ≡ weighted_degree degrees.now exponents.now) }
 {
     let (degree, degrees) = match degrees.split_first() {
@@ -75,7 +75,7 @@ fn can_precede(degrees: &[u32], c: u32, z: &Monomial, list: &[Monomial]) -> bool
 }
 
 /// Whether the list can be the zeros of the degree c.
-pub(crate) fn are_zeros(degrees: &[u32], c: u32, zeros: &[Monomial]) -> bool
+pub fn are_zeros(degrees: &[u32], c: u32, zeros: &[Monomial]) -> bool
     ensures { IsTrue result → AreZeros degrees.now c zeros.now }
 {
     match zeros.split_first() {
@@ -105,7 +105,7 @@ fn is_above(degrees: &[u32], d: u32, z: &Monomial) -> bool
 }
 
 /// Whether each member of `some` of degree at most d is in `all`.
-pub(crate) fn has_up_to(degrees: &[u32], d: u32, some: &[Monomial], all: &[Monomial]) -> bool
+pub fn has_up_to(degrees: &[u32], d: u32, some: &[Monomial], all: &[Monomial]) -> bool
     ensures { IsTrue result
         → (z : Exponents) → weighted_degree degrees.now z ≤ d → Contains some.now z → Contains all.now z }
 {

@@ -2,7 +2,7 @@ use Rattle.std.proofs.Common.{◌≤◌}
 use Rattle.monomial_order.specs.Limits.{exponent_max}
 use Rattle.poly_core.specs.Presentation.{weight_order_of}
 use Rattle.monomial_basis.specs.Products.{IsFactor}
-use Rattle.worked_ideals.proofs.ZeroLists.{each_member}
+use Rattle.worked_words.specs.laws.Members.{each_member}
 use Rattle.worked_ideals.proofs.bases.+are_factors.Goals as goal
 
 pub returns-then-is_factor-clause-factors : goal.returns-then-is_factor-clause-factors

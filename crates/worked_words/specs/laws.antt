@@ -1,0 +1,2 @@
+-- Lemmas that tests cite.
+pub mod Members
