@@ -44,9 +44,9 @@ fn take_generator(
     }
     ensure(d <= 30_000, "a great degree")?;
     let s = subduce(alloc, p, b, &t)?;
-    if s.rest.value.lead().is_none() {
+    let Some(_first) = s.rest.value.lead() else {
         return Ok(());
-    }
+    };
     b.push(alloc, p, s.rest)?;
     Ok(())
 }
@@ -122,7 +122,8 @@ fn subduced(
 {
     let value = polynomial(alloc, p, text)?;
     let d = degree(p, &value);
-    ensure(d <= b.words().degree() && d <= 30_000, "out of reach")?;
+    ensure(d <= b.words().degree(), "out of reach")?;
+    ensure(d <= 30_000, "out of reach")?;
     let by = Poly::zero(alloc);
     let s = subduce(alloc, p, b, &Tracked { value, by })?;
     let word_sum = words_text(alloc, p, &s.word_sum)?;
