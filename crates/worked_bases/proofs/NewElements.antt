@@ -5,7 +5,7 @@ use Rattle.word_field.specs.declared.WordField.{WordField}
 use Rattle.monomial_order.specs.declared.weight_order.WeightOrder.{WeightOrder}
 use Rattle.poly_core.specs.Presentation.{weight_order_of}
 use Rattle.poly_core.specs.declared.presentations.Presentation.{Presentation}
-use Rattle.polynomials.specs.Polynomial.{Polynomial, degree_of}
+use Rattle.polynomials.specs.Polynomial.{Polynomial, degree_of, IsCanonical}
 use Rattle.witness.specs.Tracking.{by_order, values_of, IsGradedPair, IsTrackedElement}
 use Rattle.witness.specs.declared.tracked.Tracked.{Tracked}
 use Rattle.worked_rows.specs.Rings.{IsIn}
@@ -37,10 +37,10 @@ module _ (p : Presentation WordField WeightOrder ℕ) (b : BasisState WordField 
     }
 
   -- a polynomial with no witness
-  pub polynomial_can : (a : Polynomial ℕ) → IsIn p a → degree_of (weight_order_of p.order) a ≤ b.words.degree → degree_of (weight_order_of p.order) a ≤ 30000 →
-      CanSubduce (of_ring p) b (record { value = a; by = [] })
-  polynomial_can a c r l = record {
-    canonical = record { value = c; by = record { decreasing = tt; small = tt } };
+  pub polynomial_can : (a none : Polynomial ℕ) → none ≡ [] → IsIn p a → degree_of (weight_order_of p.order) a ≤ b.words.degree → degree_of (weight_order_of p.order) a ≤ 30000 →
+      CanSubduce (of_ring p) b (record { value = a; by = none })
+  polynomial_can a none e c r l = record {
+    canonical = record { value = c; by = subst (IsCanonical (residues p.field.modulus) (by_order b.by_order)) (sym e) (record { decreasing = tt; small = tt }) };
     reach = inl r;
     small = l;
   }
