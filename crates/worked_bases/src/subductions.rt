@@ -25,6 +25,14 @@ const SUM_AND_PRODUCT: &str =
 const SUM_ON_LINES: &str =
     "subalgebra 1\nfield 101\nvars x y\nweights 1 1\norder lex\nideal 1\nx^2 - y^2\ngenerators 1\nx + y\nend\n";
 
+/// The generators x + y, x*y and x^2 + y^2, the last of which is a polynomial in the others.
+const ONE_TOO_MANY: &str =
+    "subalgebra 1\nfield 101\nvars x y\nweights 1 1\norder lex\nideal 0\ngenerators 3\nx + y\nx*y\nx^2 + y^2\nend\n";
+
+/// The generators x^2 + y^2 and x^2 + x*y.
+const QUADRICS: &str =
+    "subalgebra 1\nfield 101\nvars x y\nweights 1 1\norder lex\nideal 0\ngenerators 2\nx^2 + y^2\nx^2 + x*y\nend\n";
+
 /// Adds what is left of a generator, if it has the last degree and something is left.
 fn take_generator(
     alloc: Global,
@@ -167,6 +175,21 @@ fn rests_modulo_an_ideal(rt: HostRuntime) -> Result<(), Fail> {
         "1 | 2 | x*y + y^2 + x + y | s1; x*y + y^2; true",
     ] {
         check(rt.alloc(), SUM_ON_LINES, row)?;
+    }
+    Ok(())
+}
+
+#[test]
+fn elements_of_one_degree(rt: HostRuntime) -> Result<(), Fail> {
+    let row = "2 | 2 | x^2 + y^2 | s1^2 + 99*s2; 0; true";
+    check(rt.alloc(), ONE_TOO_MANY, row)?;
+    // the elements are x*y + 100*y^2 and x^2 + y^2; x*s1 and y*s2 have one image, and so have y^2*s2 and s1^2
+    for row in [
+        "2 | 2 | x*y | s1; y^2; false",
+        "2 | 3 | x^2 + x*y | s1 + s2; 0; false",
+        "2 | 4 | 3*x^2 | 3*s2; 98*y^2; true",
+    ] {
+        check(rt.alloc(), QUADRICS, row)?;
     }
     Ok(())
 }
