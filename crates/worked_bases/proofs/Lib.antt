@@ -1,3 +1,4 @@
 mod Elements
 mod HomogeneousElements
+mod NewElements
 mod WordsTo

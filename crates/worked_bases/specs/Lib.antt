@@ -1,3 +1,4 @@
 pub mod Elements
+pub mod LowBases
 pub mod Rings
 pub mod WordsTo

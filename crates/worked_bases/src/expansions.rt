@@ -35,7 +35,11 @@ struct Basis {
 }
 
 /// A generator that is not zero.
-fn nonzero_generator(alloc: Global, p: &Ring, i: usize) -> Result<Tracked<WordField>, Fail>
+pub(crate) fn nonzero_generator(
+    alloc: Global,
+    p: &Ring,
+    i: usize,
+) -> Result<Tracked<WordField>, Fail>
     requires valid { IsRing p.now }
     requires inside { i < length p.now.generators.items }
     ensures { IfOk result (IsGeneratorElement p.now) }

@@ -5,4 +5,6 @@
 #[cfg(test)]
 mod expansions;
 #[cfg(test)]
+mod subductions;
+#[cfg(test)]
 mod values;
