@@ -134,7 +134,12 @@ variable_divides (suc i) [] h j = absurd (omega arith)
 variable_divides (suc i) (e ∷ u) h zero = omega arith
 variable_divides (suc i) (e ∷ u) h (suc j) = variable_divides i u h j
 
--- and has no exponent at another place
+-- it has the exponent 1 there
+pub variable_at : (i : ℕ) → exponent (variable i) i ≡ 1
+variable_at zero = refl
+variable_at (suc i) = variable_at i
+
+-- and no exponent at another place
 pub variable_off : (i j : ℕ) → i ≢ j → exponent (variable i) j ≡ 0
 variable_off zero zero h = absurd (h refl)
 variable_off zero (suc j) h = refl

@@ -3,7 +3,7 @@ use Rattle.std.proofs.Common.{◌≡◌, ℕ, zero, suc, ◌+◌, ◌*◌, ◌<�
 use Rattle.std.specs.Prelude.{map}
 use Rattle.monomial_order.specs.Monomial.{Exponents, exponent, IsMonomial, product, variable, weighted_degree}
 use Rattle.word_laws.specs.Words.{monomial_power, image, variables}
-use Rattle.monomial_order.specs.laws.Monomial.{product_assoc, product_comm, product-one, IsMonomial-product, exponent-product, weighted_nil, variable_off, variable_monomial}
+use Rattle.monomial_order.specs.laws.Monomial.{product_assoc, product_comm, product-one, IsMonomial-product, exponent-product, weighted_nil, variable_at, variable_off, variable_monomial}
 use Rattle.monomial_order.specs.laws.Cofactors.{same_exponents}
 use Rattle.monomial_order.specs.MonomialOrder.{MonomialOrder, IsMonomialOrder}
 use Rattle.monomial_order.specs.laws.Comparing.{degree_one}
@@ -112,10 +112,6 @@ image_front (e ∷ w) [] ns l = absurd (omega arith)
 image_front (e ∷ w) (m ∷ ms) ns l = ap (product (monomial_power m e)) (image_front w ms ns (omega arith))
 
 -- the exponents of the image of a word over the variables
-variable_at : (i : ℕ) → exponent (variable i) i ≡ 1
-variable_at zero = refl
-variable_at (suc i) = variable_at i
-
 exponent_power : (j : ℕ) (m : Exponents) (e : ℕ) → exponent (monomial_power m e) j ≡ exponent m j * e
 exponent_power j m e = power_sum (λ x. exponent x j) refl (λ x y. exponent-product x y j) m e
 
