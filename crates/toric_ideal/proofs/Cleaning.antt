@@ -16,14 +16,14 @@ use Rattle.word_rewriting.specs.laws.Criterion.{decreasing_rules}
 use Rattle.word_rewriting.specs.laws.Rewriting.{none_stays}
 use Rattle.word_rewriting.specs.laws.NormalForms.{rewrites_image}
 use Rattle.word_rules.specs.Rules.{no_rule, rule_at, AreDecreasing, IsSmallWord}
-use Rattle.toric_ideal.specs.Step.{AreSmallRules, IsCleaned, IsRewrittenAt, KeepsFirst}
+use Rattle.toric_ideal.specs.Step.{AreSmallRules, IsCleaned, IsRewrittenAt, KeepsFirst, KeepsLefts}
 
 -- a rule of the list is that at an index
 pub rule_index : (S : List RewriteRule) (r : RewriteRule) → Contains S r → (i : ℕ) × (i < length S) × (rule_at S i ≡ r)
 rule_index S r h = let l = h.1 in (h.0, l, get_or_default S h.0 no_rule r l ∙ h.2)
 
 -- rules with the same left sides have the same words in normal form
-pub same_lefts : (S T : List RewriteRule) → length T ≡ length S → ((k : ℕ) → (rule_at T k).left ≡ (rule_at S k).left) → (a : WordOrZero) → IsInNormalForm S a → IsInNormalForm T a
+pub same_lefts : (S T : List RewriteRule) → length T ≡ length S → KeepsLefts S T → (a : WordOrZero) → IsInNormalForm S a → IsInNormalForm T a
 same_lefts S T n e None h = tt
 same_lefts S T n e (Some w) h =
     λ d. let i = rule_index T d.0 d.1 in
@@ -80,7 +80,7 @@ module _ (L : Letters) (H : AreLetters L) (Z : List Exponents) (S : List Rewrite
     here : rule_at T i ≡ t
     here = get_or-set_same S i t no_rule l
 
-    lefts : (k : ℕ) → (rule_at T k).left ≡ (rule_at S k).left
+    lefts : KeepsLefts S T
     lefts k = ⊎_elim (λ e. ap (λ j. (rule_at T j).left) e ∙ (ap (λ (y : RewriteRule). y.left) here ∙ ap (λ j. (rule_at S j).left) (sym e))) (λ ne. ap (λ (y : RewriteRule). y.left) (get_or-set_other S i k t no_rule ne)) (numbers_or_not k i)
 
     pub rewritten_at : IsRewrittenAt L Z S (set S i (record { left = (rule_at S i).left; right = a })) i

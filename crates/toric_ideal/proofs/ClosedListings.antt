@@ -3,7 +3,7 @@ use Rattle.std.proofs.Common.{◌≡◌, ℕ, ◌+◌, ◌<◌, ◌≤◌, sym, 
 use Rattle.std.proofs.lemmas.List.{get_or_default}
 use Rattle.monomial_order.specs.Monomial.{Exponents, Divides, IsMultiple, AreCoprime}
 use Rattle.monomial_order.specs.laws.Comparing.{le_or_not}
-use Rattle.monomial_order.specs.laws.Lists.{contains_at}
+use Rattle.monomial_order.specs.laws.Lists.{contains_at, map_contains}
 use Rattle.word_laws.specs.Words.{Letters, word_order_of}
 use Rattle.word_laws.specs.laws.Reducible.{multiple_closed}
 use Rattle.word_rewriting.specs.Rewriting.{RewriteRule, HasJoinablePair, HasLeftDivisor}
@@ -19,7 +19,6 @@ use Rattle.toric_ideal.specs.Listing.{HasRuleDivisor, IsClosed, IsListing}
 use Rattle.toric_ideal.specs.Rewriting.{rewrite_rule}
 use Rattle.toric_ideal.specs.State.{listing_of, IsSound}
 use Rattle.toric_ideal.specs.Step.{pair_degree}
-use Rattle.toric_ideal.proofs.Members.{contains_mapped}
 use Rattle.toric_ideal.proofs.SoundListings.{leads_low, sound_exact}
 
 module _ (w : Completion) (s : IsSound w) where
@@ -31,7 +30,7 @@ module _ (w : Completion) (s : IsSound w) where
 
   rule_divisor : (v : Exponents) → HasLeftDivisor w.table v → HasRuleDivisor w.rules.items v
   rule_divisor v d =
-      let x = contains_mapped rewrite_rule w.rules.items d.0 (s.same.back d.0 d.1) in
+      let x = map_contains rewrite_rule w.rules.items d.0 (s.same.back d.0 d.1) in
       (x.0, x.1, subst (λ (t : RewriteRule). Divides t.left v) (sym x.2) d.2)
 
   left_divisor : (v : Exponents) → HasRuleDivisor w.rules.items v → HasLeftDivisor w.table v

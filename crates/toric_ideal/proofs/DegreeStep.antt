@@ -6,11 +6,11 @@ use Rattle.std.proofs.Common.{◌≡◌, ℕ, suc, ◌<◌, ◌≤◌, append-ni
 use Rattle.std.specs.Prelude.{Contains, AllPairs}
 use Rattle.monomial_order.specs.Monomial.{Exponents, Divides, IsMultiple, AreCoprime, least_common_multiple as lcm, weighted_degree}
 use Rattle.monomial_order.specs.laws.Comparing.{equal_or_not, proper_divisor, le_or_not}
-use Rattle.monomial_order.specs.laws.Lists.{contains_at, contains_cases, contains_here, contains_left, contains_none, contains_right, contains_either}
+use Rattle.monomial_order.specs.laws.Lists.{contains_at, contains_cases, contains_here, contains_left, contains_none, contains_right, contains_either, contains_one}
 use Rattle.word_laws.specs.Words.{Letters, AreLetters, word_order_of, image_of, IsWord}
 use Rattle.word_laws.specs.laws.Words.{word_laws, degree_image, degree_x, x_word, image_same}
 use Rattle.word_laws.specs.laws.Reducible.{multiple_closed}
-use Rattle.word_rewriting.specs.Rewriting.{WordOrZero, RewriteRule, multiple, Rewrites, AreJoinable, IsInNormalForm, IsNormalForm, IsCriticalPair, HasJoinablePair, JoinsPair}
+use Rattle.word_rewriting.specs.Rewriting.{WordOrZero, RewriteRule, multiple, Rewrites, AreJoinable, IsInNormalForm, IsNormalForm, IsCriticalPair, HasJoinablePair, JoinsPair, KeepsRules}
 use Rattle.word_rewriting.specs.Completeness.{lead_letter, AreInX, IsRightSide, HasImage, GeneratesReducible, AreComplete}
 use Rattle.word_rewriting.specs.laws.Complete.{zero_multiples, complete_generates, generates_complete}
 use Rattle.word_rewriting.specs.laws.Completion.{oriented_joins, pairs_above}
@@ -55,7 +55,7 @@ module _ (L : Letters) (H : AreLetters L) (Z : List Exponents) (in_x : AreInX L 
         ⊎_elim (λ a. let e = exact.degree r a in omega arith) (λ b. let e = k.degree r b in omega arith)
         (contains_either R k.more r (subst (λ xs. Contains xs r) k.whole h))
 
-    step_old : (S : List RewriteRule) → IsStep L Z d R S → (r : RewriteRule) → Contains R r → Contains S r
+    step_old : (S : List RewriteRule) → IsStep L Z d R S → KeepsRules R S
     step_old S k r h = subst (λ xs. Contains xs r) (sym k.whole) (contains_left R k.more r h)
 
     -- a further rule of degree d, whose left side is in normal form
@@ -73,9 +73,6 @@ module _ (L : Letters) (H : AreLetters L) (Z : List Exponents) (in_x : AreInX L 
         push_cases : (P : RewriteRule → Type 0) → ((r : RewriteRule) → Contains S r → P r) → P t → (r : RewriteRule) → Contains (S ++ t ∷ []) r → P r
         push_cases P h p r c = ⊎_elim (h r) (λ b. ⊎_elim (λ e. subst P e p) (λ z. absurd (contains_none r z)) (contains_cases t [] r b)) (contains_either S (t ∷ []) r c)
 
-        is_t : (r : RewriteRule) → Contains (t ∷ []) r → t ≡ r
-        is_t r b = ⊎_elim (λ e. e) (λ z. absurd (contains_none r z)) (contains_cases t [] r b)
-
         -- a left side that the new one divides has its degree, so it is the same
         same_degree : (r : RewriteRule) → Contains S r → Divides t.left r.left → t.left ≡ r.left
         same_degree r h e =
@@ -87,9 +84,9 @@ module _ (L : Letters) (H : AreLetters L) (Z : List Exponents) (in_x : AreInX L 
         apart r s hr hs e =
             ⊎_elim
             (λ a. ⊎_elim (λ b. k.apart r s a b e)
-            (λ b. let q = is_t s b in ap (λ (x : RewriteRule). x.left) (sym q) ∙ same_degree r a (subst (λ x. Divides x.left r.left) (sym q) e)) hs)
-            (λ a. let p = is_t r a in ⊎_elim (λ b. absurd (normal (s, b, subst (λ x. Divides s.left x.left) (sym p) e)))
-            (λ b. ap (λ (x : RewriteRule). x.left) (sym (is_t s b) ∙ p)) hs)
+            (λ b. let q = contains_one t s b in ap (λ (x : RewriteRule). x.left) (sym q) ∙ same_degree r a (subst (λ x. Divides x.left r.left) (sym q) e)) hs)
+            (λ a. let p = contains_one t r a in ⊎_elim (λ b. absurd (normal (s, b, subst (λ x. Divides s.left x.left) (sym p) e)))
+            (λ b. ap (λ (x : RewriteRule). x.left) (sym (contains_one t s b) ∙ p)) hs)
             hr
 
         above : (i j : ℕ) → i < j → length R ≤ j → j < length (S ++ t ∷ []) → d < pair_degree (word_order_of L) (S ++ t ∷ []) i j
@@ -112,7 +109,7 @@ module _ (L : Letters) (H : AreLetters L) (Z : List Exponents) (in_x : AreInX L 
     abbrev pub IsDone : List RewriteRule → RewriteRule → RewriteRule → Type 0
     IsDone S r s = AreCoprime r.left s.left ⊎ (AreBothZero r s ⊎ HasJoinablePair S r s)
 
-    done_more : (S T : List RewriteRule) → ((r : RewriteRule) → Contains S r → Contains T r) → (r s : RewriteRule) → HasJoinablePair S r s → HasJoinablePair T r s
+    done_more : (S T : List RewriteRule) → KeepsRules S T → (r s : RewriteRule) → HasJoinablePair S r s → HasJoinablePair T r s
     done_more S T more r s h a b p = more_joinable S T more a b (h a b p)
 
     both_zero : (S : List RewriteRule) (r s : RewriteRule) → AreBothZero r s → HasJoinablePair S r s

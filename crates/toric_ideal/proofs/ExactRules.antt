@@ -6,7 +6,7 @@ use Rattle.monomial_order.specs.MonomialOrder.{IsIncreasing}
 use Rattle.monomial_order.specs.laws.Comparing.{divisor_degree, three_ways}
 use Rattle.word_laws.specs.Words.{Letters, AreLetters, word_order_of, image_of, IsWord, IsLeast, IsSmaller, IsReducible, IsMinimalReducible}
 use Rattle.word_laws.specs.laws.Words.{word_laws}
-use Rattle.monomial_order.specs.laws.Lists.{contains_map}
+use Rattle.monomial_order.specs.laws.Lists.{contains_map, map_contains}
 use Rattle.word_laws.specs.laws.Reducible.{multiple_closed, multiple_decided, reducible_exactly}
 use Rattle.word_rewriting.specs.Rewriting.{WordOrZero, RewriteRule, IsInNormalForm}
 use Rattle.word_rewriting.specs.Completeness.{AreRewriteRules, IsRightSide, IsLeastOrZero}
@@ -15,7 +15,6 @@ use Rattle.word_rewriting.specs.laws.NormalForms.{minimal_left, divided_reducibl
 use Rattle.toric_ideal.specs.declared.rule.Rule.{Rule}
 use Rattle.toric_ideal.specs.Listing.{AreRules}
 use Rattle.toric_ideal.specs.Rewriting.{rewrite_rule, rewrite_rules, AreExactRules, AreSameRules}
-use Rattle.toric_ideal.proofs.Members.{contains_mapped}
 
 module _ (L : Letters) (H : AreLetters L) (Z : List Exponents) where
   -- a word of a rule is reducible, so the least word of its image is smaller
@@ -36,10 +35,10 @@ module _ (L : Letters) (H : AreLetters L) (Z : List Exponents) where
   rules_exact d rules h = record {
     rules = are;
     reduced = record {
-      right = λ r c. let x = contains_mapped rewrite_rule rules r c in subst (λ t. IsInNormalForm (rewrite_rules rules) t.right) x.2 (normal (image_of L x.0.word) x.0.least (h.least x.0 x.1));
+      right = λ r c. let x = map_contains rewrite_rule rules r c in subst (λ t. IsInNormalForm (rewrite_rules rules) t.right) x.2 (normal (image_of L x.0.word) x.0.least (h.least x.0 x.1));
       left = λ r s c k e.
-          let x = contains_mapped rewrite_rule rules r c in
-          let y = contains_mapped rewrite_rule rules s k in
+          let x = map_contains rewrite_rule rules r c in
+          let y = map_contains rewrite_rule rules s k in
           let m = h.minimal x.0 x.1 in
           let n = h.minimal y.0 y.1 in
           let p : y.0.word ≡ s.left = ap (λ (t : RewriteRule). t.left) y.2 in
@@ -51,12 +50,12 @@ module _ (L : Letters) (H : AreLetters L) (Z : List Exponents) where
         let e = divisor_degree (word_order_of L) (word_laws L H) u.0 w u.1.word.trimmed hw.trimmed u.2 in
         let r = h.all u.0 u.1 (omega arith) in
         (rewrite_rule r.0, contains_map rewrite_rule rules r.0 r.1, subst (λ x. Divides x w) (sym r.2) u.2);
-    degree = λ r c. let x = contains_mapped rewrite_rule rules r c in subst (λ (t : RewriteRule). (word_order_of L).degree t.left ≤ d) x.2 (h.degree x.0 x.1);
+    degree = λ r c. let x = map_contains rewrite_rule rules r c in subst (λ (t : RewriteRule). (word_order_of L).degree t.left ≤ d) x.2 (h.degree x.0 x.1);
   }
     where
       are : AreRewriteRules (IsMultiple Z) L (rewrite_rules rules)
       are r c =
-          let x = contains_mapped rewrite_rule rules r c in
+          let x = map_contains rewrite_rule rules r c in
           let m = h.minimal x.0 x.1 in
           subst (λ (t : RewriteRule). IsWord L t.left × IsRightSide (IsMultiple Z) L t.left t.right) x.2 (m.word, right_side x.0.word x.0.least m.word m.reducible (h.least x.0 x.1))
 
@@ -74,7 +73,7 @@ module _ (L : Letters) (H : AreLetters L) (Z : List Exponents) where
     least = λ r c. (exact (rewrite_rule r) (same.there r c)).1;
     all = λ w m l.
         let u = minimal_left (IsMultiple Z) L H R h.rules (multiple_closed (length L.degrees) Z) d h.generates w m.word l m in
-        let x = contains_mapped rewrite_rule rules u.rule (same.back u.rule u.listed) in
+        let x = map_contains rewrite_rule rules u.rule (same.back u.rule u.listed) in
         (x.0, x.1, ap (λ (t : RewriteRule). t.left) x.2 ∙ u.left);
   }
     where
@@ -97,4 +96,4 @@ module _ (L : Letters) (H : AreLetters L) (Z : List Exponents) where
   pub listed_exact : (d : ℕ) (R : List RewriteRule) (rules : List Rule) → AreRules L Z d rules → AreSameRules rules R → AreExactRules L Z d R
   listed_exact d R rules h same =
       exact_same d (rewrite_rules rules) R
-      (λ r c. let x = contains_mapped rewrite_rule rules r c in subst (Contains R) x.2 (same.there x.0 x.1)) same.back (rules_exact d rules h)
+      (λ r c. let x = map_contains rewrite_rule rules r c in subst (Contains R) x.2 (same.there x.0 x.1)) same.back (rules_exact d rules h)

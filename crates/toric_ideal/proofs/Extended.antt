@@ -4,8 +4,8 @@ use Rattle.std.specs.Prelude.{Contains}
 use Rattle.std.proofs.lemmas.List.{map-append}
 use Rattle.monomial_order.specs.Monomial.{Exponents, IsMultiple}
 use Rattle.monomial_order.specs.MonomialOrder.{IsIncreasing}
-use Rattle.monomial_order.specs.laws.Comparing.{le_or_not}
-use Rattle.monomial_order.specs.laws.Lists.{contains_at, contains_either, contains_left, contains_map, contains_right}
+use Rattle.monomial_order.specs.laws.Comparing.{le_or_not, increasing_append}
+use Rattle.monomial_order.specs.laws.Lists.{contains_at, contains_either, contains_left, contains_map, contains_right, map_contains}
 use Rattle.word_laws.specs.Words.{Letters, AreLetters, word_order_of, image_of}
 use Rattle.word_laws.specs.laws.Words.{word_laws}
 use Rattle.word_laws.specs.laws.Reducible.{multiple_closed, least_unique}
@@ -20,9 +20,7 @@ use Rattle.toric_ideal.specs.SortedRules.{words_of, AreSortedRules}
 use Rattle.toric_ideal.specs.Step.{IsExtension}
 use Rattle.toric_ideal.proofs.Cleaning.{rule_index}
 use Rattle.toric_ideal.proofs.ExactRules.{exact_rules}
-use Rattle.toric_ideal.proofs.IncreasingLists.{increasing_append}
 use Rattle.toric_ideal.proofs.JoiningPairs.{same_rule}
-use Rattle.toric_ideal.proofs.Members.{contains_mapped}
 
 module _ (L : Letters) (H : AreLetters L) (Z : List Exponents) where
   one_least : (m : Exponents) (a b : WordOrZero) → IsLeastOrZero (IsMultiple Z) L m a → IsLeastOrZero (IsMultiple Z) L m b → a ≡ b
@@ -72,10 +70,10 @@ module _ (L : Letters) (H : AreLetters L) (Z : List Exponents) where
     extended_rules =
         exact_rules L H Z d T (dense ++ new) x.exact extended_same
         (subst (IsIncreasing (word_order_of L)) (sym (map-append (λ (r : Rule). r.word) dense new))
-        (increasing_append (word_order_of L) (word_laws L H) (words_of dense) (words_of new) rules.increasing sorted.increasing
+        (increasing_append (word_order_of L) (words_of dense) (words_of new) rules.increasing sorted.increasing
         (λ k m a b.
-        let p = contains_mapped (λ (r : Rule). r.word) dense k a in
-        let q = contains_mapped (λ (r : Rule). r.word) new m b in
+        let p = map_contains (λ (r : Rule). r.word) dense k a in
+        let q = map_contains (λ (r : Rule). r.word) new m b in
         let y = sorted.there q.0 q.1 in
         let f = x.fresh y.0 y.1 y.2 in
         let e : (word_order_of L).degree p.0.word ≡ (word_order_of L).degree k = ap (word_order_of L).degree p.2 in

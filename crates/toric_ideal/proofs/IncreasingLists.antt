@@ -5,7 +5,7 @@ use Rattle.std.proofs.Math.ListN.{drop_of_length-le}
 use Rattle.std.proofs.lemmas.List.{take-append-drop}
 use Rattle.std.specs.declared.cmp.Ordering.TheVariants.{Less}
 use Rattle.monomial_order.specs.MonomialOrder.{IsIncreasing, IsMonomialOrder, MonomialOrder}
-use Rattle.monomial_order.specs.laws.Comparing.{le_or_not, increasing_below, increasing_cons, increasing_tail, three_ways}
+use Rattle.monomial_order.specs.laws.Comparing.{le_or_not, increasing_below, increasing_cons, increasing_tail, three_ways, increasing_append}
 use Rattle.monomial_order.specs.laws.Lists.{contains_at, contains_cases, contains_here, contains_left, contains_none, contains_right, contains_there}
 use Rattle.toric_ideal.specs.Increasing.{IsInsertionIndex, IsInserted, IsSorted}
 use Rattle.std.proofs.lemmas.List.Elements.{Contains-append_cases}
@@ -101,12 +101,6 @@ module _ (O : MonomialOrder) (W : IsMonomialOrder O) where
   pub index_first : (ms : List (List ℕ)) (m : List ℕ) → IsIndexFrom O ms m 0 → IsInsertionIndex O ms m 0
   index_first ms m h = record { within = h.within; before = λ k c. absurd (contains_none k c); after = h.after }
 
-  pub increasing_append : (ks ms : List (List ℕ)) → IsIncreasing O ks → IsIncreasing O ms → ((k m : List ℕ) → Contains ks k → Contains ms m → O.compare k m ≡ Less) → IsIncreasing O (ks ++ ms)
-  increasing_append [] ms r s h = s
-  increasing_append (k ∷ ks) ms r s h =
-      increasing_cons O k (ks ++ ms) (λ n c. ⊎_elim (λ a. increasing_below O W k ks r n a) (λ b. h k n (contains_here k ks) b) (Contains-append_cases ks ms n c))
-      (increasing_append ks ms (increasing_tail O k ks r) s (λ x y c d. h x y (contains_there k ks x c) d))
-
   increasing_take : (i : ℕ) (ms : List (List ℕ)) → IsIncreasing O ms → IsIncreasing O (take i ms)
   increasing_take zero ms r = tt
   increasing_take (suc i) [] r = tt
@@ -132,7 +126,7 @@ module _ (O : MonomialOrder) (W : IsMonomialOrder O) where
   insert_new ms m i r p n =
       let above = above_all ms m i r p n in
       record {
-        increasing = increasing_append (take i ms) (m ∷ drop i ms) (increasing_take i ms r) (increasing_cons O m (drop i ms) above (increasing_drop i ms r))
+        increasing = increasing_append O (take i ms) (m ∷ drop i ms) (increasing_take i ms r) (increasing_cons O m (drop i ms) above (increasing_drop i ms r))
             (λ k x c d. ⊎_elim (λ e. subst (λ y. O.compare k y ≡ Less) e (p.before k c)) (λ later. W.total.trans k m x (p.before k c) (above x later)) (contains_cases m (drop i ms) x d));
         here = contains_right (take i ms) (m ∷ drop i ms) m (contains_here m (drop i ms));
         keeps = λ k c. ⊎_elim (λ a. contains_left (take i ms) (m ∷ drop i ms) k a) (λ b. contains_right (take i ms) (m ∷ drop i ms) k (contains_there m (drop i ms) k b)) (contains_parts ms i k c);

@@ -5,13 +5,13 @@ use Rattle.std.proofs.lemmas.List.{get_or-take}
 use Rattle.monomial_order.specs.Monomial.{least_common_multiple as lcm}
 use Rattle.monomial_order.specs.MonomialOrder.{MonomialOrder}
 use Rattle.monomial_order.specs.laws.Lists.{contains_cases, contains_there}
-use Rattle.word_rewriting.specs.Rewriting.{RewriteRule, HasJoinablePair}
+use Rattle.word_rewriting.specs.Rewriting.{RewriteRule, HasJoinablePair, KeepsRules}
 use Rattle.word_rewriting.specs.laws.Rewriting.{more_joinable}
 use Rattle.word_rules.specs.Rules.{no_rule, rule_at}
 use Rattle.degree_queue.specs.DegreeQueue.{list_of, SameElsewhere}
 use Rattle.toric_ideal.specs.declared.index_pair.IndexPair.{IndexPair}
 use Rattle.toric_ideal.specs.Queue.{pair, IsNeedless, IsNeedlessPair, IsQueued, JoinsOrLists}
-use Rattle.toric_ideal.specs.Step.{pair_degree, IsPairAt, KeepsFirst, KeepsRules}
+use Rattle.toric_ideal.specs.Step.{pair_degree, IsPairAt, KeepsFirst}
 
 -- the queue, while the pairs of degree c + 1 are joined
 pub record IsJoining (O : MonomialOrder) (c first : ℕ) (S : List RewriteRule) (queue : List (List IndexPair)) : Type 0 where

@@ -1,10 +1,10 @@
 -- Members of the parts of lists.
 use Rattle.std.proofs.Common.{◌≡◌, ℕ, suc, ◌<◌, ◌≤◌, sym, ◌∙◌, subst, List, [], ◌∷◌, length, take, drop, get_or, arith, drop-cons, ◌⊎◌, inl, inr, ⊎_elim}
-use Rattle.std.specs.Prelude.{Contains, map}
+use Rattle.std.specs.Prelude.{Contains}
 use Rattle.std.proofs.Math.Seq.{drop-length, take-suc}
 use Rattle.std.proofs.lemmas.List.{get_or-take, length-take-le, take-append-drop, take_all}
 use Rattle.std.proofs.lemmas.List.Elements.{Contains-append_cases, Contains-append_left, Contains-append_right, Contains-push, Contains-push_cases}
-use Rattle.monomial_order.specs.laws.Lists.{contains_at, contains_cases, contains_here, contains_none, contains_there}
+use Rattle.monomial_order.specs.laws.Lists.{contains_at, contains_cases, contains_none}
 
 -- a member of the first i + 1 is that at i, or one of the first i
 pub take_next : {A : Type 0} (xs : List A) (i : ℕ) (d : A) → i < length xs → (z : A) → Contains (take (suc i) xs) z → (get_or xs i d ≡ z) ⊎ Contains (take i xs) z
@@ -41,9 +41,3 @@ take_index xs i z l h = let n = length-take-le i xs l in let k = h.1 in let b : 
 -- the item of a loop over a list
 pub item_contained : {A : Type 0} (xs items : List A) (i : ℕ) (x : A) → items ≡ xs → i < length items → x ≡ get_or items i x → Contains xs x
 item_contained xs items i x e l q = subst (λ ys. Contains ys x) e (subst (Contains items) (sym q) (contains_at items i x l))
-
--- a member of the images is the image of a member
-pub contains_mapped : {A B : Type 0} (f : A → B) (xs : List A) (y : B) → Contains (map f xs) y → (x : A) × Contains xs x × (f x ≡ y)
-contains_mapped f [] y h = absurd (contains_none y h)
-contains_mapped f (x ∷ xs) y h =
-    ⊎_elim (λ e. (x, contains_here x xs, e)) (λ k. let r = contains_mapped f xs y k in (r.0, contains_there x xs r.0 r.1, r.2)) (contains_cases (f x) (map f xs) y h)

@@ -1,11 +1,10 @@
 -- One lead more: its letter is irreducible, and with a rule for the least word of the lead the rules generate as before.
 use Rattle.std.proofs.Common.{◌≡◌, ◌≢◌, ℕ, ◌+◌, ◌≤◌, sym, ◌∙◌, ap, subst, List, [], ◌∷◌, length, arith, ◌⊎◌, inl, inr, ⊎_elim, Some, None}
 use Rattle.std.specs.Prelude.{Contains}
-use Rattle.std.specs.declared.cmp.Ordering.TheVariants.{Less}
 use Rattle.monomial_order.specs.Monomial.{Exponents, Divides, IsMonomial, IsMultiple}
 use Rattle.monomial_order.specs.laws.Cofactors.{Divides-trans}
-use Rattle.monomial_order.specs.laws.Comparing.{degree_falls, equal_or_not, not_below_self, proper_divisor, three_ways}
-use Rattle.monomial_order.specs.laws.Lists.{contains_here}
+use Rattle.monomial_order.specs.laws.Comparing.{degree_falls, equal_or_not, proper_divisor, three_ways}
+use Rattle.monomial_order.specs.laws.Lists.{contains_one}
 use Rattle.word_laws.specs.Words.{Letters, AreLetters, word_order_of, image_of, IsWord, IsLeast, IsSmaller, IsReducible}
 use Rattle.word_laws.specs.laws.Words.{word_laws, degree_image, degree_same, degree_x, image_x}
 use Rattle.word_rewriting.specs.Rewriting.{WordOrZero, RewriteRule, HasLeftDivisor, IsInNormalForm}
@@ -14,7 +13,7 @@ use Rattle.word_rewriting.specs.Renumbering.{AreLastLeads}
 use Rattle.word_rewriting.specs.laws.NormalForms.{divided_reducible}
 use Rattle.word_laws.specs.laws.Reducible.{multiple_closed}
 use Rattle.word_rewriting.specs.laws.MoreLeads.{compare_stays, image_stays, smaller_stays, word_stays, new_image, new_letter_smaller}
-use Rattle.word_rewriting.specs.laws.Renumbering.{last_letters, word_cases}
+use Rattle.word_rewriting.specs.laws.Renumbering.{last_letters, word_cases, in_x_not_one, last_irreducible}
 use Rattle.toric_ideal.specs.Rewriting.{AreExactRules}
 use Rattle.toric_ideal.specs.Step.{IsWithLetter}
 
@@ -30,7 +29,7 @@ module _ (L : Letters) (H : AreLetters L) (Z : List Exponents) (d : ℕ) (m : Ex
   HM = last_letters L H d (m ∷ []) K
 
   new : (x : Exponents) → Contains (m ∷ []) x → IsMonomial (length L.degrees) x × (x ≢ [])
-  new x k = (K.in_x x k, K.not_one x k)
+  new = in_x_not_one L H d (m ∷ []) K
 
   letter_image : image_of M letter ≡ m
   letter_image = new_image L H (m ∷ []) new 0
@@ -42,18 +41,7 @@ module _ (L : Letters) (H : AreLetters L) (Z : List Exponents) (d : ℕ) (m : Ex
       (degree_x M HM (image_of L v) (image_x L H v) ∙ (sym (degree_x L H (image_of L v) (image_x L H v)) ∙ degree_image L H v)))
 
   pub letter_irreducible : IsReducible (IsMultiple Z) M letter → ⊥
-  letter_irreducible r = ⊎_elim (λ z. standard (subst (IsMultiple Z) letter_image z)) (λ s. smaller s.0 s.1) r
-    where
-      smaller : (v : Exponents) → IsSmaller M letter v → ⊥
-      smaller v s =
-          let e = degree_same M HM v letter s.image in
-          let f : (word_order_of M).degree letter ≡ d = sym (degree_image M HM letter) ∙ (ap (word_order_of M).degree letter_image ∙ (degree_x M HM m (K.in_x m (contains_here m [])) ∙ K.degree m (contains_here m []))) in
-          ⊎_elim
-          (λ k. not_below_self (word_order_of M) (word_laws M HM) v ((word_laws M HM).total.trans v letter v s.less
-          (new_letter_smaller L H (m ∷ []) new 0 (omega arith) v k (sym (image_stays L (m ∷ []) v k) ∙ (s.image ∙ letter_image))).less))
-          (λ j. let z : j.0 ≡ 0 = let b = j.1 in omega arith in
-          not_below_self (word_order_of M) (word_laws M HM) letter (subst (λ x. (word_order_of M).compare x letter ≡ Less) (j.2 ∙ ap (λ i. lead_letter L (length L.leads + i)) z) s.less))
-          (word_cases L H d (m ∷ []) K v s.word (omega arith))
+  letter_irreducible = last_irreducible L H d (m ∷ []) K (IsMultiple Z) (λ x k z. standard (subst (IsMultiple Z) (sym (contains_one m x k)) z)) 0 (omega arith)
 
   -- a word of L other than w that is reducible in M is reducible in L
   older_reducible : (v : Exponents) → IsWord L v → v ≢ w → (word_order_of M).degree v ≤ d → IsReducible (IsMultiple Z) M v → IsReducible (IsMultiple Z) L v

@@ -8,7 +8,7 @@ use Rattle.monomial_order.specs.Monomial.{Exponents, variable, weighted_degree, 
 use Rattle.monomial_order.specs.MonomialOrder.{IsIncreasing, MonomialOrder}
 use Rattle.monomial_order.specs.laws.Monomial.{variable_length, variable_off, weighted_nil, IsMonomial-least_common_multiple}
 use Rattle.monomial_order.specs.laws.Comparing.{proper_divisor}
-use Rattle.monomial_order.specs.laws.Lists.{contains_at, contains_cases, contains_either, contains_here, contains_left, contains_map, contains_none, contains_right, contains_there}
+use Rattle.monomial_order.specs.laws.Lists.{contains_at, contains_cases, contains_either, contains_here, contains_left, contains_map, contains_none, contains_right, contains_there, map_contains, contains_one}
 use Rattle.word_laws.specs.Words.{Letters, AreLetters, lead_degrees, word_order_of, IsWord, IsLeast, IsReducible}
 use Rattle.word_laws.specs.laws.Words.{word_laws, degree_image, degree_x, x_word}
 use Rattle.word_rewriting.specs.Rewriting.{RewriteRule}
@@ -35,7 +35,7 @@ use Rattle.toric_ideal.specs.SortedRules.{words_of, IsInsertedRule}
 use Rattle.toric_ideal.specs.State.{listing_of, IsSound}
 use Rattle.toric_ideal.specs.Step.{pair_degree, IsWithLetter}
 use Rattle.toric_ideal.proofs.ExactRules.{exact_rules}
-use Rattle.toric_ideal.proofs.Members.{contains_drop, contains_mapped, contains_parts, contains_take}
+use Rattle.toric_ideal.proofs.Members.{contains_drop, contains_parts, contains_take}
 use Rattle.toric_ideal.proofs.NewLead.{degree_stays, lead_exact}
 use Rattle.toric_ideal.proofs.Renamings.{lead_renamed, listed_rule, renamed_from, renamed_of, renamed_unique, rewrite_length}
 use Rattle.toric_ideal.proofs.RuleLists.{inserted_new, word_at, words_length}
@@ -50,9 +50,6 @@ increasing_alike O P (m ∷ (n ∷ ms)) same h = (
   same m n (contains_here m (n ∷ ms)) (contains_there m (n ∷ ms) n (contains_here n ms)) ∙ h.0,
   increasing_alike O P (n ∷ ms) (λ v w a b. same v w (contains_there m (n ∷ ms) v a) (contains_there m (n ∷ ms) w b)) h.1,
 )
-
-only_one : (m x : Exponents) → Contains (m ∷ []) x → m ≡ x
-only_one m x h = ⊎_elim (λ e. e) (λ z. absurd (contains_none x z)) (contains_cases m [] x h)
 
 module _ (w : Completion) (s : IsSound w) (m : Exponents) (n : IsNewLead (listing_of w) m) where
   abbrev L : Letters
@@ -76,9 +73,9 @@ module _ (w : Completion) (s : IsSound w) (m : Exponents) (n : IsNewLead (listin
 
   pub last : AreLastLeads L w.degree (m ∷ [])
   last = record {
-    in_x = λ x k. subst (IsMonomial (length L.degrees)) (only_one m x k) n.monomial;
-    not_one = λ x k. subst (λ y. y ≢ []) (only_one m x k) not_one;
-    degree = λ x k. subst (λ y. weighted_degree L.degrees y ≡ w.degree) (only_one m x k) n.degree;
+    in_x = λ x k. subst (IsMonomial (length L.degrees)) (contains_one m x k) n.monomial;
+    not_one = λ x k. subst (λ y. y ≢ []) (contains_one m x k) not_one;
+    degree = λ x k. subst (λ y. weighted_degree L.degrees y ≡ w.degree) (contains_one m x k) n.degree;
     distinct = λ i j d l k. absurd (omega arith);
   }
 
@@ -100,7 +97,7 @@ module _ (w : Completion) (s : IsSound w) (m : Exponents) (n : IsNewLead (listin
       (letter_image L j ∙ (get_or_default L.leads j [] d l ∙ e))
 
   pub pushed_leads : AreLetterLeads L.degrees (L.leads ++ m ∷ [])
-  pushed_leads x c = ⊎_elim (λ a. s.listing.leads x a) (λ b. subst (IsLetterLead L.degrees) (only_one m x b) new_lead) (contains_either L.leads (m ∷ []) x c)
+  pushed_leads x c = ⊎_elim (λ a. s.listing.leads x a) (λ b. subst (IsLetterLead L.degrees) (contains_one m x b) new_lead) (contains_either L.leads (m ∷ []) x c)
 
   pub pushed_distinct : AllPairs (λ m n. m ≢ n) (L.leads ++ m ∷ [])
   pushed_distinct = all_pairs_push (λ m n. m ≢ n) L.leads m s.listing.distinct lead_differs
@@ -109,7 +106,7 @@ module _ (w : Completion) (s : IsSound w) (m : Exponents) (n : IsNewLead (listin
   pushed_parted = record {
     whole = sym (take-append-drop w.settled_count (L.leads ++ m ∷ []));
     lower_less = λ x c. s.parted.lower_less x (subst (λ ys. Contains ys x) (take-append-le w.settled_count L.leads (m ∷ []) s.within) c);
-    last_equal = λ x c. ⊎_elim (λ a. s.parted.last_equal x a) (λ b. subst (λ y. weighted_degree L.degrees y ≡ w.degree) (only_one m x b) n.degree)
+    last_equal = λ x c. ⊎_elim (λ a. s.parted.last_equal x a) (λ b. subst (λ y. weighted_degree L.degrees y ≡ w.degree) (contains_one m x b) n.degree)
         (contains_either (drop w.settled_count L.leads) (m ∷ []) x (subst (λ ys. Contains ys x) (drop-append-le w.settled_count L.leads (m ∷ []) s.within) c));
   }
 
@@ -232,7 +229,7 @@ module _ (w : Completion) (s : IsSound w) (m : Exponents) (n : IsNewLead (listin
         from_table : (r : Rule) → Contains D r → (q : RewriteRule) × Contains w.table q × IsRenamedRule u letter q (rewrite_rule r)
         from_table r c =
             let q = renamed_from u letter (rewrite_rules w.rules.items) (rewrite_rules D) y (rewrite_rule r) (contains_map rewrite_rule D r c) in
-            let o = contains_mapped rewrite_rule w.rules.items q.0 q.1 in
+            let o = map_contains rewrite_rule w.rules.items q.0 q.1 in
             (q.0, subst (Contains w.table) o.2 (s.same.there o.0 o.1), q.2)
 
         pub pushed_same : AreSameRules E T
@@ -250,7 +247,7 @@ module _ (w : Completion) (s : IsSound w) (m : Exponents) (n : IsNewLead (listin
               ⊎_elim
               (λ a.
               let z = renamed_of u letter (rewrite_rules w.rules.items) (rewrite_rules D) y q.0 (s.same.back q.0 a) in
-              let o = contains_mapped rewrite_rule D z.0 z.1 in
+              let o = map_contains rewrite_rule D z.0 z.1 in
               subst (Contains (rewrite_rules E)) (o.2 ∙ renamed_unique u letter q.0 z.0 v z.2 q.2) (contains_map rewrite_rule E o.0 (kept o.0 o.1)))
               (λ b.
               let e = ⊎_elim (λ e. e) (λ z. absurd (contains_none q.0 z)) (contains_cases (lead_rule u letter) [] q.0 b) in
@@ -284,7 +281,7 @@ module _ (w : Completion) (s : IsSound w) (m : Exponents) (n : IsNewLead (listin
 
         word_old : (v : Exponents) → Contains (words_of E) v → IsWord L v
         word_old v c =
-            let o = contains_mapped (λ (r : Rule). r.word) E v c in
+            let o = map_contains (λ (r : Rule). r.word) E v c in
             subst (IsWord L) o.2
             (⊎_elim (λ e. subst (IsWord L) (sym tw ∙ ap (λ (r : Rule). r.word) e) least.word)
             (λ d. let q = from_table o.0 d in subst (IsWord L) (sym q.2.left) (exact.rules q.0 q.1).0) (old_or_new o.0 o.1))
@@ -310,7 +307,7 @@ pub alphabet_pushed : (a : Alphabet) → IsAlphabet a → (m : Exponents) → Is
     (xs ss : List ℕ) (ms : List Exponents) → xs ≡ a.order.x_degrees.items → ss ≡ a.order.s_degrees.items ++ d ∷ [] → ms ≡ a.leads.items ++ m ∷ [] → AreLetterLeads xs ms × (ss ≡ map (weighted_degree xs) ms)
 alphabet_pushed a h m k d ed xs ss ms ex es em = (
   λ x c. subst (λ ys. IsLetterLead ys x) (sym ex)
-      (⊎_elim (λ b. h.are_leads x b) (λ b. subst (IsLetterLead a.order.x_degrees.items) (only_one m x b) k) (contains_either a.leads.items (m ∷ []) x (subst (λ ys. Contains ys x) em c))),
+      (⊎_elim (λ b. h.are_leads x b) (λ b. subst (IsLetterLead a.order.x_degrees.items) (contains_one m x b) k) (contains_either a.leads.items (m ∷ []) x (subst (λ ys. Contains ys x) em c))),
   es ∙ (ap (λ ys. ys ++ d ∷ []) h.lead_degrees ∙
       (ap (λ e. map (weighted_degree a.order.x_degrees.items) a.leads.items ++ e ∷ []) (ed ∙ x_degree a h m k.monomial) ∙
       (sym (map-append (weighted_degree a.order.x_degrees.items) a.leads.items (m ∷ [])) ∙

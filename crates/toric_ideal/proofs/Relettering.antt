@@ -1,12 +1,12 @@
 -- Words whose letters of the last leads are numbered again, in every degree.
-use Rattle.std.proofs.Common.{◌≡◌, ℕ, zero, suc, ◌+◌, ◌-◌, ◌<◌, ◌≤◌, refl, sym, ◌∙◌, ap, subst, List, [], ◌∷◌, length, length-append, get_or, arith, ◌⊎◌, inl, inr, ⊎_elim}
+use Rattle.std.proofs.Common.{◌≡◌, ℕ, zero, suc, ◌+◌, ◌-◌, ◌<◌, refl, sym, ◌∙◌, ap, subst, List, [], length, length-append, get_or, arith, ◌⊎◌, inl, inr, ⊎_elim}
 use Rattle.std.specs.Prelude.{Contains}
 use Rattle.std.proofs.lemmas.List.{get_or_default}
-use Rattle.monomial_order.specs.Monomial.{Exponents, Divides, IsMultiple, IsTrimmed, exponent, product, variable}
+use Rattle.monomial_order.specs.Monomial.{Exponents, Divides, IsMultiple, exponent, product, variable}
 use Rattle.monomial_order.specs.laws.Cofactors.{cofactor, divides_or_not, length-product_right, same_exponents, Divides-product_right}
 use Rattle.monomial_order.specs.laws.Comparing.{le_or_not, numbers_or_not, proper_divisor}
 use Rattle.monomial_order.specs.laws.Lists.{contains_at, find_member}
-use Rattle.monomial_order.specs.laws.Monomial.{exponent_past, exponent-product, IsMonomial-product, variable_divides, variable_off, variable_trimmed}
+use Rattle.monomial_order.specs.laws.Monomial.{exponent_past, exponent-product, IsMonomial-product, last_exponent, variable_at, variable_divides, variable_off, variable_trimmed}
 use Rattle.word_laws.specs.Words.{Letters, AreLetters, word_order_of, image_of, IsLeast, IsReducible, IsSmaller, IsWord}
 use Rattle.word_laws.specs.laws.Words.{image_times, image_x, word_laws}
 use Rattle.word_laws.specs.laws.Reducible.{least_unique, least_word, multiple_closed, multiple_decided}
@@ -17,18 +17,6 @@ use Rattle.word_rewriting.specs.laws.Letters.{letter_word, places_count}
 use Rattle.word_rewriting.specs.laws.MoreLeads.{image_stays, new_image, word_stays}
 use Rattle.word_rewriting.specs.laws.NormalForms.{divided_reducible}
 use Rattle.word_rewriting.specs.laws.Renumbering.{last_letters, same_index}
-
--- the last exponent of a word is not zero
-last_exponent : (m : Exponents) (n : ℕ) → IsTrimmed m → length m ≡ suc n → 1 ≤ exponent m n
-last_exponent [] n h e = absurd (omega arith)
-last_exponent (a ∷ []) zero h e = omega (arith, h)
-last_exponent (a ∷ []) (suc n) h e = absurd (omega arith)
-last_exponent (a ∷ (b ∷ m)) zero h e = absurd (omega arith)
-last_exponent (a ∷ (b ∷ m)) (suc n) h e = last_exponent (b ∷ m) n h (omega arith)
-
-variable_at : (i : ℕ) → exponent (variable i) i ≡ 1
-variable_at zero = refl
-variable_at (suc i) = variable_at i
 
 module _ (L : Letters) (H : AreLetters L) (d : ℕ) (before after : List Exponents) (K : AreRenumbered L d before after) where
   abbrev M : Letters

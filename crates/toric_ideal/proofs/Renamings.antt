@@ -14,6 +14,7 @@ use Rattle.toric_ideal.specs.declared.rule.Rule.{Rule}
 use Rattle.toric_ideal.specs.Renaming.{lead_rule, IsRenamedRule, AreRenamed, IsRenaming, AreRenamings}
 use Rattle.toric_ideal.specs.Rewriting.{rewrite_rule, rewrite_rules}
 use Rattle.toric_ideal.proofs.Cleaning.{rule_index}
+use Rattle.toric_ideal.specs.Step.{KeepsLefts}
 
 module _ (w letter : Exponents) (R : List RewriteRule) where
   pub renamings_none : AreRenamings w letter R 0 []
@@ -36,7 +37,7 @@ module _ (w letter : Exponents) (R : List RewriteRule) where
   pub record IsPartlyRenamed (T : List RewriteRule) (list : List Renaming) : Type 0 where
     pub number : length T ≡ length R
     pub each : (x : Renaming) → Contains list x → IsRenaming w letter R x
-    pub lefts : (k : ℕ) → (rule_at T k).left ≡ (rule_at R k).left
+    pub lefts : KeepsLefts R T
     pub rights : (k : ℕ) → k < length R →
         (((rule_at T k).right ≡ (rule_at R k).right) × ((rule_at R k).right ≡ Some w → (x : Renaming) × Contains list x × (x.index ≡ k))) ⊎
         (((rule_at R k).right ≡ Some w) × ((rule_at T k).right ≡ Some letter))

@@ -1,17 +1,13 @@
 -- The leads of the last degree are numbered again: exact rules stay exact.
-use Rattle.std.proofs.Common.{◌≡◌, ◌≢◌, ℕ, ◌+◌, ◌<◌, ◌≤◌, refl, sym, ◌∙◌, ap, subst, List, [], length, get_or, arith, inl, inr, ⊎_elim, Some, None}
+use Rattle.std.proofs.Common.{◌≡◌, ℕ, ◌≤◌, refl, sym, ap, subst, List, arith, inl, inr, ⊎_elim, Some, None}
 use Rattle.std.specs.Prelude.{Contains}
-use Rattle.std.specs.declared.cmp.Ordering.TheVariants.{Less}
-use Rattle.monomial_order.specs.Monomial.{Exponents, Divides, IsMonomial, IsMultiple}
-use Rattle.monomial_order.specs.laws.Comparing.{not_below_self}
-use Rattle.monomial_order.specs.laws.Lists.{contains_at}
-use Rattle.word_laws.specs.Words.{Letters, AreLetters, word_order_of, image_of, IsWord, IsSmaller, IsReducible}
-use Rattle.word_laws.specs.laws.Words.{word_laws, degree_image, degree_same, degree_x}
+use Rattle.monomial_order.specs.Monomial.{Exponents, Divides, IsMultiple}
+use Rattle.word_laws.specs.Words.{Letters, AreLetters, word_order_of, IsWord, IsReducible}
+use Rattle.word_laws.specs.laws.Words.{degree_same}
 use Rattle.word_rewriting.specs.Rewriting.{WordOrZero, RewriteRule, IsInNormalForm}
-use Rattle.word_rewriting.specs.Completeness.{lead_letter, with_leads, AreRewriteRules, IsRightSide}
+use Rattle.word_rewriting.specs.Completeness.{with_leads, AreRewriteRules, IsRightSide}
 use Rattle.word_rewriting.specs.Renumbering.{AreRenumbered, AreRenumberedRules, IsRenumbered, IsRenumberedSide}
-use Rattle.word_rewriting.specs.laws.MoreLeads.{image_stays, new_image, new_letter_smaller}
-use Rattle.word_rewriting.specs.laws.Renumbering.{last_letters, renumbered_degree, renumbered_divides, renumbered_generates, renumbered_rules, renumbered_turned, renumbered_unique, same_index, turned, word_cases}
+use Rattle.word_rewriting.specs.laws.Renumbering.{last_letters, renumbered_degree, renumbered_divides, renumbered_generates, renumbered_rules, renumbered_turned, renumbered_unique, turned, word_cases, last_irreducible}
 use Rattle.toric_ideal.specs.Rewriting.{AreExactRules}
 use Rattle.toric_ideal.specs.Settling.{IsLowerOrLetterSide}
 
@@ -22,45 +18,16 @@ module _ (L : Letters) (H : AreLetters L) (Z : List Exponents) (d : ℕ) (before
   HM : AreLetters M
   HM = last_letters L H d before K.old_leads
 
-  old : (m : Exponents) → Contains before m → IsMonomial (length L.degrees) m × (m ≢ [])
-  old m k = (K.old_leads.in_x m k, K.old_leads.not_one m k)
-
   rule_reducible : (w : Exponents) (a : WordOrZero) → IsRightSide (IsMultiple Z) M w a → IsReducible (IsMultiple Z) M w
   rule_reducible w None h = inl h
   rule_reducible w (Some v) h = inr (v, h)
 
   module _ (standard : (m : Exponents) → Contains before m → ¬ IsMultiple Z m) where
-    last_irreducible : (j : ℕ) → j < length before → IsReducible (IsMultiple Z) M (lead_letter L (length L.leads + j)) → ⊥
-    last_irreducible j l r =
-        ⊎_elim (λ z. standard (get_or before j []) (contains_at before j [] l) (subst (IsMultiple Z) (new_image L H before old j) z)) (λ s. smaller s.0 s.1) r
-      where
-        letter : Exponents
-        letter = lead_letter L (length L.leads + j)
-
-        degree : (word_order_of M).degree letter ≡ d
-        degree =
-            sym (degree_image M HM letter) ∙ (ap (word_order_of M).degree (new_image L H before old j) ∙
-            (degree_x M HM (get_or before j []) (K.old_leads.in_x (get_or before j []) (contains_at before j [] l)) ∙ K.old_leads.degree (get_or before j []) (contains_at before j [] l)))
-
-        smaller : (v : Exponents) → IsSmaller M letter v → ⊥
-        smaller v s =
-            let e = degree_same M HM v letter s.image in
-            let f = degree in
-            ⊎_elim
-            (λ k. not_below_self (word_order_of M) (word_laws M HM) v ((word_laws M HM).total.trans v letter v s.less
-            (new_letter_smaller L H before old j l v k (sym (image_stays L before v k) ∙ (s.image ∙ new_image L H before old j))).less))
-            (λ i.
-            let lead : get_or before i.0 [] ≡ get_or before j [] = sym (new_image L H before old i.0) ∙ (ap (image_of M) (sym i.2) ∙ (s.image ∙ new_image L H before old j)) in
-            let q = same_index before K.old_leads.distinct i.0 j i.1 l lead in
-            not_below_self (word_order_of M) (word_laws M HM) letter
-            (subst (λ x. (word_order_of M).compare x letter ≡ Less) (i.2 ∙ ap (λ n. lead_letter L (length L.leads + n)) q) s.less))
-            (word_cases L H d before K.old_leads v s.word (omega arith))
-
     -- left sides have none of the last letters
     pub left_lower : (R : List RewriteRule) → AreExactRules M Z d R → (r : RewriteRule) → Contains R r → IsWord L r.left
     left_lower R exact r h =
         let x = exact.rules r h in
-        ⊎_elim (λ k. k) (λ i. absurd (last_irreducible i.0 i.1 (subst (IsReducible (IsMultiple Z) M) i.2 (rule_reducible r.left r.right x.1))))
+        ⊎_elim (λ k. k) (λ i. absurd (last_irreducible L H d before K.old_leads (IsMultiple Z) standard i.0 i.1 (subst (IsReducible (IsMultiple Z) M) i.2 (rule_reducible r.left r.right x.1))))
         (word_cases L H d before K.old_leads r.left x.0 (exact.degree r h))
 
   -- right sides have none, or are one

@@ -6,7 +6,7 @@ use Rattle.std.proofs.lemmas.List.Elements.{Contains-append_cases}
 use Rattle.std.proofs.Math.Seq.{drop-append_seam, take-append_seam}
 use Rattle.monomial_order.specs.Monomial.{Exponents, AreCoprime, Divides, IsMonomial, IsMultiple, least_common_multiple as lcm, weighted_degree}
 use Rattle.monomial_order.specs.MonomialOrder.{IsIncreasing, IsMonomialOrder, MonomialOrder}
-use Rattle.monomial_order.specs.laws.Lists.{contains_at, contains_here, contains_map, contains_there}
+use Rattle.monomial_order.specs.laws.Lists.{contains_at, contains_here, contains_map, contains_there, map_contains}
 use Rattle.word_laws.specs.Words.{Letters, AreLetters, IsReducible, IsWord, variables, word_order_of}
 use Rattle.word_laws.specs.laws.Images.{degree_weighted}
 use Rattle.word_rewriting.specs.Rewriting.{WordOrZero, RewriteRule}
@@ -31,7 +31,7 @@ use Rattle.toric_ideal.specs.State.{IsSound}
 use Rattle.toric_ideal.proofs.Cleaning.{rule_index}
 use Rattle.toric_ideal.proofs.ExactRules.{exact_rules}
 use Rattle.toric_ideal.proofs.LetterLemmas.{leads_letters}
-use Rattle.toric_ideal.proofs.Members.{contains_drop, contains_mapped, contains_take}
+use Rattle.toric_ideal.proofs.Members.{contains_drop, contains_take}
 use Rattle.toric_ideal.proofs.Pairs.{increasing_distinct, pairs_append, pairs_drop, pairs_from, pairs_take, pairs_to}
 use Rattle.toric_ideal.proofs.Relettering.{closed_again}
 use Rattle.toric_ideal.proofs.RuleLists.{word_at, words_length}
@@ -222,7 +222,7 @@ module _ (O : MonomialOrder) (W : IsMonomialOrder O) (w : Completion) (s : IsSou
           let b = j.1 in
           let m = ht.number in
           let lj : j.0 < length w.table = omega arith in
-          let x = contains_mapped rewrite_rule w.rules.items (rule_at w.table j.0) (s.same.back (rule_at w.table j.0) (contains_at w.table j.0 no_rule lj)) in
+          let x = map_contains rewrite_rule w.rules.items (rule_at w.table j.0) (s.same.back (rule_at w.table j.0) (contains_at w.table j.0 no_rule lj)) in
           let i = x.1 in
           let li = i.1 in
           let n = hr.number in
@@ -261,7 +261,7 @@ module _ (O : MonomialOrder) (W : IsMonomialOrder O) (w : Completion) (s : IsSou
           ))
           new_exact.rules
           (λ u hu r. let y = s.listing.closed t u (subst (λ M. IsWord M u) whole hu) (subst (λ M. IsReducible (IsMultiple Z) M u) whole r) in (rewrite_rule y.0, s.same.there y.0 y.1, y.2)) v hv red in
-          let y = contains_mapped rewrite_rule new x.0 (same_rules.back x.0 x.1) in
+          let y = map_contains rewrite_rule new x.0 (same_rules.back x.0 x.1) in
           (y.0, y.1, subst (λ (r : RewriteRule). Divides r.left v) (sym y.2) x.2);
     })
 

@@ -37,10 +37,14 @@ pub record IsOriented (O : MonomialOrder) (u v : WordOrZero) (t : RewriteRule) :
   pub orients : Orients t u v
   pub below : IsBelow O t.left t.right
 
+-- the rules at each index have the same left side
+abbrev pub KeepsLefts : List RewriteRule → List RewriteRule → Type 0
+KeepsLefts old new = (k : ℕ) → (rule_at new k).left ≡ (rule_at old k).left
+
 -- the same left sides, with right sides that are normal forms of the old ones for all rules before index i
 pub record IsCleaned (L : Letters) (Z : List Exponents) (S T : List RewriteRule) (i : ℕ) : Type 0 where
   pub number : length T ≡ length S
-  pub lefts : (k : ℕ) → (rule_at T k).left ≡ (rule_at S k).left
+  pub lefts : KeepsLefts S T
   pub rules : AreRewriteRules (IsMultiple Z) L T
   pub normal : (k : ℕ) → k < i → IsInNormalForm S (rule_at T k).right
 
@@ -55,10 +59,6 @@ pub record KeepsFirst (first : ℕ) (old new : List RewriteRule) : Type 0 where
   pub within : first ≤ length new
   pub same : take first new ≡ take first old
 
--- no rule goes
-abbrev pub KeepsRules : List RewriteRule → List RewriteRule → Type 0
-KeepsRules old new = (r : RewriteRule) → Contains old r → Contains new r
-
 -- two of the first rules have a pair of degree d
 pub record IsPairAt (O : MonomialOrder) (d first : ℕ) (S : List RewriteRule) (i j : ℕ) : Type 0 where
   pub rising : i < j
@@ -72,7 +72,7 @@ AreSmallZeros L zeros = (z : Exponents) → Contains zeros z → weighted_degree
 -- the right side at an index is rewritten to its normal form
 pub record IsRewrittenAt (L : Letters) (Z : List Exponents) (S T : List RewriteRule) (i : ℕ) : Type 0 where
   pub number : length T ≡ length S
-  pub lefts : (k : ℕ) → (rule_at T k).left ≡ (rule_at S k).left
+  pub lefts : KeepsLefts S T
   pub others : (k : ℕ) → k ≢ i → rule_at T k ≡ rule_at S k
   pub rules : AreRewriteRules (IsMultiple Z) L T
   pub normal : IsInNormalForm T (rule_at T i).right

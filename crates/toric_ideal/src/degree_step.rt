@@ -3,13 +3,13 @@ ghost use Rattle.std.specs.Prelude.{◌≡◌, ◌≤◌, ◌+◌, [], length, S
 ghost use Rattle.monomial_order.specs.Limits.{degree_max};
 ghost use Rattle.monomial_order.specs.Monomial.{weighted_degree};
 ghost use Rattle.word_laws.specs.Words.{word_order_of};
-ghost use Rattle.word_rewriting.specs.Rewriting.{HasJoinablePair, Rewrites};
+ghost use Rattle.word_rewriting.specs.Rewriting.{HasJoinablePair, Rewrites, KeepsRules};
 ghost use Rattle.word_rewriting.specs.Completeness.{AreInX};
 ghost use Rattle.word_rules.specs.Rules.{rule_at, IsSmallWord};
 ghost use Rattle.toric_ideal.specs.Alphabet.{letters_of, IsAlphabet};
 ghost use Rattle.toric_ideal.specs.Rewriting.{rewrite_rule, AreExactRules};
 ghost use Rattle.toric_ideal.specs.Queue.{IsQueued, JoinsOrLists};
-ghost use Rattle.toric_ideal.specs.Step.{AreSmallZeros, HaveDegreesTo, IsGrowing, IsGrown, IsOriented, IsPairAt, KeepsFirst, KeepsRules, ZerosVanish};
+ghost use Rattle.toric_ideal.specs.Step.{AreSmallZeros, HaveDegreesTo, IsGrowing, IsGrown, IsOriented, IsPairAt, KeepsFirst, ZerosVanish};
 
 use crate::Rule;
 use crate::alphabet::Alphabet;
@@ -157,8 +157,10 @@ fn join_pairs(
     ensures first { KeepsFirst first table.old table.new }
     ensures rules { KeepsRules table.old table.new }
     ensures growing { OnOk result (IsGrowing (letters_of alphabet.now) zeros.now c first table.new) }
-    ensures queued { OnOk result (IsQueued (word_order_of (letters_of alphabet.now)) (c + 1) first table.new pairs.new) }
-    ensures joined { OnOk result (JoinsOrLists (word_order_of (letters_of alphabet.now)) (c + 1) first table.new table.new []) }
+    ensures queued { OnOk result (IsQueued (word_order_of (letters_of alphabet.now)) (c + 1) first table.new
+        pairs.new) }
+    ensures joined { OnOk result (JoinsOrLists (word_order_of (letters_of alphabet.now)) (c + 1) first table.new
+        table.new []) }
 {
     'pairs: while let Some(pair) = pairs.pop_front(c + 1) {
         join_pair(

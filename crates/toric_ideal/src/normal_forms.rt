@@ -34,7 +34,8 @@ impl Completion {
     pub(crate) fn least(&self, alloc: Global, w: &Monomial) -> Result<Option<Monomial>, Memory>
         requires sound { IsSound self.now }
         requires word { IsWord (letters_of self.now.alphabet) w.now }
-        requires degree { IsDecided (listing_of self.now) ((word_order_of (letters_of self.now.alphabet)).degree w.now) }
+        requires degree { IsDecided (listing_of self.now)
+            ((word_order_of (letters_of self.now.alphabet)).degree w.now) }
         ensures { IfOk result (IsLeastOrZero (IsMultiple self.now.zeros.items) (letters_of self.now.alphabet)
             (image_of (letters_of self.now.alphabet) w.now)) }
     {
@@ -46,7 +47,8 @@ impl Completion {
         requires sound { IsSound self.now }
         requires monomial { IsMonomial (length (letters_of self.now.alphabet).degrees) m.now }
         requires standard { ¬ IsMultiple self.now.zeros.items m.now }
-        requires degree { IsDecided (listing_of self.now) (weighted_degree (letters_of self.now.alphabet).degrees m.now) }
+        requires degree { IsDecided (listing_of self.now)
+            (weighted_degree (letters_of self.now.alphabet).degrees m.now) }
         ensures { IfOk result (IsFactor (letters_of self.now.alphabet) m.now) }
     {
         match self.least(alloc, m)? {

@@ -82,7 +82,8 @@ pub(crate) fn queue_pairs(
     requires alphabet { IsAlphabet alphabet.now }
     requires rules { AreSmallWords (letters_of alphabet.now) table.now }
     requires queued { IsQueued (word_order_of (letters_of alphabet.now)) c count table.now pairs.old }
-    ensures { OnOk result (IsQueued (word_order_of (letters_of alphabet.now)) c (length table.now) table.now pairs.new) }
+    ensures { OnOk result (IsQueued (word_order_of (letters_of alphabet.now)) c (length table.now) table.now
+        pairs.new) }
 {
     'rules: for j in count..table.len() {
         queue_pairs_of(alloc, alphabet, c, table, pairs, j)?;

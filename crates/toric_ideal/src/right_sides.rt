@@ -61,7 +61,8 @@ pub(crate) fn rewrite_right_sides(
     requires within { first ≤ length table.old }
     requires normal { (k : ℕ) → k < first → IsInNormalForm table.old (rule_at table.old k).right }
     ensures first { KeepsFirst first table.old table.new }
-    ensures cleaned { OnOk result (IsCleaned (letters_of alphabet.now) zeros.now table.old table.new (length table.old)) }
+    ensures cleaned { OnOk result (IsCleaned (letters_of alphabet.now) zeros.now table.old table.new
+        (length table.old)) }
 {
     let count = table.len();
     'rules: for i in first..count {

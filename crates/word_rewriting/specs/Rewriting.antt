@@ -12,6 +12,10 @@ pub record RewriteRule : Type 0 where
   pub left : Exponents
   pub right : WordOrZero
 
+-- no rule goes
+abbrev pub KeepsRules : List RewriteRule → List RewriteRule → Type 0
+KeepsRules old new = (r : RewriteRule) → Contains old r → Contains new r
+
 -- a multiple of a word or of zero
 abbrev pub multiple : Exponents → WordOrZero → WordOrZero
 multiple k a = option_map (product k) a

@@ -2,7 +2,7 @@
 use Rattle.std.specs.Prelude.{◌≡◌, ◌≢◌, ◌⊎◌, ◌↔◌, ℕ, ◌+◌, ◌≤◌, ◌<◌, List, [], ◌∷◌, ◌++◌, length, get_or, Contains, AllPairs, Some, None}
 use Rattle.monomial_order.specs.Monomial.{Exponents, IsMonomial, IsMultiple, Divides, AreCoprime, least_common_multiple, weighted_degree}
 use Rattle.word_laws.specs.Words.{Letters, AreLetters, word_order_of, image_of, IsWord, IsSWord, IsSmaller, IsReducible, IsMinimalReducible, IsLeast}
-use Rattle.word_rewriting.specs.Rewriting.{WordOrZero, RewriteRule, Rewrites, AreJoinable, HasLeftDivisor, IsInNormalForm, IsNormalForm, IsCriticalPair, HasJoinablePair, JoinsPair, JoinsPairs}
+use Rattle.word_rewriting.specs.Rewriting.{WordOrZero, RewriteRule, Rewrites, AreJoinable, HasLeftDivisor, IsInNormalForm, IsNormalForm, IsCriticalPair, HasJoinablePair, JoinsPair, JoinsPairs, KeepsRules}
 use Rattle.word_rewriting.specs.Renumbering.{AreRenumbered, AreRenumberedRules, IsRenumbered}
 use Rattle.word_rewriting.specs.Completion.{RulePair, HasConnectedPair, AreAbove, IsCompletion, HasPairsWith, first_rules, Orients, lead_rule_of, zero_rule_of}
 use Rattle.word_rewriting.specs.Completeness.{lead_letter, with_leads, AreInX, AreRewriteRules, HasImage, IsLeastOrZero, IsRightSide, GeneratesReducible, IsMissedWord, AreComplete, HaveDegreesTo, IsMinimalLeftSide, AreReducedRules}
@@ -130,8 +130,7 @@ RulesExist Z L = (c : ℕ) →
 
 -- what is joinable by R is joinable by S, which has all the rules of R
 abbrev pub JoinableStays : List RewriteRule → List RewriteRule → Type 0
-JoinableStays R S = ((r : RewriteRule) → Contains R r → Contains S r) →
-    (a b : WordOrZero) → AreJoinable R a b → AreJoinable S a b
+JoinableStays R S = KeepsRules R S → (a b : WordOrZero) → AreJoinable R a b → AreJoinable S a b
 
 module _ (L : Letters) (leads : List Exponents) where
   -- rules stay rules with further leads and more zeros

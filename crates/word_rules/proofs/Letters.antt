@@ -5,20 +5,17 @@ use Rattle.std.proofs.lemmas.List.{get_or_default}
 use Rattle.monomial_order.specs.Monomial.{Exponents, exponent, Divides, IsTrimmed}
 use Rattle.monomial_order.specs.laws.Comparing.{numbers_or_not, some_exponent, le_or_not}
 use Rattle.monomial_order.specs.laws.Monomial.{exponent_past}
-use Rattle.monomial_order.specs.laws.Lists.{contains_here, contains_left, contains_right, contains_either, contains_cases, contains_none}
+use Rattle.monomial_order.specs.laws.Lists.{contains_here, contains_left, contains_right, contains_either, contains_none, contains_one}
 use Rattle.word_rules.specs.Index.{AreLettersOf}
 
 -- the letters among the places before n
 abbrev pub AreLettersBefore : ℕ → Exponents → List ℕ → Type 0
 AreLettersBefore n w letters = (a : ℕ) → Contains letters a ↔ ((a < n) × (exponent w a ≢ 0))
 
-pub only_member : {A : Type 0} (x y : A) → Contains (x ∷ []) y → x ≡ y
-only_member x y h = ⊎_elim (λ e. e) (λ k. absurd (contains_none y k)) (contains_cases x [] y h)
-
 pub letter_added : (n : ℕ) (w : Exponents) (letters : List ℕ) → AreLettersBefore n w letters → exponent w n ≢ 0 → AreLettersBefore (n + 1) w (letters ++ n ∷ [])
 letter_added n w letters h e a = (
   λ k. ⊎_elim (λ l. let m = (h a).0 l in let lt = m.0 in (omega arith, m.1))
-      (λ l. let q = only_member n a l in (subst (λ x. x < n + 1) q (omega arith), subst (λ x. exponent w x ≢ 0) q e)) (contains_either letters (n ∷ []) a k),
+      (λ l. let q = contains_one n a l in (subst (λ x. x < n + 1) q (omega arith), subst (λ x. exponent w x ≢ 0) q e)) (contains_either letters (n ∷ []) a k),
   λ k. ⊎_elim (λ q. subst (Contains (letters ++ n ∷ [])) (sym q) (contains_right letters (n ∷ []) n (contains_here n [])))
       (λ q. contains_left letters (n ∷ []) a ((h a).1 (let lt = k.0 in omega (arith, q), k.1))) (numbers_or_not a n),
 )

@@ -4,7 +4,7 @@ use Rattle.std.specs.Prelude.{Contains, AllPairs}
 use Rattle.std.proofs.lemmas.List.{get_or_append_left, get_or_push, length_push, get_or_default, get_or-set_same, get_or-set_other}
 use Rattle.monomial_order.specs.Monomial.{Exponents, exponent, AreCoprime}
 use Rattle.monomial_order.specs.laws.Comparing.{numbers_or_not}
-use Rattle.monomial_order.specs.laws.Lists.{contains_at, contains_either, contains_here, contains_left, contains_right, find_member}
+use Rattle.monomial_order.specs.laws.Lists.{contains_at, contains_either, contains_here, contains_left, contains_right, find_member, contains_one}
 use Rattle.word_rules.specs.declared.marks.Marks.{Marks}
 use Rattle.word_rules.specs.declared.buckets.Buckets.{Buckets}
 use Rattle.word_rules.specs.declared.pairs.PairIndex.{PairIndex}
@@ -12,7 +12,6 @@ use Rattle.word_rules.specs.declared.word_rule.WordRule.{WordRule}
 use Rattle.word_rules.specs.Index.{AreLettersOf, IsIndexFor, bucket, lefts_of, list_at, rules_of}
 use Rattle.word_rules.specs.Rules.{AreSharing, rule_at}
 use Rattle.word_rules.specs.Sharing.{AddsAll, AddsLetter, AreMarks, HasLetter, IsMarked}
-use Rattle.word_rules.proofs.Letters.{only_member}
 use Rattle.word_rules.proofs.Lefts.{left_is}
 
 contains_or_not : (xs : List ℕ) (i : ℕ) → Contains xs i ⊎ (Contains xs i → ⊥)
@@ -57,7 +56,7 @@ marked m n i h l new es el ei = record {
     keeps k c = subst (λ xs. Contains xs k) (sym ei) (contains_left m.list.items (i ∷ []) k c)
 
     either : (k : ℕ) → Contains n.list.items k → Contains m.list.items k ⊎ (i ≡ k)
-    either k c = ⊎_elim inl (λ q. inr (only_member i k q)) (contains_either m.list.items (i ∷ []) k (subst (λ xs. Contains xs k) ei c))
+    either k c = ⊎_elim inl (λ q. inr (contains_one i k q)) (contains_either m.list.items (i ∷ []) k (subst (λ xs. Contains xs k) ei c))
 
 pub already_marked : (m n : Marks) (i : ℕ) → n ≡ m → AreMarks m → get_or m.seen.items i false ≡ true → IsMarked i m n
 already_marked m n i e h s = subst (IsMarked i m) (sym e) (record { marks = h; long = refl; here = h.seen i s; keeps = λ k c. c; only = λ k c. inr c })

@@ -9,8 +9,8 @@ use crate::word_rule::{WordRule, last_two};
 use monomial_order::{Memory, Monomial};
 use std::alloc::Global;
 
-/// The rules, their indexes by each letter, and their indexes by two letters. Indexes of rules that are gone may stay in
-/// the buckets.
+/// The rules, their indexes by each letter, and their indexes by two letters. Indexes of rules that are gone may stay
+/// in the buckets.
 #[derive(Drop)]
 pub(crate) struct Table {
     pub(crate) rules: Vec<WordRule>,

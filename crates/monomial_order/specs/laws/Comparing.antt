@@ -1,5 +1,5 @@
 -- Laws of the comparison.
-use Rattle.std.proofs.Common.{◌≡◌, ◌≢◌, ℕ, suc, ◌<◌, ◌≤◌, refl, sym, ◌∙◌, ap, subst, List, [], ◌∷◌, length, true, false, arith, ◌⊎◌, inl, inr, ⊎_elim}
+use Rattle.std.proofs.Common.{◌≡◌, ◌≢◌, ℕ, suc, ◌<◌, ◌≤◌, refl, sym, ◌∙◌, ap, subst, List, [], ◌∷◌, length, true, false, arith, ◌⊎◌, inl, inr, ⊎_elim, ◌++◌}
 use Rattle.std.specs.Prelude.{nat_le, Contains}
 use Rattle.std.proofs.lemmas.Bool.Decides.{nat_tests, eqb_tells}
 use Rattle.std.specs.Cmp.{tied_itself}
@@ -8,7 +8,7 @@ use Rattle.std.specs.declared.cmp.Ordering.{Ordering}
 use Rattle.std.specs.declared.cmp.Ordering.TheVariants.{Less, Equal, Greater}
 use Rattle.monomial_order.specs.Monomial.{exponent, IsMonomial, IsTrimmed, Divides, product}
 use Rattle.monomial_order.specs.MonomialOrder.{IsIncreasing, MonomialOrder, IsMonomialOrder}
-use Rattle.monomial_order.specs.laws.Lists.{contains_cases, contains_here, contains_none}
+use Rattle.monomial_order.specs.laws.Lists.{contains_cases, contains_here, contains_none, contains_there}
 use Rattle.monomial_order.specs.laws.Monomial.{product-one, length-product}
 use Rattle.monomial_order.specs.laws.Cofactors.{cofactor, trimmed_or_not, length-product_right}
 
@@ -134,3 +134,11 @@ increasing_cons O m (x ∷ ms) h r = (h x (contains_here x ms), r)
 pub increasing_tail : (O : MonomialOrder) (m : List ℕ) (ms : List (List ℕ)) → IsIncreasing O (m ∷ ms) → IsIncreasing O ms
 increasing_tail O m [] h = tt
 increasing_tail O m (x ∷ ms) h = h.1
+
+-- increasing lists of which the one is below the other
+pub increasing_append : (O : MonomialOrder) (ms ns : List (List ℕ)) → IsIncreasing O ms → IsIncreasing O ns →
+    ((m n : List ℕ) → Contains ms m → Contains ns n → O.compare m n ≡ Less) → IsIncreasing O (ms ++ ns)
+increasing_append O [] ns h k b = k
+increasing_append O (m ∷ []) [] h k b = tt
+increasing_append O (m ∷ []) (n ∷ ns) h k b = (b m n (contains_here m []) (contains_here n ns), k)
+increasing_append O (m ∷ (l ∷ ms)) ns h k b = (h.0, increasing_append O (l ∷ ms) ns h.1 k (λ x y i j. b x y (contains_there m (l ∷ ms) x i) j))

@@ -67,7 +67,7 @@ sum-product (a ∷ m) (b ∷ n) = omega (arith, sum-product m n, cons (a + b) (p
     cons : (x : ℕ) (xs : List ℕ) → sum (x ∷ xs) ≡ x + sum xs
     cons x xs = sum_by-cons (λ y. y) x xs
 
-IsTrimmed-drop : (i : ℕ) (m : List ℕ) → IsTrimmed m → IsTrimmed (drop i m)
+pub IsTrimmed-drop : (i : ℕ) (m : List ℕ) → IsTrimmed m → IsTrimmed (drop i m)
 IsTrimmed-drop zero m h = h
 IsTrimmed-drop (suc i) [] h = tt
 IsTrimmed-drop (suc i) (a ∷ m) h = IsTrimmed-drop i m (trimmed_tail a m h)
@@ -137,21 +137,21 @@ by_first f R m n h = ap (λ o. ordering_then o (R m n)) (below (f m) (f n) h)
     below : (x y : ℕ) → x < y → nat_cmp x y ≡ Less
     below x y h = grind (arith, nat_tests)
 
+then_parts : (o p : Ordering) → ordering_then o p ≡ Equal → (o ≡ Equal) × (p ≡ Equal)
+then_parts Less p h = absurd cc
+then_parts Equal p h = (refl, h)
+then_parts Greater p h = absurd cc
+
+numbers_equal : (x y : ℕ) → nat_cmp x y ≡ Equal → x ≡ y
+numbers_equal x y h = grind (arith, nat_tests)
+
 pub lex_equal : (m n : List ℕ) → lex m n ≡ Equal → m ≡ n
 lex_equal [] [] h = refl
 lex_equal [] (b ∷ n) h = cc
 lex_equal (a ∷ m) [] h = cc
 lex_equal (a ∷ m) (b ∷ n) h =
-    let r = then_equal (nat_cmp a b) (lex m n) h in
-    ap (λ x. x ∷ m) (number a b r.0) ∙ ap (λ x. b ∷ x) (lex_equal m n r.1)
-  where
-    then_equal : (o p : Ordering) → ordering_then o p ≡ Equal → (o ≡ Equal) × (p ≡ Equal)
-    then_equal Less p h = absurd cc
-    then_equal Equal p h = (refl, h)
-    then_equal Greater p h = absurd cc
-
-    number : (x y : ℕ) → nat_cmp x y ≡ Equal → x ≡ y
-    number x y h = grind (arith, nat_tests)
+    let r = then_parts (nat_cmp a b) (lex m n) h in
+    ap (λ x. x ∷ m) (numbers_equal a b r.0) ∙ ap (λ x. b ∷ x) (lex_equal m n r.1)
 
 then_second : (o p : Ordering) → ordering_then o p ≡ Equal → p ≡ Equal
 then_second Less p h = absurd cc
@@ -197,14 +197,6 @@ reverse_then : (o p : Ordering) → ordering_reverse (ordering_then o p) ≡ ord
 reverse_then Less p = refl
 reverse_then Equal p = refl
 reverse_then Greater p = refl
-
-then_parts : (o p : Ordering) → ordering_then o p ≡ Equal → (o ≡ Equal) × (p ≡ Equal)
-then_parts Less p h = absurd cc
-then_parts Equal p h = (refl, h)
-then_parts Greater p h = absurd cc
-
-numbers_equal : (x y : ℕ) → nat_cmp x y ≡ Equal → x ≡ y
-numbers_equal x y h = grind (arith, nat_tests)
 
 pub reverse_lex_equal : (m n : List ℕ) → reverse_lex m n ≡ Equal → m ≡ n
 reverse_lex_equal [] [] h = refl

@@ -8,10 +8,10 @@ use Rattle.monomial_order.specs.Monomial.{Exponents, IsMonomial, Divides, AreCop
 use Rattle.monomial_order.specs.laws.Cofactors.{least_common_multiple_least, Divides-least_common_multiple, Divides-least_common_multiple_right}
 use Rattle.monomial_order.specs.laws.Monomial.{IsMonomial-least_common_multiple}
 use Rattle.monomial_order.specs.laws.Comparing.{equal_or_not, le_or_not, proper_divisor, three_ways}
-use Rattle.monomial_order.specs.laws.Lists.{contains_at, contains_cases, contains_here, contains_there, contains_none, contains_left, contains_right, contains_map}
+use Rattle.monomial_order.specs.laws.Lists.{contains_at, contains_cases, contains_here, contains_there, contains_none, contains_left, contains_right, contains_map, contains_one}
 use Rattle.word_laws.specs.Words.{Letters, AreLetters, word_order_of, image_of, IsWord, IsSmaller, IsZeroClosed}
 use Rattle.word_laws.specs.laws.Words.{word_laws, x_word, image_same}
-use Rattle.word_rewriting.specs.Rewriting.{WordOrZero, RewriteRule, Rewrites, stays, AreJoinable, IsInNormalForm}
+use Rattle.word_rewriting.specs.Rewriting.{WordOrZero, RewriteRule, Rewrites, stays, AreJoinable, IsInNormalForm, KeepsRules}
 use Rattle.word_rewriting.specs.Completeness.{lead_letter, with_leads, AreInX, IsRightSide, AreRewriteRules, HasImage, GeneratesReducible, AreComplete}
 use Rattle.word_rewriting.specs.Completion.{RulePair, AreConnected, directly, turned, through, HasConnectedPair, AreAbove, IsCompletion, HasPairsWith, lead_rules, zero_rules, first_rules, Orients, lead_rule_of, zero_rule_of}
 use Rattle.word_rewriting.specs.laws.Rewriting.{rule_rewrites, rewrites_trans, more_rewrites, more_joinable}
@@ -21,11 +21,8 @@ use Rattle.word_rewriting.specs.laws.Connected.{later_connected, lift}
 use Rattle.word_rewriting.specs.laws.Complete.{GenerateZeros, generates_complete}
 use Rattle.word_rewriting.specs.laws.MoreLeads.{word_stays, rules_stay, new_letter_smaller}
 
-abbrev Grows : List RewriteRule → List RewriteRule → Type 0
-Grows R S = (r : RewriteRule) → Contains R r → Contains S r
-
 -- with more rules, and another list that has the listed pairs connected, what is connected stays so
-connected_stays : (R S : List RewriteRule) (old new : List RulePair) → Grows R S →
+connected_stays : (R S : List RewriteRule) (old new : List RulePair) → KeepsRules R S →
     ((r s : RewriteRule) → Contains old (r, s) → HasConnectedPair S new r s) → (l : Exponents) {r s : RewriteRule} → Divides r.left l → Divides s.left l →
     AreConnected R old l r s → AreConnected S new l r s
 connected_stays R S old new h k l dr ds (directly {r = r} {s = s} x) =
@@ -34,7 +31,7 @@ connected_stays R S old new h k l dr ds (directly {r = r} {s = s} x) =
 connected_stays R S old new h k l dr ds (turned x) = turned (connected_stays R S old new h k l ds dr x)
 connected_stays R S old new h k l dr ds (through t ht dt x y) = through t (h t ht) dt (connected_stays R S old new h k l dr dt x) (connected_stays R S old new h k l dt ds y)
 
-more_connected : (R S : List RewriteRule) (old new : List RulePair) → Grows R S → ((p : RulePair) → Contains old p → Contains new p) →
+more_connected : (R S : List RewriteRule) (old new : List RulePair) → KeepsRules R S → ((p : RulePair) → Contains old p → Contains new p) →
     (r s : RewriteRule) → HasConnectedPair R old r s → HasConnectedPair S new r s
 more_connected R S old new h k r s x =
     connected_stays R S old new h (λ r s z. directly (inr (inl (k (r, s) z)))) (lcm r.left s.left) (Divides-least_common_multiple r.left s.left) (Divides-least_common_multiple_right r.left s.left) x
@@ -220,7 +217,7 @@ module _ (IsZero : Exponents → Type 0) (L : Letters) (H : AreLetters L) (close
       image = x_image R h.rules m (Some u) hm to
 
       one : (x : Exponents) → Contains (m ∷ []) x → IsMonomial (length L.degrees) x × (x ≢ [])
-      one x k = ⊎_elim (λ e. subst (λ y. IsMonomial (length L.degrees) y × (y ≢ [])) e (hm, ne)) (λ n. absurd (contains_none x n)) (contains_cases m [] x k)
+      one x k = subst (λ y. IsMonomial (length L.degrees) y × (y ≢ [])) (contains_one m x k) (hm, ne)
 
       older : (i : ℕ) → i < length L.leads → AreJoinable (R ++ t ∷ []) (Some (get_or (L.leads ++ m ∷ []) i [])) (Some (lead_letter L i))
       older i l =

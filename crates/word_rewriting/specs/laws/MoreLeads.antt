@@ -13,20 +13,12 @@ use Rattle.monomial_order.specs.Monomial.{Exponents, IsTrimmed, IsMonomial, vari
 use Rattle.monomial_order.specs.Orders.{lex, word_order}
 use Rattle.monomial_order.specs.laws.Lists.{contains_at}
 use Rattle.word_laws.specs.Words.{Letters, AreLetters, lead_degrees, word_order_of, image_of, IsWord, IsSmaller, image, variables}
-use Rattle.word_laws.specs.laws.Images.{weighted_front, image_front, length-variables}
+use Rattle.word_laws.specs.laws.Images.{image_front, length-variables}
 use Rattle.word_laws.specs.laws.Words.{degree_same}
+use Rattle.word_laws.specs.laws.Longer.{longer_compare}
 use Rattle.word_rewriting.specs.Rewriting.{WordOrZero, RewriteRule}
 use Rattle.word_rewriting.specs.Completeness.{lead_letter, with_leads, IsRightSide, AreRewriteRules}
 use Rattle.word_rewriting.specs.laws.Letters.{places_count, letter_image, letter_word}
-
--- the comparison of words does not depend on later letters
-order_front : (xs ss ts v w : List ℕ) → length v ≤ length (xs ++ ss) → length w ≤ length (xs ++ ss) → (word_order xs (ss ++ ts)).compare v w ≡ (word_order xs ss).compare v w
-order_front xs ss ts v w hv hw =
-    ap (λ o. ordering_then o (ordering_then (nat_cmp (sum (take (length xs) v)) (sum (take (length xs) w))) (ordering_then (lex (drop (length xs) v) (drop (length xs) w)) (lex v w))))
-    (ap (λ x. nat_cmp x (weighted_degree (xs ++ (ss ++ ts)) w)) (degree v hv) ∙ ap (nat_cmp (weighted_degree (xs ++ ss) v)) (degree w hw))
-  where
-    degree : (u : List ℕ) → length u ≤ length (xs ++ ss) → weighted_degree (xs ++ (ss ++ ts)) u ≡ weighted_degree (xs ++ ss) u
-    degree u h = ap (λ ws. weighted_degree ws u) (sym (append_assoc xs ss ts)) ∙ weighted_front (xs ++ ss) ts u h
 
 module _ (L : Letters) (leads : List Exponents) where
   degrees_more : lead_degrees (with_leads L leads) ≡ lead_degrees L ++ map (weighted_degree L.degrees) leads
@@ -55,7 +47,7 @@ module _ (L : Letters) (leads : List Exponents) where
   pub compare_stays : (v w : Exponents) → IsWord L v → IsWord L w → (word_order_of (with_leads L leads)).compare v w ≡ (word_order_of L).compare v w
   compare_stays v w hv hw =
       ap (λ ds. (word_order L.degrees ds).compare v w) degrees_more ∙
-      order_front L.degrees (lead_degrees L) (map (weighted_degree L.degrees) leads) v w hv.within hw.within
+      longer_compare L.degrees (lead_degrees L) (map (weighted_degree L.degrees) leads) v w hv.within hw.within
 
   pub smaller_stays : (w v : Exponents) → IsWord L w → IsSmaller L w v → IsSmaller (with_leads L leads) w v
   smaller_stays w v hw h = record {

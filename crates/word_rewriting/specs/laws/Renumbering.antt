@@ -46,13 +46,16 @@ pub turned : (L : Letters) (d : ℕ) (before after : List Exponents) → AreRenu
 turned L d before after h = record { old_leads = h.new_leads; new_leads = h.old_leads; members = λ m. ((h.members m).1, (h.members m).0) }
 
 module _ (L : Letters) (H : AreLetters L) (d : ℕ) (leads : List Exponents) (K : AreLastLeads L d leads) where
+  pub in_x_not_one : (m : Exponents) → Contains leads m → IsMonomial (length L.degrees) m × (m ≢ [])
+  in_x_not_one m k = (K.in_x m k, K.not_one m k)
+
   pub last_letters : AreLetters (with_leads L leads)
-  last_letters = letters_stay L H leads (λ m k. (K.in_x m k, K.not_one m k))
+  last_letters = letters_stay L H leads in_x_not_one
 
   letter_degree : (j : ℕ) → j < length leads → (word_order_of (with_leads L leads)).degree (lead_letter L (length L.leads + j)) ≡ d
   letter_degree j l =
       sym (degree_image (with_leads L leads) last_letters (lead_letter L (length L.leads + j))) ∙
-      (ap (word_order_of (with_leads L leads)).degree (new_image L H leads (λ m k. (K.in_x m k, K.not_one m k)) j) ∙
+      (ap (word_order_of (with_leads L leads)).degree (new_image L H leads in_x_not_one j) ∙
       (degree_x (with_leads L leads) last_letters (get_or leads j []) (K.in_x (get_or leads j []) (contains_at leads j [] l)) ∙
       K.degree (get_or leads j []) (contains_at leads j [] l)))
 
@@ -80,12 +83,38 @@ module _ (L : Letters) (H : AreLetters L) (d : ℕ) (leads : List Exponents) (K 
                 (equal_or_not (lead_letter L (length L.leads + j)) v),
           )
 
+  -- the letter of a lead that does not count as zero is irreducible
+  pub last_irreducible : (IsZero : Exponents → Type 0) → ((m : Exponents) → Contains leads m → ¬ IsZero m) →
+      (j : ℕ) → j < length leads → ¬ IsReducible IsZero (with_leads L leads) (lead_letter L (length L.leads + j))
+  last_irreducible IsZero standard j l r =
+      ⊎_elim (λ z. standard (get_or leads j []) (contains_at leads j [] l) (subst IsZero (new_image L H leads in_x_not_one j) z)) (λ s. smaller s.0 s.1) r
+    where
+      M : Letters
+      M = with_leads L leads
+
+      letter : Exponents
+      letter = lead_letter L (length L.leads + j)
+
+      smaller : (v : Exponents) → IsSmaller M letter v → ⊥
+      smaller v s =
+          let e = degree_same M last_letters v letter s.image in
+          let f = letter_degree j l in
+          ⊎_elim
+          (λ k. not_below_self (word_order_of M) (word_laws M last_letters) v ((word_laws M last_letters).total.trans v letter v s.less
+          (new_letter_smaller L H leads in_x_not_one j l v k (sym (image_stays L leads v k) ∙ (s.image ∙ new_image L H leads in_x_not_one j))).less))
+          (λ i.
+          let lead : get_or leads i.0 [] ≡ get_or leads j [] = sym (new_image L H leads in_x_not_one i.0) ∙ (ap (image_of M) (sym i.2) ∙ (s.image ∙ new_image L H leads in_x_not_one j)) in
+          let q = same_index leads K.distinct i.0 j i.1 l lead in
+          not_below_self (word_order_of M) (word_laws M last_letters) letter
+          (subst (λ x. (word_order_of M).compare x letter ≡ Less) (i.2 ∙ ap (λ n. lead_letter L (length L.leads + n)) q) s.less))
+          (word_cases v s.word (omega arith))
+
 module _ (L : Letters) (H : AreLetters L) (d : ℕ) (before after : List Exponents) (K : AreRenumbered L d before after) where
   old_new : (m : Exponents) → Contains before m → IsMonomial (length L.degrees) m × (m ≢ [])
-  old_new m k = (K.old_leads.in_x m k, K.old_leads.not_one m k)
+  old_new = in_x_not_one L H d before K.old_leads
 
   new_new : (m : Exponents) → Contains after m → IsMonomial (length L.degrees) m × (m ≢ [])
-  new_new m k = (K.new_leads.in_x m k, K.new_leads.not_one m k)
+  new_new = in_x_not_one L H d after K.new_leads
 
   -- each word of degree at most d can be renumbered
   pub renumbered : (v : Exponents) → IsWord (with_leads L before) v → (word_order_of (with_leads L before)).degree v ≤ d → (w : Exponents) × IsRenumbered L before after v w

@@ -5,7 +5,7 @@ use Rattle.monomial_order.specs.laws.Monomial.{product_assoc, IsTrimmed-product}
 use Rattle.monomial_order.specs.laws.Cofactors.{divides_or_not, Divides-product_right}
 use Rattle.monomial_order.specs.laws.Lists.{find_member}
 use Rattle.monomial_order.specs.laws.Comparing.{equal_or_not}
-use Rattle.word_rewriting.specs.Rewriting.{WordOrZero, RewriteRule, RewritesOnce, Rewrites, stays, steps, AreJoinable, HasLeftDivisor, IsInNormalForm, multiple}
+use Rattle.word_rewriting.specs.Rewriting.{WordOrZero, RewriteRule, RewritesOnce, Rewrites, stays, steps, AreJoinable, HasLeftDivisor, IsInNormalForm, multiple, KeepsRules}
 
 pub same_or_not : (a b : WordOrZero) → (a ≡ b) ⊎ (a ≡ b → ⊥)
 same_or_not None None = inl refl
@@ -79,12 +79,12 @@ rule_rewrites R t h = steps (record { rule = t; listed = h; by = record { cofact
     once (Some v) = refl
 
 -- more rules rewrite more
-more_once : (R S : List RewriteRule) → ((r : RewriteRule) → Contains R r → Contains S r) → (w : Exponents) (a : WordOrZero) → RewritesOnce R w a → RewritesOnce S w a
+more_once : (R S : List RewriteRule) → KeepsRules R S → (w : Exponents) (a : WordOrZero) → RewritesOnce R w a → RewritesOnce S w a
 more_once R S h w a s = record { rule = s.rule; listed = h s.rule s.listed; by = s.by }
 
-pub more_rewrites : (R S : List RewriteRule) → ((r : RewriteRule) → Contains R r → Contains S r) → {a b : WordOrZero} → Rewrites R a b → Rewrites S a b
+pub more_rewrites : (R S : List RewriteRule) → KeepsRules R S → {a b : WordOrZero} → Rewrites R a b → Rewrites S a b
 more_rewrites R S h stays = stays
 more_rewrites R S h (steps {w = w} {a = a} s r) = steps (more_once R S h w a s) (more_rewrites R S h r)
 
-pub more_joinable : (R S : List RewriteRule) → ((r : RewriteRule) → Contains R r → Contains S r) → (a b : WordOrZero) → AreJoinable R a b → AreJoinable S a b
+pub more_joinable : (R S : List RewriteRule) → KeepsRules R S → (a b : WordOrZero) → AreJoinable R a b → AreJoinable S a b
 more_joinable R S h a b j = (j.0, more_rewrites R S h j.1, more_rewrites R S h j.2)

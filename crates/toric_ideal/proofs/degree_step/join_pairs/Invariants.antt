@@ -1,8 +1,9 @@
 use Rattle.std.proofs.Common.{◌+◌, length}
 use Rattle.word_laws.specs.Words.{word_order_of}
+use Rattle.word_rewriting.specs.Rewriting.{KeepsRules}
 use Rattle.degree_queue.specs.DegreeQueue.{list_of}
 use Rattle.toric_ideal.specs.Alphabet.{letters_of}
-use Rattle.toric_ideal.specs.Step.{IsGrowing, KeepsFirst, KeepsRules}
+use Rattle.toric_ideal.specs.Step.{IsGrowing, KeepsFirst}
 use Rattle.toric_ideal.proofs.JoiningPairs.{IsJoining}
 use Rattle.toric_ideal.proofs.degree_step.join_pairs.Given as goal
 

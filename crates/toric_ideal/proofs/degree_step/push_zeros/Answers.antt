@@ -2,10 +2,10 @@ use Rattle.std.proofs.Common.{◌≡◌, ◌<◌, ◌+◌, ◌∙◌, ℕ, suc, 
 use Rattle.std.specs.Prelude.{Contains}
 use Rattle.monomial_order.specs.Monomial.{weighted_degree}
 use Rattle.word_laws.specs.Words.{Letters}
-use Rattle.word_rewriting.specs.Rewriting.{RewriteRule, Rewrites}
+use Rattle.word_rewriting.specs.Rewriting.{RewriteRule, Rewrites, KeepsRules}
 use Rattle.word_rewriting.specs.laws.Rewriting.{more_rewrites}
 use Rattle.toric_ideal.specs.Alphabet.{letters_of}
-use Rattle.toric_ideal.specs.Step.{KeepsRules, ZerosVanish}
+use Rattle.toric_ideal.specs.Step.{ZerosVanish}
 use Rattle.toric_ideal.proofs.JoiningPairs.{keeps_first_trans}
 use Rattle.toric_ideal.proofs.Members.{take_next, take_whole}
 use Rattle.toric_ideal.proofs.degree_step.push_zeros.Goals as goal
