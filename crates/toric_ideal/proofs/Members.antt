@@ -1,10 +1,13 @@
 -- Members of the parts of lists.
-use Rattle.std.proofs.Common.{◌≡◌, ℕ, suc, ◌<◌, ◌≤◌, sym, ◌∙◌, subst, List, [], ◌∷◌, length, take, drop, get_or, arith, drop-cons, ◌⊎◌, inl, inr, ⊎_elim}
+use Rattle.std.proofs.Common.{◌≡◌, ℕ, suc, ◌<◌, ◌≤◌, sym, ◌∙◌, subst, List, [], ◌∷◌, length, take, drop, get_or, arith, drop-cons, ◌⊎◌, inl, inr, ⊎_elim, ◌≢◌, false}
 use Rattle.std.specs.Prelude.{Contains}
 use Rattle.std.proofs.Math.Seq.{drop-length, take-suc}
 use Rattle.std.proofs.lemmas.List.{get_or-take, length-take-le, take-append-drop, take_all}
 use Rattle.std.proofs.lemmas.List.Elements.{Contains-append_cases, Contains-append_left, Contains-append_right, Contains-push, Contains-push_cases}
+use Rattle.std.specs.Cmp.Lexicographic.{nat_list_eq_equiv}
 use Rattle.monomial_order.specs.laws.Lists.{contains_at, contains_cases, contains_none}
+use lib.Pointwise.{pointwise}
+use lib.Dec.{eqb}
 
 -- a member of the first i + 1 is that at i, or one of the first i
 pub take_next : {A : Type 0} (xs : List A) (i : ℕ) (d : A) → i < length xs → (z : A) → Contains (take (suc i) xs) z → (get_or xs i d ≡ z) ⊎ Contains (take i xs) z
@@ -41,3 +44,7 @@ take_index xs i z l h = let n = length-take-le i xs l in let k = h.1 in let b : 
 -- the item of a loop over a list
 pub item_contained : {A : Type 0} (xs items : List A) (i : ℕ) (x : A) → items ≡ xs → i < length items → x ≡ get_or items i x → Contains xs x
 item_contained xs items i x e l q = subst (λ ys. Contains ys x) e (subst (Contains items) (sym q) (contains_at items i x l))
+
+-- words that a test tells apart differ
+pub words_differ : (x m : List ℕ) → pointwise eqb x m ≡ false → x ≢ m
+words_differ x m h e = let t = nat_list_eq_equiv.refl m in let q : pointwise eqb m m ≡ false = subst (λ y. pointwise eqb y m ≡ false) e h in cc

@@ -1,15 +1,10 @@
-use Rattle.std.proofs.Common.{◌≡◌, ◌≢◌, ℕ, List, [], false, ◌∙◌, sym, subst, arith}
-use lib.Pointwise.{pointwise}
-use lib.Dec.{eqb}
-use Rattle.std.specs.Cmp.Lexicographic.{nat_list_eq_equiv}
+use Rattle.std.proofs.Common.{[], ◌∙◌, sym, subst, arith}
 use Rattle.toric_ideal.specs.Increasing.{IsInsertionIndex, IsInserted}
 use Rattle.toric_ideal.proofs.IncreasingLists.{insert_new}
 use Rattle.std.proofs.lemmas.List.{get_or_default}
+use Rattle.toric_ideal.proofs.Members.{words_differ}
 use Rattle.toric_ideal.proofs.increasing.insert.Goals as goal
 use Rattle.toric_ideal.proofs.increasing.insert.Goals.{else-index-len-via-then-index-len+else-eq, else-index-len-via-else-index-len}
-
-differs : (x m : List ℕ) → pointwise eqb x m ≡ false → x ≢ m
-differs x m h e = let t = nat_list_eq_equiv.refl m in let q : pointwise eqb m m ≡ false = subst (λ y. pointwise eqb y m ≡ false) e h in cc
 
 pub returns : goal.returns
 returns g c =
@@ -22,6 +17,6 @@ returns g c =
     subst (λ new. IsInserted O ms new m) (sym c.in_ok-insert.ensures.items)
     (insert_new O W ms m i c.requires.increasing place
     (elim c.else-index-len.branch [
-      | else-index-len-via-then-index-len+else-eq w ↦ λ l. λ q. differs w.index.result.now m (sym w.eq.ensures ∙ w.if-eq.false) (w.index.ensures ∙ (get_or_default ms i w.index.result.now [] l ∙ q))
+      | else-index-len-via-then-index-len+else-eq w ↦ λ l. λ q. words_differ w.index.result.now m (sym w.eq.ensures ∙ w.if-eq.false) (w.index.ensures ∙ (get_or_default ms i w.index.result.now [] l ∙ q))
       | else-index-len-via-else-index-len w ↦ λ l. absurd (let a = w.if-index-len.false in let b = c.len.ensures in let o = c.args.list.now.ok in omega arith)
     ]))

@@ -1,16 +1,11 @@
-use Rattle.std.proofs.Common.{◌≡◌, ◌≢◌, ℕ, List, false, ◌∙◌, sym, ap, subst, arith}
-use lib.Pointwise.{pointwise}
-use lib.Dec.{eqb}
-use Rattle.std.specs.Cmp.Lexicographic.{nat_list_eq_equiv}
+use Rattle.std.proofs.Common.{◌∙◌, sym, ap, subst, arith}
 use Rattle.toric_ideal.specs.declared.rule.Rule.{Rule}
 use Rattle.toric_ideal.specs.Increasing.{IsInsertionIndex}
 use Rattle.toric_ideal.specs.SortedRules.{words_of, HaveSmallWords, IsInsertedRule}
 use Rattle.toric_ideal.proofs.RuleLists.{inserted_new, word_at, words_length}
+use Rattle.toric_ideal.proofs.Members.{words_differ}
 use Rattle.toric_ideal.proofs.sorting.insert.Goals as goal
 use Rattle.toric_ideal.proofs.sorting.insert.Goals.{else-index-len-via-then-index-len+else-eq, else-index-len-via-else-index-len}
-
-differs : (x m : List ℕ) → pointwise eqb x m ≡ false → x ≢ m
-differs x m h e = let t = nat_list_eq_equiv.refl m in let q : pointwise eqb m m ≡ false = subst (λ y. pointwise eqb y m ≡ false) e h in cc
 
 pub insertion_index-index-requires-clause-small : goal.insertion_index-index-requires-clause-small
 insertion_index-index-requires-clause-small g c = subst (HaveSmallWords (g.O.Order.order c.args.o.now)) (sym c.as_slice.ensures.value) c.requires.small
@@ -27,7 +22,7 @@ returns g c =
     subst (λ new. IsInsertedRule O rules new t) (sym c.in_ok-insert.ensures.items)
     (inserted_new O W rules t i c.requires.increasing place
     (elim c.else-index-len.branch [
-      | else-index-len-via-then-index-len+else-eq w ↦ λ l. λ q. differs w.index.result.now.word t.word (sym w.eq.ensures ∙ w.if-eq.false)
+      | else-index-len-via-then-index-len+else-eq w ↦ λ l. λ q. words_differ w.index.result.now.word t.word (sym w.eq.ensures ∙ w.if-eq.false)
           (ap (λ (r : Rule). r.word) w.index.ensures ∙ (sym (word_at rules i w.index.result.now (omega arith)) ∙ q))
       | else-index-len-via-else-index-len w ↦ λ l. absurd (let a = w.if-index-len.false in let b = c.len.ensures in let o = c.args.rules.now.ok in omega arith)
     ]))

@@ -1,4 +1,4 @@
-use Rattle.std.proofs.Common.{◌≡◌, ◌≢◌, ◌≤◌, ◌+◌, ◌∙◌, ◌++◌, ◌∷◌, [], List, Some, arith, ap, false, length, subst, sym, take, drop}
+use Rattle.std.proofs.Common.{◌≡◌, ◌≢◌, ◌≤◌, ◌+◌, ◌∙◌, ◌∷◌, [], List, Some, ap, false, length, subst, sym, take, drop}
 use Rattle.std.specs.Prelude.{Contains}
 use Rattle.monomial_order.specs.Monomial.{Exponents, IsMultiple}
 use Rattle.monomial_order.specs.MonomialOrder.{IsIncreasing}
@@ -7,7 +7,6 @@ use Rattle.word_rewriting.specs.Rewriting.{RewriteRule}
 use Rattle.word_rewriting.specs.Completeness.{lead_letter, with_leads}
 use Rattle.monomial_order.specs.Orders.{word_order}
 use Rattle.word_rules.specs.Rules.{IsSmallWord}
-use Rattle.toric_ideal.specs.declared.completion.Completion.{Completion}
 use Rattle.toric_ideal.specs.declared.rule.Rule.{Rule}
 use Rattle.toric_ideal.specs.Alphabet.{letters_of}
 use Rattle.toric_ideal.specs.Increasing.{IsInsertionIndex}
