@@ -10,13 +10,9 @@ use Rattle.monomial_order.specs.MonomialOrder.{MonomialOrder, IsMonomialOrder}
 use Rattle.polynomials.specs.Polynomial.{Polynomial, same_monomial, share, coefficient, Same, term_of, term_times, scaled, AllAt, IsTerm, IsBelow, IsDecreasing, IsSmall, IsCanonical}
 use Rattle.polynomials.specs.laws.Same.{append_same, append_comm, cons_zero}
 use Rattle.polynomials.specs.laws.Decreasing.{IsBelow_trans}
-use Rattle.polynomials.specs.laws.Terms.{AllAt-append, IsBelow-append, IsBelow-right, IsDecreasing-left, IsDecreasing-right, IsSmall-append, IsSmall-left, IsSmall-right}
+use Rattle.polynomials.specs.laws.Terms.{AllAt-append, IsBelow-append, IsBelow-right, IsDecreasing-left, IsDecreasing-right, IsSmall-append, IsSmall-left, IsSmall-right, AllAt-map}
 use Rattle.linked_terms.specs.Cursor.{Cursor}
 use Rattle.linked_terms.specs.Merging.{IsAbove, NextIs, HasPassed, IsCombined, IsAdded}
-
-pub AllAt-map : {E : Type 0} (P Q : Exponents → Type 0) → ((k : Exponents) → P k → Q k) → (p : Polynomial E) → AllAt P p → AllAt Q p
-AllAt-map P Q h [] a = tt
-AllAt-map P Q h (t ∷ p) a = (h t.at a.0, AllAt-map P Q h p a.1)
 
 AllAt-both : {E : Type 0} (P Q : Exponents → Type 0) (p : Polynomial E) → AllAt P p → AllAt Q p → AllAt (λ k. P k × Q k) p
 AllAt-both P Q [] a b = tt

@@ -5,6 +5,7 @@ pub mod Same
 pub mod Value
 pub mod Decreasing
 pub mod Terms
+pub mod Lowering
 pub mod Leads
 pub mod Canonical
 pub mod Ideal

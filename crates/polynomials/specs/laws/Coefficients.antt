@@ -7,7 +7,7 @@ use Rattle.monomial_order.specs.declared.terms.Term.{Term}
 use Rattle.monomial_order.specs.Monomial.{Exponents, product, IsMonomial, variable}
 use Rattle.monomial_order.specs.MonomialOrder.{MonomialOrder, IsMonomialOrder}
 use Rattle.monomial_order.specs.laws.Comparing.{not_below_self, degree_falls}
-use Rattle.polynomials.specs.Polynomial.{Polynomial, same_monomial, coefficient, Same, term_of, scaled, times, minus, constant, IsTerm, IsPoly, IsBelow, IsLead, IsSmall, IsDecreasing, AllAt, lead_monomial}
+use Rattle.polynomials.specs.Polynomial.{Polynomial, same_monomial, coefficient, Same, term_of, scaled, times, minus, constant, IsTerm, IsPoly, IsBelow, IsLead, IsSmall, IsDecreasing, lead_monomial}
 use Rattle.polynomials.specs.laws.Ring.{coefficient_value, coefficient-append, times_comm}
 use Rattle.polynomials.specs.laws.Same.{same_true, append_comm, coefficient-negated}
 use Rattle.polynomials.specs.laws.Value.{one_times}
@@ -15,7 +15,7 @@ use Rattle.polynomials.specs.laws.Canonical.{IsLead_same}
 use Rattle.polynomials.specs.laws.Degrees.{all_found}
 use Rattle.polynomials.specs.laws.Decreasing.{IsDecreasing_IsPoly, IsLead_first, IsLead_unique}
 use Rattle.polynomials.specs.Value.{monomial_value, value}
-use Rattle.polynomials.specs.laws.Terms.{scaled_below}
+use Rattle.polynomials.specs.laws.Terms.{scaled_below, poly_monomials}
 pub use Rattle.polynomials.specs.laws.Ideal.{constant_poly}
 pub use Rattle.polynomials.specs.laws.Congruence.{sum_nonzero, minus_nonzero, minus_poly}
 
@@ -75,13 +75,9 @@ module _ {E : Type 0} (K : FieldOps E) (F : IsField K) (O : MonomialOrder) (L : 
   pub lead_sum_right : (p q : Polynomial E) (m : Exponents) → IsLead K O q m → ((n : Exponents) → coefficient K p n ≢ K.zero → O.compare n m ≡ Less) → IsLead K O (p ++ q) m
   lead_sum_right p q m h k = IsLead_same K F O L (q ++ p) (p ++ q) m (append_comm K F q p) (lead_sum q p m h k)
 
-  all_monomials : (p : Polynomial E) → IsPoly K O.places p → AllAt (IsMonomial O.places) p
-  all_monomials [] h = tt
-  all_monomials (t ∷ p) h = (h.0.monomial, all_monomials p h.1)
-
   -- a monomial with a nonzero coefficient is one in the places
   pub found_monomial : (p : Polynomial E) → IsPoly K O.places p → (m : Exponents) → coefficient K p m ≢ K.zero → IsMonomial O.places m
-  found_monomial p h m k = all_found K F O L (IsMonomial O.places) p (all_monomials p h) m k
+  found_monomial p h m k = all_found K F O L (IsMonomial O.places) p (poly_monomials K O.places p h) m k
 
   pub small_below : (M : Exponents) (p : Polynomial E) → IsBelow K O M p → O.degree M ≤ 65535 → IsSmall O p
   small_below M [] h l = tt

@@ -6,6 +6,7 @@ use Rattle.word_field.specs.Field.{FieldOps, IsField}
 use Rattle.monomial_order.specs.declared.terms.Term.{Term}
 use Rattle.monomial_order.specs.Monomial.{Exponents, weighted_degree}
 use Rattle.monomial_order.specs.MonomialOrder.{MonomialOrder, IsMonomialOrder}
+use Rattle.monomial_order.specs.laws.Comparing.{degree_one}
 use Rattle.polynomials.specs.Polynomial.{Polynomial, coefficient, Same, minus, constant, component, IsTerm, IsPoly, IsHomogeneous}
 use Rattle.polynomials.specs.Value.{monomial_value, term_value, value}
 use Rattle.polynomials.specs.Subalgebra.{Presented, IsPresentation, IsGenerator, AreGenerators, InSubalgebra}
@@ -13,7 +14,6 @@ use Rattle.polynomials.specs.laws.Same.{append_same}
 use Rattle.polynomials.specs.laws.Congruence.{minus_same}
 use Rattle.polynomials.specs.laws.Ideal.{IsPoly-times, InIdeal_same}
 use Rattle.polynomials.specs.laws.Membership.{IsPoly-monomial_value}
-use Rattle.polynomials.specs.laws.ReducedBasis.{degree_one}
 use Rattle.polynomials.specs.laws.Degrees.{component-minus, IsGraded, AreGraded, polys_graded, graded_times, graded_value, graded_component, graded_no_component, all_found, component-append, ideal_component}
 use Rattle.polynomials.specs.laws.NormalForm.{IsPoly-component}
 

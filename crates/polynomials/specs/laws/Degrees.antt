@@ -8,6 +8,7 @@ use Rattle.monomial_order.specs.declared.terms.Term.{Term}
 use Rattle.monomial_order.specs.laws.Lists.{contains_cases, contains_none}
 use Rattle.monomial_order.specs.Monomial.{Exponents, weighted_degree}
 use Rattle.monomial_order.specs.MonomialOrder.{MonomialOrder, IsMonomialOrder}
+use Rattle.monomial_order.specs.laws.Comparing.{degree_one}
 use Rattle.polynomials.specs.Polynomial.{Polynomial, same_monomial, coefficient, Same, times, scaled, constant, term_of, negated, minus, IsPoly, IsDecreasing, IsLead, IsHomogeneous, IsComponent, AllAt, component}
 use Rattle.polynomials.specs.Ideal.{Multiple, AreMultiples, sum_of, InIdeal}
 use Rattle.polynomials.specs.Value.{power, monomial_value}
@@ -17,7 +18,6 @@ use Rattle.polynomials.specs.laws.Same.{same_true, times_same, append_same}
 use Rattle.polynomials.specs.laws.Decreasing.{coefficient_first}
 use Rattle.polynomials.specs.laws.Canonical.{canonical}
 use Rattle.polynomials.specs.laws.Membership.{IsPoly-power, IsPoly-monomial_value, ArePolys}
-use Rattle.polynomials.specs.laws.ReducedBasis.{degree_one}
 use Rattle.polynomials.specs.laws.Leads.{tail_zero}
 use Rattle.polynomials.specs.laws.Terms.{AllAt-append}
 use Rattle.polynomials.specs.laws.Ideal.{times_nil}

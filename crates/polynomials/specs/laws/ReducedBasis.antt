@@ -2,9 +2,9 @@
 use Rattle.std.proofs.Common.{◌≡◌, ◌≢◌, ℕ, ◌+◌, ◌<◌, ◌≤◌, refl, sym, ◌∙◌, ap, subst, List, [], ◌∷◌, ◌++◌, arith, ⊎_elim}
 use Rattle.std.specs.Prelude.{Contains, map}
 use Rattle.std.specs.declared.cmp.Ordering.TheVariants.{Less}
-use Rattle.monomial_order.specs.laws.Lists.{contains_cases, contains_here, contains_there, contains_none}
+use Rattle.monomial_order.specs.laws.Lists.{contains_cases, contains_here, contains_there, contains_none, map_contains}
 use Rattle.monomial_order.specs.Monomial.{Exponents, product}
-use Rattle.monomial_order.specs.MonomialOrder.{MonomialOrder, IsMonomialOrder, IsIncreasing}
+use Rattle.monomial_order.specs.MonomialOrder.{IsIncreasing}
 use Rattle.monomial_order.specs.laws.Monomial.{product_assoc, product-one}
 use Rattle.polynomials.specs.Polynomial.{IsPoly, Polynomial, coefficient, Same, minus, IsLead, lead_monomial}
 use Rattle.polynomials.specs.Subalgebra.{Presented, IsPresentation, product_of, AllIn, IsGenerated, LeadsSubalgebra, IsStandard, IsElement, IsReducedBasis}
@@ -12,18 +12,13 @@ use Rattle.polynomials.specs.laws.Decreasing.{IsDecreasing_IsPoly, IsDecreasing_
 use Rattle.polynomials.specs.laws.Canonical.{zero_or_lead}
 use Rattle.polynomials.specs.laws.Congruence.{coefficient-minus, minus_nonzero, minus_poly, minus_zero}
 use Rattle.polynomials.specs.laws.Membership.{sub_minus}
-use Rattle.monomial_order.specs.laws.Comparing.{not_below_self}
+use Rattle.monomial_order.specs.laws.Comparing.{not_below_self, degree_one}
 
 -- a list around a member
 pub contains_split : {A : Type 0} (xs : List A) (x : A) → Contains xs x → (before : List A) × (after : List A) × (xs ≡ before ++ (x ∷ after))
 contains_split [] x h = absurd (contains_none x h)
 contains_split (y ∷ xs) x h =
     ⊎_elim (λ e. ([], xs, ap (λ z. z ∷ xs) e)) (λ k. let r = contains_split xs x k in (y ∷ r.0, r.1, ap (λ zs. y ∷ zs) r.2)) (contains_cases y xs x h)
-
-pub map_contains : {A B : Type 0} (f : A → B) (xs : List A) (b : B) → Contains (map f xs) b → (x : A) × Contains xs x × (f x ≡ b)
-map_contains f [] b h = absurd (contains_none b h)
-map_contains f (y ∷ xs) b h =
-    ⊎_elim (λ e. (y, contains_here y xs, e)) (λ k. let r = map_contains f xs b k in (r.0, contains_there y xs r.0 r.1, r.2)) (contains_cases (f y) (map f xs) b h)
 
 -- a member other than s is around s
 pub contains_other : {A B : Type 0} (f : A → B) (before : List A) (s : A) (after : List A) (y : B) →
@@ -48,10 +43,6 @@ generated_times M a b h k = record {
   members = AllIn-append M h.factors k.factors h.members k.members;
   product = product_of-append h.factors k.factors ∙ (ap (λ x. product x (product_of k.factors)) h.product ∙ ap (product a) k.product);
 }
-
-module _ (O : MonomialOrder) (L : IsMonomialOrder O) where
-  pub degree_one : O.degree [] ≡ 0
-  degree_one = let e = L.degree_product [] [] in omega arith
 
 module _ {E : Type 0} (P : Presented E) (H : IsPresentation P) (c : ℕ) where
   pub element_IsLead : (s : Polynomial E) → IsElement P c s → IsLead P.field P.order s (lead_monomial s)

@@ -5,7 +5,7 @@ use Rattle.std.specs.declared.cmp.Ordering.TheVariants.{Less}
 use Rattle.word_field.specs.Field.{FieldOps, IsField, IsValue}
 use Rattle.word_field.specs.laws.Field.{times_not_zero}
 use Rattle.monomial_order.specs.declared.terms.Term.{Term}
-use Rattle.monomial_order.specs.Monomial.{Exponents, product}
+use Rattle.monomial_order.specs.Monomial.{Exponents, product, IsMonomial}
 use Rattle.monomial_order.specs.MonomialOrder.{MonomialOrder, IsMonomialOrder}
 use Rattle.monomial_order.specs.laws.Monomial.{IsMonomial-product, product_comm}
 use Rattle.polynomials.specs.Polynomial.{Polynomial, term_of, scaled, times, IsTerm, IsPoly, IsBelow, IsLeadTerm, IsDecreasing, IsSmall, IsCanonical, IsMeasured, AllAt, component}
@@ -29,11 +29,27 @@ module _ {E : Type 0} where
   AllAt-append P [] q h k = k
   AllAt-append P (t ∷ p) q h k = (h.0, AllAt-append P p q h.1 k)
 
+  pub AllAt-left : (P : Exponents → Type 0) (p q : Polynomial E) → AllAt P (p ++ q) → AllAt P p
+  AllAt-left P [] q h = tt
+  AllAt-left P (t ∷ p) q h = (h.0, AllAt-left P p q h.1)
+
+  pub AllAt-right : (P : Exponents → Type 0) (p q : Polynomial E) → AllAt P (p ++ q) → AllAt P q
+  AllAt-right P [] q h = h
+  AllAt-right P (t ∷ p) q h = AllAt-right P p q h.1
+
+  pub AllAt-map : (P Q : Exponents → Type 0) → ((m : Exponents) → P m → Q m) → (p : Polynomial E) → AllAt P p → AllAt Q p
+  AllAt-map P Q f [] h = tt
+  AllAt-map P Q f (t ∷ p) h = (f t.at h.0, AllAt-map P Q f p h.1)
+
 module _ {E : Type 0} (K : FieldOps E) where
   pub terms_all : (n : ℕ) (p : Polynomial E) → IsPoly K n p → All (IsTerm K n) p
   terms_all n [] h k d l = absurd (omega arith)
   terms_all n (t ∷ p) h zero d l = h.0
   terms_all n (t ∷ p) h (suc k) d l = terms_all n p h.1 k d (omega arith)
+
+  pub poly_monomials : (n : ℕ) (p : Polynomial E) → IsPoly K n p → AllAt (IsMonomial n) p
+  poly_monomials n [] h = tt
+  poly_monomials n (t ∷ p) h = (h.0.monomial, poly_monomials n p h.1)
 
   pub all_terms : (n : ℕ) (p : Polynomial E) → All (IsTerm K n) p → IsPoly K n p
   all_terms n [] h = tt
