@@ -7,7 +7,7 @@ use Rattle.word_field.specs.Field.{FieldOps, IsField, IsValue}
 use Rattle.word_field.specs.laws.Field.{zero-times, times-zero, zero-plus-zero, one-times, negate-zero, negate-negate}
 use Rattle.monomial_order.specs.declared.terms.Term.{Term}
 use Rattle.monomial_order.specs.MonomialOrder.{MonomialOrder, IsMonomialOrder}
-use Rattle.monomial_order.specs.laws.Comparing.{degree_falls, greater_less}
+use Rattle.monomial_order.specs.laws.Comparing.{degree_falls, greater_less, degree_one}
 use Rattle.polynomials.specs.Polynomial.{Polynomial, same_monomial, coefficient, Same, term_of, scaled, negated, minus, constant, first_coefficient, AllAt, IsCanonical, IsDecreasing, IsZeroOrHomogeneous, IsDegree}
 use Rattle.polynomials.specs.laws.Ring.{coefficient_value}
 use Rattle.polynomials.specs.laws.Same.{append_same}
@@ -15,7 +15,6 @@ use Rattle.polynomials.specs.laws.Value.{coefficient-scaled}
 use Rattle.polynomials.specs.laws.Congruence.{negated_is}
 use Rattle.polynomials.specs.laws.Decreasing.{coefficient_first, coefficient_above}
 use Rattle.polynomials.specs.laws.Degrees.{decreasing_all, all_found}
-use Rattle.polynomials.specs.laws.ReducedBasis.{degree_one}
 
 -- each item, and each term's monomial
 all_monomials : {E : Type 0} (P : List ℕ → Type 0) (p : Polynomial E) → All (λ t. P t.at) p → AllAt P p

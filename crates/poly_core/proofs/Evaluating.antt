@@ -2,12 +2,12 @@
 use Rattle.std.proofs.Common.{◌≡◌, ℕ, zero, suc, ◌+◌, ◌*◌, ◌<◌, ◌≤◌, refl, sym, ◌∙◌, ap, subst, List, [], ◌∷◌, ◌++◌, length, get_or, drop, append-nil, arith}
 use Rattle.std.specs.Prelude.{map, All}
 use Rattle.std.proofs.Math.Seq.{drop-cons}
-use Rattle.std.proofs.lemmas.List.{drop_all}
+use Rattle.std.proofs.lemmas.List.{drop_all, get_or_default}
 use Rattle.word_field.specs.Field.{FieldOps, IsField}
 use Rattle.monomial_order.specs.declared.terms.Term.{Term}
 use Rattle.monomial_order.specs.Monomial.{exponent, weighted_degree}
 use Rattle.monomial_order.specs.MonomialOrder.{MonomialOrder, IsMonomialOrder}
-use Rattle.monomial_order.specs.laws.Comparing.{degree_falls}
+use Rattle.monomial_order.specs.laws.Comparing.{degree_falls, degree_one}
 use Rattle.polynomials.specs.Polynomial.{Polynomial, coefficient, Same, times, constant, degree_of, AllAt, IsCanonical, IsBelow, IsDecreasing, IsSmall}
 use Rattle.polynomials.specs.Value.{power, monomial_value, term_value, value, value_degree, HasSmallValue}
 use Rattle.poly_core.specs.Powers.{ArePowers, IsPowerOf, IsTable, Reaches}
@@ -16,7 +16,6 @@ use Rattle.polynomials.specs.laws.Same.{times_same, times_same_left, append_same
 use Rattle.polynomials.specs.laws.Value.{one_times, value-append}
 use Rattle.polynomials.specs.laws.Terms.{small_times, within_times}
 use Rattle.polynomials.specs.laws.Degrees.{decreasing_all, all_found}
-use Rattle.polynomials.specs.laws.ReducedBasis.{degree_one}
 
 module _ {E : Type 0} (K : FieldOps E) (F : IsField K) (O : MonomialOrder) (L : IsMonomialOrder O) where
   below_within : (m : List ℕ) (q : Polynomial E) → IsBelow K O m q → AllAt (λ n. O.degree n ≤ O.degree m) q
@@ -135,9 +134,7 @@ pub drop_at : {A : Type 0} (xs : List A) (i : ℕ) (x : A) → i < length xs →
 drop_at xs i x h e = drop-cons xs i x h ∙ (ap (λ y. y ∷ drop (suc i) xs) (sym e) ∙ ap (λ n. x ∷ drop n xs) (let k : suc i ≡ i + 1 = omega arith in k))
 
 pub at_any : {A : Type 0} (xs : List A) (i : ℕ) (x d : A) → i < length xs → x ≡ get_or xs i x → x ≡ get_or xs i d
-at_any [] i x d l e = absurd (omega arith)
-at_any (y ∷ xs) zero x d l e = e
-at_any (y ∷ xs) (suc i) x d l e = at_any xs i x d (omega arith) e
+at_any xs i x d l e = e ∙ get_or_default xs i x d l
 
 module _ {E : Type 0} (K : FieldOps E) (F : IsField K) (O : MonomialOrder) (L : IsMonomialOrder O) (c : E) (m : List ℕ) (fs : List (Polynomial E)) where
   pub partial_at_end : (i : ℕ) (r : Polynomial E) → i ≡ length m → IsCanonical K O r → Same K r (constant K c) → AllAt (λ n. O.degree n ≤ 0) r → IsPartial K O c (drop i m) (drop i fs) r

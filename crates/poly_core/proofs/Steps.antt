@@ -1,19 +1,16 @@
 -- One more term in a loop over the terms of a polynomial.
-use Rattle.std.proofs.Common.{◌≡◌, ◌≢◌, ℕ, ◌+◌, ◌<◌, ◌≤◌, refl, sym, ◌∙◌, ap, subst, List, [], ◌∷◌, ◌++◌, length, take, get_or, cond, true, false, arith, append-nil}
-use Rattle.std.specs.Prelude.{nat_eq, Result, Ok, Err, IfOk}
+use Rattle.std.proofs.Common.{◌≡◌, ◌≢◌, ℕ, ◌+◌, ◌<◌, ◌≤◌, sym, ◌∙◌, ap, subst, List, [], ◌∷◌, ◌++◌, length, take, get_or, cond, arith, append-nil}
+use Rattle.std.specs.Prelude.{Result, Ok, Err, IfOk}
 use Rattle.std.proofs.lemmas.List.{take_more}
-use Rattle.std.proofs.lemmas.Bool.{eqb-true, eq-eqb}
+use Rattle.std.proofs.lemmas.Bool.{eq-eqb}
 use Rattle.word_field.specs.Field.{FieldOps, IsField}
 use Rattle.monomial_order.specs.declared.terms.Term.{Term}
 use Rattle.monomial_order.specs.MonomialOrder.{MonomialOrder, IsMonomialOrder}
 use Rattle.polynomials.specs.Polynomial.{Polynomial, component, coefficient, scaled, times, Same, IsDecreasing, IsSmall, IsCanonical}
-use Rattle.polynomials.specs.laws.Degrees.{component-append}
+use Rattle.polynomials.specs.laws.Degrees.{component-append, differs}
 use Rattle.polynomials.specs.laws.Same.{append_same}
 use Rattle.polynomials.specs.laws.Value.{times-append}
 use Rattle.polynomials.specs.laws.Terms.{IsDecreasing-scaled, IsSmall-left, IsSmall-right, canonical_left, canonical_right}
-
-differs : (a d : ℕ) → a ≢ d → nat_eq a d ≡ false
-differs a d h = elim (nat_eq a d) as (λ b. nat_eq a d ≡ b → b ≡ false) [ true ↦ λ e. absurd (h (eqb-true a d e)) | false ↦ λ e. refl ] refl
 
 module _ {E : Type 0} (O : MonomialOrder) (d : ℕ) (p : Polynomial E) (i : ℕ) (t : Term E) where
   more : i < length p → t ≡ get_or p i t → component O d (take (i + 1) p) ≡ component O d (take i p) ++ component O d (t ∷ [])

@@ -1,12 +1,12 @@
 -- A finished step: each lead of the ideal up to its degree is a multiple, and the quotient goes on to that degree.
-use Rattle.std.proofs.Common.{◌≡◌, ℕ, ◌+◌, ◌<◌, ◌≤◌, refl, sym, ◌∙◌, ap, subst, List, [], ◌∷◌, ◌++◌, length, length-append, arith, inl, inr, ⊎_elim, get_or, Bool, true, false, cond}
+use Rattle.std.proofs.Common.{◌≡◌, ℕ, ◌+◌, ◌<◌, ◌≤◌, refl, sym, ◌∙◌, ap, subst, List, [], ◌++◌, length, length-append, arith, inl, inr, ⊎_elim, get_or, true, false}
 use Rattle.std.proofs.lemmas.List.{length-map, map-append, get_or_append_left}
 use Rattle.std.specs.Prelude.{Contains, map, filter, nat_lt}
 use Rattle.std.proofs.lemmas.Bool.{ltb-false}
 use Rattle.monomial_order.specs.Monomial.{least_common_multiple, AreCoprime, Exponents}
 use Rattle.monomial_order.specs.MonomialOrder.{MonomialOrder}
 use Rattle.monomial_order.specs.laws.Comparing.{le_or_not}
-use Rattle.monomial_order.specs.laws.Lists.{contains_here, contains_there, contains_cases, contains_left, contains_right, contains_either}
+use Rattle.monomial_order.specs.laws.Lists.{contains_left, contains_right, contains_either, filter_has, filter_part}
 use Rattle.polynomials.specs.Polynomial.{Polynomial, IsHomogeneous, lead_monomial}
 use Rattle.polynomials.specs.Subalgebra.{Presented, IsPresentation}
 use Rattle.quotient_gb.specs.declared.basis.Basis.{Basis}
@@ -99,24 +99,6 @@ module _ {F E : Type 0} (P : Presented E) (H : IsPresentation P) (b : Basis F E)
               listed_more P.order (q.leads ++ s.found.leads.items) q.pairs (q.pairs ++ vs) i j (λ w k. contains_left q.pairs vs w k)
               (listed_append P.order q.leads s.found.leads.items q.pairs i j (omega arith) l (hq.pairs.listed i j lt l (omega arith)))
 
-module _ {A : Type 0} (p : A → Bool) where
-  filter_part : (xs : List A) (x : A) → Contains (filter p xs) x → Contains xs x
-  filter_part [] x h = h
-  filter_part (y ∷ xs) x h = by_test (p y) (λ k. filter_part xs x k) h
-    where
-      by_test : (b : Bool) → (Contains (filter p xs) x → Contains xs x) → Contains (cond b (y ∷ filter p xs) (filter p xs)) x → Contains (y ∷ xs) x
-      by_test true r k = ⊎_elim (λ e. subst (Contains (y ∷ xs)) e (contains_here y xs)) (λ i. contains_there y xs x (r i)) (contains_cases y (filter p xs) x k)
-      by_test false r k = contains_there y xs x (r k)
-
-  filter_has : (xs : List A) (x : A) → p x ≡ true → Contains xs x → Contains (filter p xs) x
-  filter_has [] x e h = h
-  filter_has (y ∷ xs) x e h = ⊎_elim (λ s. subst (λ b. Contains (cond b (y ∷ filter p xs) (filter p xs)) x) (sym (ap p s ∙ e)) (subst (Contains (y ∷ filter p xs)) s (contains_here y (filter p xs))))
-      (λ k. by_test (p y) (filter_has xs x e k)) (contains_cases y xs x h)
-    where
-      by_test : (b : Bool) → Contains (filter p xs) x → Contains (cond b (y ∷ filter p xs) (filter p xs)) x
-      by_test true k = contains_there y (filter p xs) x k
-      by_test false k = k
-
 above : (a b : ℕ) → a < b → nat_lt a b ≡ true
 above a b h = elim (nat_lt a b) as (λ v. nat_lt a b ≡ v → v ≡ true) [ true ↦ λ e. refl | false ↦ λ e. absurd (let l = ltb-false a b e in omega arith) ] refl
 
@@ -128,7 +110,7 @@ quotient_above P q q' h d em el ec e = record {
   basis = subst (λ n. IsIdealBasis P n q'.members) (sym d) (subst (IsIdealBasis P q.degree) (sym em) h.basis);
   leads = el ∙ (h.leads ∙ ap (map lead_monomial) (sym em));
   pairs = subst (λ ls. HasPairsAbove P.order ls q'.degree q'.pairs) (sym el) (record {
-    each = λ w k. h.pairs.each w (filter_part (λ w. nat_lt q.degree w.degree) q.pairs w (subst (λ xs. Contains xs w) e k));
+    each = λ w k. h.pairs.each w (filter_part (λ w. nat_lt q.degree w.degree) q.pairs w (subst (λ xs. Contains xs w) e k)).0;
     listed = λ i j lt l above_d.
         let w = pair_at P.order q.leads i j in
         ⊎_elim (λ co. inl co) (λ k. inr (subst (λ xs. Contains xs w) (sym e) (filter_has (λ w. nat_lt q.degree w.degree) q.pairs w (above q.degree w.degree (omega arith)) k))) (h.pairs.listed i j lt l (omega arith));

@@ -1,5 +1,5 @@
 -- A list with a member inserted at an index, or with a member replaced.
-use Rattle.std.proofs.Common.{◌≡◌, ℕ, zero, suc, ◌<◌, ◌≤◌, subst, List, [], ◌∷◌, ◌++◌, length, arith, ◌⊎◌, inl, inr, ⊎_elim, get_or, slice_set}
+use Rattle.std.proofs.Common.{◌≡◌, ℕ, zero, suc, ◌<◌, ◌≤◌, subst, List, [], ◌∷◌, length, arith, ◌⊎◌, inl, inr, ⊎_elim, get_or, slice_set}
 use Rattle.monomial_order.specs.Monomial.{Exponents}
 use Rattle.std.specs.Prelude.{Contains, map}
 use Rattle.std.specs.List.{insert}
@@ -42,10 +42,3 @@ module _ {E : Type 0} (P : Presented E) where
   increasing_insert (n ∷ (n' ∷ ms)) (suc zero) m h l before after = (before 0 (omega arith), (after (omega arith), h.1))
   increasing_insert (n ∷ (n' ∷ ms)) (suc (suc k)) m h l before after =
       (h.0, increasing_insert (n' ∷ ms) (suc k) m h.1 (omega arith) (λ i q. before (suc i) (omega arith)) (λ q. after (omega arith)))
-
-  -- increasing lists of which the one is below the other
-  pub increasing_append : (ms ns : List Exponents) → IsIncreasing P.order ms → IsIncreasing P.order ns → ((m n : Exponents) → Contains ms m → Contains ns n → P.order.compare m n ≡ Less) → IsIncreasing P.order (ms ++ ns)
-  increasing_append [] ns h k b = k
-  increasing_append (m ∷ []) [] h k b = tt
-  increasing_append (m ∷ []) (n ∷ ns) h k b = (b m n (contains_here m []) (contains_here n ns), k)
-  increasing_append (m ∷ (m' ∷ ms)) ns h k b = (h.0, increasing_append (m' ∷ ms) ns h.1 k (λ x y i j. b x y (contains_there m (m' ∷ ms) x i) j))

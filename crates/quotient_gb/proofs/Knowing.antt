@@ -5,13 +5,12 @@ use Rattle.std.proofs.lemmas.Bool.{true≢false}
 use Rattle.std.specs.Prelude.{Contains, map}
 use Rattle.monomial_order.specs.Monomial.{IsMonomial, Divides, Exponents}
 use Rattle.monomial_order.specs.laws.Cofactors.{Divides-trans, Divides-antisymm}
-use Rattle.monomial_order.specs.laws.Comparing.{divisor_degree}
-use Rattle.monomial_order.specs.laws.Lists.{contains_none, contains_map}
+use Rattle.monomial_order.specs.laws.Comparing.{divisor_degree, degree_one}
+use Rattle.monomial_order.specs.laws.Lists.{contains_none, contains_map, map_contains}
 use Rattle.polynomials.specs.Polynomial.{Polynomial, minus, IsDecreasing, IsHomogeneous, lead_monomial, degree_of}
 use Rattle.polynomials.specs.Subalgebra.{Presented, IsPresentation, LeadsIdeal, AreZerosTo, IsStandard, IsNormalForm}
 use Rattle.polynomials.specs.laws.NormalForm.{lead_is_monomial, lead_multiple, normal_form_homogeneous}
 use Rattle.polynomials.specs.laws.Decreasing.{IsDecreasing_unique, coefficient_first}
-use Rattle.polynomials.specs.laws.ReducedBasis.{degree_one, map_contains}
 use Rattle.quotient_gb.specs.Combinations.{AtMost}
 use Rattle.quotient_gb.specs.Remainder.{IsRemainderBy, AreReducersIn}
 use Rattle.quotient_gb.specs.IdealBasis.{AreIdealLeads, IsIdealBasis, IsMinimalLead}

@@ -4,9 +4,8 @@ use Rattle.std.proofs.lemmas.List.{length-map, get_or_default, nil_from_length}
 use Rattle.std.proofs.lemmas.Bool.{eqb-true, eq-eqb, true≢false}
 use Rattle.std.specs.Prelude.{map, nat_eq}
 use Rattle.monomial_order.specs.Monomial.{Divides, IsMultiple, Exponents}
-use Rattle.monomial_order.specs.laws.Lists.{contains_either, contains_map}
+use Rattle.monomial_order.specs.laws.Lists.{contains_either, contains_map, map_contains}
 use Rattle.polynomials.specs.Polynomial.{Polynomial, lead_monomial}
-use Rattle.polynomials.specs.laws.ReducedBasis.{map_contains}
 use Rattle.quotient_gb.specs.Combinations.{HasLeadDivisor}
 use Rattle.quotient_gb.specs.DegreeStep.{IsPart}
 

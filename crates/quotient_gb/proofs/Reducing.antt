@@ -1,5 +1,5 @@
 -- The steps of reducing a polynomial by a list.
-use Rattle.std.proofs.Common.{◌≡◌, ◌≢◌, ℕ, suc, ◌<◌, refl, sym, ◌∙◌, ap, subst, List, [], ◌∷◌, ◌++◌, inl, inr, ⊎_elim, arith, append-nil, append_assoc}
+use Rattle.std.proofs.Common.{◌≡◌, ◌≢◌, refl, sym, ◌∙◌, ap, subst, List, [], ◌∷◌, ◌++◌, inl, inr, ⊎_elim, arith, append-nil, append_assoc}
 use Rattle.polynomials.specs.laws.Coefficients.{nothing_at, single_term, scaled_small, append_nonzero}
 use Rattle.std.specs.Prelude.{Contains}
 use Rattle.std.specs.declared.cmp.Ordering.TheVariants.{Less}
@@ -12,11 +12,11 @@ use Rattle.monomial_order.specs.laws.Monomial.{product_comm}
 use Rattle.polynomials.specs.Polynomial.{Polynomial, coefficient, Same, term_of, scaled, negated, minus, IsTerm, IsBelow, IsDecreasing, IsLead, IsSmall, IsCanonical, AllAt, lead_monomial}
 use Rattle.polynomials.specs.laws.Ring.{coefficient-append}
 use Rattle.polynomials.specs.laws.Same.{coefficient-negated, minus_self}
-use Rattle.polynomials.specs.laws.Decreasing.{IsDecreasing_IsPoly, IsBelow_trans, IsLead_first, coefficient_first}
+use Rattle.polynomials.specs.laws.Decreasing.{IsDecreasing_IsPoly, IsLead_first, coefficient_first}
 use Rattle.monomial_order.specs.laws.Comparing.{equal_or_not}
-use Rattle.monomial_order.specs.laws.Rank.{rank, rank_falls}
 use Rattle.polynomials.specs.laws.Degrees.{decreasing_all}
-use Rattle.polynomials.specs.laws.Terms.{IsBelow-append, IsBelow-left, IsBelow-right, IsSmall-append, IsSmall-left, canonical_left, canonical_right}
+use Rattle.polynomials.specs.laws.Terms.{canonical_left, canonical_right}
+use Rattle.polynomials.specs.laws.Lowering.{replaced}
 use Rattle.quotient_gb.specs.Combinations.{HasLeadDivisor, AtMost, Combines}
 use Rattle.quotient_gb.specs.Remainder.{IsRemainderBy}
 use Rattle.quotient_gb.proofs.Multiples.{divides_left}
@@ -57,24 +57,6 @@ module _ {E : Type 0} (K : FieldOps E) (F : IsField K) (O : MonomialOrder) (L : 
     first_coefficient : coefficient K (t ∷ w) t.at ≡ t.by
     first_coefficient = coefficient_first K F O L t w k.decreasing.0
 
-    -- what is greater than t is greater than what replaces t and the terms after it
-    pub replaced : (done next : Polynomial E) → IsCanonical K O (done ++ (t ∷ w)) → IsCanonical K O next → IsBelow K O t.at next → IsCanonical K O (done ++ next)
-    replaced done next h n b = record {
-      decreasing = falls done h.decreasing;
-      small = IsSmall-append O done next (IsSmall-left O done (t ∷ w) h.small) n.small;
-    }
-      where
-        falls : (done : Polynomial E) → IsDecreasing K O (done ++ (t ∷ w)) → IsDecreasing K O (done ++ next)
-        falls [] h = n.decreasing
-        falls (s ∷ d) h = (
-          record {
-            term = h.0.term;
-            nonzero = h.0.nonzero;
-            above = IsBelow-append K O s.at d next (IsBelow-left K O s.at d (t ∷ w) h.0.above) (IsBelow_trans K F O L t.at s.at next (IsBelow-right K O s.at d (t ∷ w) h.0.above).0 b);
-          },
-          falls d h.1,
-        )
-
     module _ (g : Polynomial E) (u : Exponents) (kg : IsCanonical K O g) (monic : coefficient K g (lead_monomial g) ≡ K.one) (tu : IsTrimmed u) (at : product (lead_monomial g) u ≡ t.at) where
       whole : product u (lead_monomial g) ≡ t.at
       whole = product_comm u (lead_monomial g) ∙ at
@@ -100,20 +82,6 @@ module _ {E : Type 0} (K : FieldOps E) (F : IsField K) (O : MonomialOrder) (L : 
           (ap (K.times (K.negate t.by)) (ap (coefficient K (scaled K (term_of u K.one) g)) (sym whole) ∙ scaled_monic K F O L u g by_monomial (record { decreasing = kg.decreasing; monic = monic })) ∙
           (F.times_one (K.negate t.by) ∙ F.negate_value t.by)) in
           two_below (t ∷ w) B t.at first_leads.greatest lb.greatest (ap (λ x. K.plus x (coefficient K B t.at)) first_coefficient ∙ (ap (K.plus t.by) one ∙ F.plus_negate t.by)) r fr s
-
-  -- the measure: how many monomials are below the lead
-  pub height : Polynomial E → ℕ
-  height [] = 0
-  height (t ∷ p) = suc (rank O t.at)
-
-  pub height_less : (t : Term E) (w r : Polynomial E) → IsCanonical K O r → IsBelow K O t.at r → height r < height (t ∷ w)
-  unfolding height
-  height_less t w [] kr b = omega arith
-  height_less t w (s ∷ r) kr b =
-      let l = rank_falls O L s.at t.at kr.decreasing.0.term.monomial b.0 in omega arith
-
-  pub height_rest : (t : Term E) (w : Polynomial E) → IsCanonical K O (t ∷ w) → height w < height (t ∷ w)
-  height_rest t w k = height_less t w w (canonical_right K O (t ∷ []) w k) k.decreasing.0.above
 
   at_most_lead : (p : Polynomial E) → IsDecreasing K O p → (n : Exponents) → coefficient K p n ≢ K.zero → AtMost O (lead_monomial p) n
   at_most_lead [] h n k = absurd (k (sym (nothing_at K n)))
@@ -144,7 +112,7 @@ module _ {E : Type 0} (K : FieldOps E) (F : IsField K) (O : MonomialOrder) (L : 
       reducing_cancel next g s hg ht at kn same b =
           let S = scaled K s g in
           record {
-            canonical = replaced t w work_canonical done next h.canonical kn b;
+            canonical = replaced K F O L t w done next h.canonical kn b;
             combines = combines_same K F O L G (AtMost O (lead_monomial p)) (minus K p (done ++ (t ∷ w)) ++ negated K S) (minus K p (done ++ next))
                 (λ m. simp (coefficient-append K F, coefficient-negated K F, same, negate-plus K F, F.plus_assoc))
                 (combines_plus K F O L G (AtMost O (lead_monomial p)) (minus K p (done ++ (t ∷ w))) (negated K S) h.combines

@@ -15,7 +15,6 @@ use Rattle.polynomials.specs.laws.Same.{coefficient-negated}
 use Rattle.polynomials.specs.laws.Terms.{canonical_left, canonical_right}
 use Rattle.polynomials.specs.laws.Value.{one_times}
 use Rattle.polynomials.specs.Subalgebra.{Presented, IsPresentation}
-use Rattle.linked_terms.specs.Chain.{Chain}
 use Rattle.quotient_gb.specs.Combinations.{HasLeadDivisor}
 use Rattle.quotient_gb.specs.Remainder.{IsCanonicalIn, IsReducerIn, AreReducersIn, IsLeadReduction, IsRemainderIn}
 use Rattle.quotient_gb.proofs.Criterion.{IsReducer, AreReducers, monic_monomial}
@@ -112,9 +111,6 @@ module _ {E : Type 0} (P : Presented E) (H : IsPresentation P) (t : Term E) (w :
 -- what the loop maintains
 abbrev pub IsReducingIn : {E : Type 0} → Presented E → List (Polynomial E) → Polynomial E → Polynomial E → Polynomial E → Type 0
 IsReducingIn P G a done work = IsReducing P.field P.order G a done work
-
-pub popped : {E : Type 0} (old new : Chain E) (t : Term E) → ((rest : Polynomial E) × (old.terms ≡ t ∷ rest) × (new ≡ record { terms = rest; spare = old.spare + 1 })) → old.terms ≡ t ∷ new.terms
-popped old new t h = h.1 ∙ sym (ap (λ c. t ∷ c.terms) h.2)
 
 module _ {E : Type 0} (P : Presented E) (H : IsPresentation P) (G : List (Polynomial E)) (HG : AreReducersIn P G) (a : Polynomial E) where
   reducers : AreReducers P.field P.order G

@@ -9,19 +9,18 @@ use borrow.Author.Count.{below_more}
 use Rattle.monomial_order.specs.declared.terms.Term.{Term}
 use Rattle.monomial_order.specs.Monomial.{IsMonomial, Divides, IsMultiple, Exponents}
 use Rattle.monomial_order.specs.laws.Cofactors.{Divides-refl}
-use Rattle.monomial_order.specs.laws.Comparing.{equal_or_not, le_or_not, three_ways, proper_divisor, divisor_degree}
-use Rattle.monomial_order.specs.laws.Lists.{contains_at, contains_map, contains_none, contains_left, contains_right, contains_either}
+use Rattle.monomial_order.specs.laws.Comparing.{equal_or_not, le_or_not, three_ways, proper_divisor, divisor_degree, increasing_append}
+use Rattle.monomial_order.specs.laws.Lists.{contains_at, contains_map, contains_none, contains_left, contains_right, contains_either, map_contains}
 use Rattle.polynomials.specs.Polynomial.{Polynomial, lead_monomial, term_of}
 use Rattle.polynomials.specs.Subalgebra.{Presented, IsPresentation, LeadsIdeal}
 use Rattle.monomial_order.specs.MonomialOrder.{IsIncreasing}
-use Rattle.polynomials.specs.laws.ReducedBasis.{map_contains}
 use Rattle.quotient_gb.specs.declared.basis.Basis.{Basis}
 use Rattle.quotient_gb.specs.declared.degree_step.DegreeStep.{DegreeStep}
 use Rattle.quotient_gb.specs.IdealBasis.{IsMonicMember, AreIdealLeads, HasStandardTail, AreMonicMembers}
 use Rattle.quotient_gb.specs.DegreeStep.{IsPart, all_members, IsBasisTo, IsStepAfter, IsLaterStep, DividesLeads, HasReducedTail, HasTails}
 use Rattle.quotient_gb.specs.Remainder.{IsCanonicalIn, IsReducerIn, AreReducersIn}
 use Rattle.quotient_gb.proofs.Bases.{lead_is}
-use Rattle.quotient_gb.proofs.Inserting.{insert_there, insert_cases, map_insert, increasing_insert, increasing_append, set_cases}
+use Rattle.quotient_gb.proofs.Inserting.{insert_there, insert_cases, map_insert, increasing_insert, set_cases}
 use Rattle.quotient_gb.proofs.Places.{not_below, multiple_more}
 use Rattle.quotient_gb.proofs.Remainders.{first_is_canonical}
 use Rattle.quotient_gb.proofs.Tails.{member_leads, standard_tail}
@@ -64,7 +63,7 @@ module _ {F E : Type 0} (P : Presented E) (H : IsPresentation P) (b : Basis F E)
   lower_multiple m k l = h.before.2.basis.leads.divides m k (let e = h.before.1 in omega arith)
 
   pub increasing : IsIncreasing P.order (map lead_monomial G)
-  increasing = subst (IsIncreasing P.order) (sym (map-append lead_monomial b.members.items found)) (increasing_append P (map lead_monomial b.members.items) (map lead_monomial found) h.before.2.basis.leads.increasing h.increasing
+  increasing = subst (IsIncreasing P.order) (sym (map-append lead_monomial b.members.items found)) (increasing_append P.order (map lead_monomial b.members.items) (map lead_monomial found) h.before.2.basis.leads.increasing h.increasing
       (λ m n i j.
       let x = map_contains lead_monomial b.members.items m i in
       let y = map_contains lead_monomial found n j in

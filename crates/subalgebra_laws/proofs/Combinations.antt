@@ -23,7 +23,8 @@ use Rattle.subalgebra_laws.specs.Words.{letters, letter_values, word_value, IsRe
 use Rattle.subalgebra_laws.specs.Bases.{AreMonicElements}
 use Rattle.subalgebra_laws.specs.Statements.{SumsHaveTopWords, SumsAreUnique, SumsAreCombinations, MultiplesAreCombinations, CongruentAreCombinations, IrreducibleWordsAreCombinations}
 use Rattle.polynomials.specs.laws.Coefficients.{nothing_at, single_term, times_one, constant_poly, minus_poly, minus_nonzero, minus_back, lead_sum_right, no_coefficient, append_nonzero}
-use Rattle.subalgebra_laws.proofs.Nonzero.{same_false, AllAt-map, multiple_nonzero, lead_negated, below_lead, above_lead}
+use Rattle.polynomials.specs.laws.Terms.{AllAt-map}
+use Rattle.subalgebra_laws.proofs.Nonzero.{same_false, multiple_nonzero, lead_negated, below_lead, above_lead}
 use Rattle.subalgebra_laws.proofs.MonicProducts.{AreMonic, monic_lead}
 use Rattle.subalgebra_laws.proofs.Letters.{letter_images, values_monic, word_monic, letter_laws, word_degree}
 

@@ -30,8 +30,9 @@ use Rattle.subalgebra_laws.specs.Words.{letters, letter_values, word_value, IsRe
 use Rattle.subalgebra_laws.specs.Bases.{AreMonicElements, HasCombinationsTo}
 use Rattle.subalgebra_laws.specs.Statements.{CombinationsHaveGeneratedLeads, MembersAreCombinations, LeadsAreGenerated}
 use Rattle.polynomials.specs.laws.Coefficients.{nothing_at, constant_poly, minus_poly, lead_sum}
+use Rattle.polynomials.specs.laws.Terms.{AllAt-map}
 use Rattle.subalgebra_laws.specs.laws.Letters.{s_one, s_product}
-use Rattle.subalgebra_laws.proofs.Nonzero.{AllAt-map, AllAt-scaled, AllAt-times, multiple_nonzero, lead_negated, below_lead}
+use Rattle.subalgebra_laws.proofs.Nonzero.{AllAt-scaled, AllAt-times, multiple_nonzero, lead_negated, below_lead}
 use Rattle.subalgebra_laws.proofs.Letters.{order_over, word_monic, letter_laws, are_letters, word_degree}
 use Rattle.subalgebra_laws.proofs.Combinations.{have_top_words, top_leads, top_least, sum_poly, value_poly, combination_congruent, combination_same, combination_zero, combination_plus, combination_multiple, combination_word, combination_linear, sum_low, IsBefore, words_before}
 use Rattle.subalgebra_laws.proofs.Decisions.{words_decided, minimal_divisor}

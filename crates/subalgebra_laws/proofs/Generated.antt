@@ -4,7 +4,7 @@ use Rattle.std.specs.Prelude.{map}
 use Rattle.std.proofs.lemmas.List.{get_or_default}
 use Rattle.std.proofs.lemmas.List.Elements.{Contains-get_or}
 use Rattle.monomial_order.specs.Monomial.{product, variable, Divides}
-use Rattle.monomial_order.specs.laws.Lists.{contains_map}
+use Rattle.monomial_order.specs.laws.Lists.{contains_map, map_contains}
 use Rattle.monomial_order.specs.laws.Monomial.{product_comm, product-one, variable_divides, variable_trimmed}
 use Rattle.monomial_order.specs.laws.Cofactors.{cofactor, Divides-product, length-product_right}
 use Rattle.monomial_order.specs.laws.Comparing.{le_or_not, equal_or_not, some_exponent}
@@ -13,7 +13,7 @@ use Rattle.word_laws.specs.laws.Words.{image_times, s_divisor}
 use Rattle.polynomials.specs.Polynomial.{Polynomial, times, constant, AllAt, IsPoly, IsLead, lead_monomial}
 use Rattle.polynomials.specs.Value.{value, term_value}
 use Rattle.polynomials.specs.Subalgebra.{Presented, IsPresentation, InSubalgebra, IsGenerated, AllIn, product_of}
-use Rattle.polynomials.specs.laws.ReducedBasis.{map_contains, generated_times}
+use Rattle.polynomials.specs.laws.ReducedBasis.{generated_times}
 use Rattle.polynomials.specs.laws.Value.{value_same, monomial_value-product}
 use Rattle.polynomials.specs.laws.Decreasing.{IsDecreasing_IsPoly}
 use Rattle.polynomials.specs.laws.Canonical.{canonical}

@@ -1,13 +1,10 @@
 -- Elements are added at the end of a list: which words stay reducible, minimal or irreducible, and what stays a combination.
-use Rattle.std.proofs.Common.{◌≡◌, ℕ, ◌+◌, ◌-◌, ◌<◌, ◌≤◌, refl, sym, ◌∙◌, ap, subst, List, [], ◌∷◌, ◌++◌, inl, inr, ⊎_elim, length, take, get_or, length-append, append_assoc, arith}
-use Rattle.std.specs.Prelude.{map, drop, sum, Contains}
+use Rattle.std.proofs.Common.{◌≡◌, ℕ, ◌+◌, ◌-◌, ◌<◌, ◌≤◌, refl, sym, ◌∙◌, ap, subst, List, [], ◌∷◌, ◌++◌, inl, inr, ⊎_elim, length, get_or, length-append, append_assoc, arith}
+use Rattle.std.specs.Prelude.{map, sum, Contains}
 use Rattle.std.proofs.lemmas.List.{length-map, map-append, get_or-append-add, get_or_default}
 use Rattle.std.proofs.lemmas.List.Elements.{Contains-get_or}
-use Rattle.std.specs.Ordering.{nat_cmp, ordering_then, on, then_cmp}
-use Rattle.std.specs.declared.cmp.Ordering.{Ordering}
 use Rattle.std.specs.declared.cmp.Ordering.TheVariants.{Less}
 use Rattle.monomial_order.specs.Monomial.{product, variable, IsTrimmed}
-use Rattle.monomial_order.specs.Orders.{lex}
 use Rattle.monomial_order.specs.laws.Lists.{contains_left}
 use Rattle.monomial_order.specs.laws.Monomial.{last_place, product-one, length-product, variable_divides, variable_trimmed, variable_length}
 use Rattle.monomial_order.specs.laws.Cofactors.{cofactor, length-product_right}
@@ -21,20 +18,17 @@ use Rattle.polynomials.specs.Value.{monomial_value, value, term_value}
 use Rattle.polynomials.specs.Subalgebra.{Presented, IsPresentation, LeadsIdeal, IsGenerated, HasDegreesTo}
 use Rattle.polynomials.specs.laws.Decreasing.{IsDecreasing_IsPoly}
 use Rattle.polynomials.specs.laws.Degrees.{decreasing_all}
+use Rattle.polynomials.specs.laws.Terms.{poly_monomials}
 use Rattle.subalgebra_laws.specs.Words.{letters, letter_values, word_value, combination_value, IsReducibleWord, IsMinimalWord, IsCombination}
 use Rattle.subalgebra_laws.specs.Bases.{AreMonicElements, HaveLeadsFrom, AreAfter, AreStandardAfter}
 use Rattle.subalgebra_laws.specs.laws.Members.{generator_poly}
 use Rattle.subalgebra_laws.specs.laws.Fronts.{monomial_value_front, decreasing_over}
 use Rattle.subalgebra_laws.specs.Statements.{ValuesStay, SumsStay, SumsWithoutNewLettersStay, CombinationsStay, ElementsAreCombinations, MinimalWordsStay, OrderDoesNotMatter, NextAreCombinations}
-use Rattle.subalgebra_laws.specs.laws.Letters.{word_grows, degree_stays, letter_degrees, places_letters, letter, letter_word, letter_value}
+use Rattle.subalgebra_laws.specs.laws.Letters.{word_grows, degree_stays, letter_degrees, places_letters, letter, letter_word, letter_value, compare_stays}
 use Rattle.subalgebra_laws.proofs.Letters.{order_over, letter_image, are_letters, letter_laws, word_degree, word_monic}
 use Rattle.subalgebra_laws.proofs.Combinations.{combination_same, combination_congruent, combination_word, combination_linear, sum_low}
 use Rattle.subalgebra_laws.proofs.Generated.{generated_images}
 use Rattle.subalgebra_laws.proofs.ReducedBases.{word_low}
-
-word_terms : {E : Type 0} (P : Presented E) (S : List (Polynomial E)) (p : Polynomial E) → IsPoly P.field (order_over P S).places p → AllAt (IsWord (letters P S)) p
-word_terms P S [] h = tt
-word_terms P S (t ∷ p) h = (h.0.monomial, word_terms P S p h.1)
 
 module _ {E : Type 0} (P : Presented E) (S T : List (Polynomial E)) where
   module _ (w : List ℕ) (h : length w ≤ (order_over P S).places) where
@@ -59,14 +53,6 @@ module _ {E : Type 0} (P : Presented E) (S T : List (Polynomial E)) where
   value_grows [] h = refl
   value_grows (t ∷ p) h =
       ap (λ x. times P.field (constant P.field t.by) x ++ combination_value P (S ++ T) p) (value_stays t.at h.0) ∙ ap (λ x. term_value P.field (letter_values P S) t ++ x) (value_grows p h.1)
-
-  -- what decides between words of one degree
-  abbrev rest : List ℕ → List ℕ → Ordering
-  rest = then_cmp (on (λ x. sum (take (length (letter_degrees P S)) x)) nat_cmp) (then_cmp (on (drop (length (letter_degrees P S))) lex) lex)
-
-  compare_stays : (v w : List ℕ) → length v ≤ (order_over P S).places → length w ≤ (order_over P S).places → (order_over P (S ++ T)).compare v w ≡ (order_over P S).compare v w
-  compare_stays v w hv hw =
-      ap (λ d. ordering_then (nat_cmp d ((order_over P (S ++ T)).degree w)) (rest v w)) (degree_stays P S T v hv) ∙ ap (λ d. ordering_then (nat_cmp ((order_over P S).degree v) d) (rest v w)) (degree_stays P S T w hw)
 
 module _ {E : Type 0} (P : Presented E) (H : IsPresentation P) (S T : List (Polynomial E)) (HT : AreMonicElements P (S ++ T)) where
   open P use {field as K, order as O}
@@ -186,11 +172,11 @@ module _ {E : Type 0} (P : Presented E) (H : IsPresentation P) (S T : List (Poly
     sums_stay e h low =
         let hp = IsDecreasing_IsPoly K (order_over P S) e h.decreasing in (
           record {
-            decreasing = decreasing_over K (order_over P S) (order_over P (S ++ T)) (IsWord (letters P S)) (word_grows P S T) (λ v w hv hw. compare_stays P S T v w hv.within hw.within) e (word_terms P S e hp) h.decreasing;
+            decreasing = decreasing_over K (order_over P S) (order_over P (S ++ T)) (IsWord (letters P S)) (word_grows P S T) (λ v w hv hw. compare_stays P S T v w hv.within hw.within) e (poly_monomials P.field (order_over P S).places e hp) h.decreasing;
             words = λ w k. (word_grows P S T w (h.words w k).0, (h.words w k).1);
             irreducible = λ w k r. h.irreducible w k (reducible_back w (h.words w k) (low w k) r);
           },
-          value_grows P S T e (word_terms P S e hp),
+          value_grows P S T e (poly_monomials P.field (order_over P S).places e hp),
         )
 
     pub combination_grows : CombinationsStay P S T d

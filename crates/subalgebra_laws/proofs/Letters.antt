@@ -4,7 +4,7 @@ use Rattle.std.specs.Prelude.{map, Contains}
 use Rattle.std.proofs.lemmas.List.{length-map, get_or-append-add, get_or-map}
 use Rattle.monomial_order.specs.Monomial.{product, variable, IsMonomial}
 use Rattle.monomial_order.specs.MonomialOrder.{MonomialOrder, IsMonomialOrder}
-use Rattle.monomial_order.specs.laws.Lists.{contains_cases, contains_here, contains_none, contains_there}
+use Rattle.monomial_order.specs.laws.Lists.{contains_cases, contains_here, contains_none, contains_there, map_contains}
 use Rattle.monomial_order.specs.laws.Monomial.{product-one, variable_monomial}
 use Rattle.word_laws.specs.Words.{AreLetters, word_order_of, image_of, image, variables}
 use Rattle.word_laws.specs.laws.Images.{length-variables, degree_weighted}
@@ -12,7 +12,6 @@ use Rattle.word_laws.specs.laws.Words.{word_laws, degree_image, degree_x, image_
 use Rattle.monomial_order.specs.laws.Comparing.{degree_one}
 use Rattle.polynomials.specs.Polynomial.{Polynomial, coefficient, term_of, lead_monomial}
 use Rattle.polynomials.specs.Subalgebra.{Presented, IsPresentation}
-use Rattle.polynomials.specs.laws.ReducedBasis.{map_contains}
 use Rattle.polynomials.specs.laws.Same.{same_refl}
 use Rattle.polynomials.specs.laws.Decreasing.{IsDecreasing_IsPoly, IsLead_first}
 use Rattle.subalgebra_laws.specs.Words.{letters, letter_values, word_value}

@@ -20,8 +20,8 @@ use Rattle.polynomials.specs.laws.Ideal.{IsPoly-times}
 use Rattle.polynomials.specs.laws.Leads.{below_found}
 use Rattle.polynomials.specs.laws.Membership.{IsPoly-one}
 use Rattle.polynomials.specs.laws.Coefficients.{nothing_at, single_term, found_monomial, no_coefficient}
-use Rattle.polynomials.specs.laws.Terms.{AllAt-append}
-use Rattle.subalgebra_laws.proofs.Nonzero.{AllAt-map, AllAt-scaled, AllAt-times}
+use Rattle.polynomials.specs.laws.Terms.{AllAt-append, AllAt-map}
+use Rattle.subalgebra_laws.proofs.Nonzero.{AllAt-scaled, AllAt-times}
 
 -- a monic polynomial with the lead m
 pub record IsMonic {E : Type 0} (K : FieldOps E) (O : MonomialOrder) (p : Polynomial E) (m : List ℕ) : Type 0 where

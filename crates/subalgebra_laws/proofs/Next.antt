@@ -5,13 +5,12 @@ use Rattle.std.proofs.lemmas.List.{map-append}
 use Rattle.std.proofs.lemmas.List.Elements.{Contains-get_or}
 use Rattle.std.specs.declared.cmp.Ordering.TheVariants.{Less}
 use Rattle.monomial_order.specs.Monomial.{product, IsMonomial}
-use Rattle.monomial_order.specs.laws.Lists.{contains_cases, contains_here, contains_there, contains_none, contains_map, contains_left, contains_right, contains_either}
+use Rattle.monomial_order.specs.laws.Lists.{contains_cases, contains_here, contains_there, contains_none, contains_map, contains_left, contains_right, contains_either, map_contains}
 use Rattle.monomial_order.specs.laws.Monomial.{product-one}
-use Rattle.monomial_order.specs.laws.Comparing.{three_ways, equal_or_not, some_exponent, not_below_self, increasing_below, increasing_tail}
+use Rattle.monomial_order.specs.laws.Comparing.{three_ways, equal_or_not, some_exponent, not_below_self, increasing_below, increasing_tail, increasing_append}
 use Rattle.polynomials.specs.Polynomial.{Polynomial, lead_monomial}
 use Rattle.polynomials.specs.Subalgebra.{Presented, IsPresentation, AllIn, product_of, IsGenerated, IsReducedBasis}
 use Rattle.monomial_order.specs.MonomialOrder.{IsIncreasing}
-use Rattle.polynomials.specs.laws.ReducedBasis.{map_contains}
 use Rattle.subalgebra_laws.specs.Bases.{HaveLeadsFrom, AreStandardAfter, AreNextTo, IsCheckedElement}
 use Rattle.subalgebra_laws.specs.Statements.{ProductsSplit, NextBasisIsReduced, FrontsAreReduced, IncreasingListsAreEqual}
 use Rattle.subalgebra_laws.proofs.Generated.{generated_leads}
@@ -62,12 +61,6 @@ module _ {E : Type 0} (P : Presented E) (H : IsPresentation P) where
 
   pub next_standard : (d : ℕ) (S T : List (Polynomial E)) → AreNextTo P d S T → AreStandardAfter P d S T
   next_standard d S T n = record { after = n.after; standard = n.standard; differ = leads_differ T n.increasing }
-
-  increasing_append : (M N : List (List ℕ)) → IsIncreasing P.order M → IsIncreasing P.order N → ((m n : List ℕ) → Contains M m → Contains N n → O.compare m n ≡ Less) → IsIncreasing P.order (M ++ N)
-  increasing_append [] N rm rn h = rn
-  increasing_append (m ∷ []) [] rm rn h = tt
-  increasing_append (m ∷ []) (n ∷ N) rm rn h = (h m n (contains_here m []) (contains_here n N), rn)
-  increasing_append (m ∷ (l ∷ M)) N rm rn h = (rm.0, increasing_append (l ∷ M) N rm.1 rn (λ a b ka kb. h a b (contains_there m (l ∷ M) a ka) kb))
 
   -- increasing lists with the same members are equal
   pub increasing_equal : IncreasingListsAreEqual P
@@ -191,7 +184,7 @@ module _ {E : Type 0} (P : Presented E) (H : IsPresentation P) where
 
   pub next_reduced : (S T : List (Polynomial E)) (d : ℕ) → AreNextTo P d S T → NextBasisIsReduced P S T d
   next_reduced S T d N c next dec red elements here = checked_reduced P H d (S ++ T) dec (record {
-    increasing = subst (IsIncreasing P.order) (sym (map-append lead_monomial S T)) (increasing_append (map lead_monomial S) (map lead_monomial T) red.increasing N.increasing
+    increasing = subst (IsIncreasing P.order) (sym (map-append lead_monomial S T)) (increasing_append O (map lead_monomial S) (map lead_monomial T) red.increasing N.increasing
         (λ m n km kn.
         let p = of_lead (λ x. O.degree x ≤ c) S (λ s k. (red.elements s k).at_most) m km in
         let q = of_lead (λ x. d ≤ O.degree x) T N.after.degree n kn in

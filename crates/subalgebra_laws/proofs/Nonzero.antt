@@ -12,16 +12,12 @@ use Rattle.polynomials.specs.laws.Ring.{coefficient_value}
 use Rattle.polynomials.specs.laws.Same.{same_true, coefficient-negated}
 use Rattle.polynomials.specs.laws.Value.{coefficient-constant_times}
 use Rattle.polynomials.specs.laws.Coefficients.{minus_nonzero, no_coefficient}
-use Rattle.polynomials.specs.laws.Terms.{AllAt-append}
+use Rattle.polynomials.specs.laws.Terms.{AllAt-append, AllAt-map}
 use Rattle.polynomials.specs.laws.Congruence.{coefficient-minus}
 
 -- different monomials are not the same
 pub same_false : (m n : List ℕ) → m ≢ n → same_monomial m n ≡ false
 same_false m n h = elim (same_monomial m n) as (λ b. same_monomial m n ≡ b → b ≡ false) [ true ↦ λ e. absurd (h (same_true m n e)) | false ↦ λ e. refl ] refl
-
-pub AllAt-map : {E : Type 0} (Q R : List ℕ → Type 0) → ((m : List ℕ) → Q m → R m) → (p : Polynomial E) → AllAt Q p → AllAt R p
-AllAt-map Q R f [] h = tt
-AllAt-map Q R f (t ∷ p) h = (f t.at h.0, AllAt-map Q R f p h.1)
 
 module _ {E : Type 0} (K : FieldOps E) where
   pub AllAt-scaled : (Q : List ℕ → Type 0) (t : Term E) (p : Polynomial E) → AllAt (λ m. Q (product t.at m)) p → AllAt Q (scaled K t p)

@@ -27,8 +27,8 @@ use Rattle.polynomials.specs.laws.Degrees.{all_found}
 use Rattle.subalgebra_laws.specs.Words.{letters, IsReducibleWord}
 use Rattle.subalgebra_laws.specs.Bases.{IsMonicElement, AreMonicElements, IsCheckedElement}
 use Rattle.polynomials.specs.laws.Coefficients.{nothing_at}
+use Rattle.polynomials.specs.laws.Terms.{AllAt-map}
 use Rattle.subalgebra_laws.specs.laws.Letters.{letter_degrees}
-use Rattle.subalgebra_laws.proofs.Nonzero.{AllAt-map}
 use Rattle.subalgebra_laws.proofs.Letters.{are_letters}
 
 -- a fact of each member of a list

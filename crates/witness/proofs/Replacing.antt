@@ -8,8 +8,8 @@ use Rattle.word_field.specs.laws.Field.{times-zero}
 use Rattle.monomial_order.specs.Monomial.{Exponents, exponent, variable, product, weighted_degree, IsMonomial}
 use Rattle.monomial_order.specs.MonomialOrder.{MonomialOrder, IsMonomialOrder}
 use Rattle.monomial_order.specs.declared.word_order.WordOrder.{WordOrder}
-use Rattle.monomial_order.specs.laws.Lists.{contains_cases, contains_none}
-use Rattle.monomial_order.specs.laws.Monomial.{variable_off, exponent-product}
+use Rattle.monomial_order.specs.laws.Lists.{contains_cases, contains_none, map_contains}
+use Rattle.monomial_order.specs.laws.Monomial.{variable_off, exponent-product, variable_at}
 use Rattle.monomial_order.specs.laws.Comparing.{numbers_or_not, le_or_not, degree_one}
 use Rattle.polynomials.specs.Polynomial.{Polynomial, coefficient, Same, term_of, scaled, times, constant, degree_of, AllAt, IsPoly, IsDecreasing, IsCanonical}
 use Rattle.polynomials.specs.Ideal.{Congruent}
@@ -19,7 +19,6 @@ use Rattle.polynomials.specs.laws.Congruence.{congruent_same, congruent_trans, c
 use Rattle.polynomials.specs.laws.Coefficients.{append_nonzero, value_letter}
 use Rattle.polynomials.specs.laws.Decreasing.{IsDecreasing_IsPoly, coefficient_first}
 use Rattle.polynomials.specs.laws.Degrees.{AreGraded, graded_value, all_found, decreasing_all}
-use Rattle.polynomials.specs.laws.ReducedBasis.{map_contains}
 use Rattle.polynomials.specs.laws.Membership.{ArePolys, IsPoly-value}
 use Rattle.polynomials.specs.laws.Terms.{AllAt-append}
 use Rattle.witness.specs.laws.Members.{places_polys}
@@ -131,10 +130,6 @@ module _ {E : Type 0} (P : Presented E) (H : IsPresentation P) (S : List (Polyno
 
   degree_of_weights : (m : Exponents) → W.degree m ≡ weighted_degree ds m
   degree_of_weights m = ap (λ ws. weighted_degree ws m) weights
-
-  variable_at : (i : ℕ) → exponent (variable i) i ≡ 1
-  variable_at zero = refl
-  variable_at (suc i) = variable_at i
 
   -- a letter stands for itself, if it is none of an element of degree d
   pub letter_replacement : (d i : ℕ) → 1 ≤ d → i < k + length S → (i < k) ⊎ (get_or ds i 0 ≢ d) → IsReplacement P W S ds d i (letter_poly K i)

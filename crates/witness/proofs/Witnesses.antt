@@ -1,5 +1,5 @@
 -- How witnesses are added, multiplied and exchanged.
-use Rattle.std.proofs.Common.{◌≡◌, ◌≢◌, ℕ, ◌+◌, ◌<◌, refl, sym, ◌∙◌, ap, List, [], ◌∷◌, ◌++◌, length, get_or, ⊎_elim}
+use Rattle.std.proofs.Common.{◌≡◌, ℕ, ◌+◌, ◌<◌, refl, sym, ◌∙◌, ap, List, [], ◌∷◌, ◌++◌, length, get_or, ⊎_elim}
 use Rattle.word_field.specs.Field.{FieldOps, IsField, IsValue}
 use Rattle.word_field.specs.laws.Field.{times-zero, zero-plus, negate-plus, negate-negate}
 use Rattle.monomial_order.specs.Monomial.{Exponents}
@@ -15,7 +15,7 @@ use Rattle.polynomials.specs.laws.Ideal.{IsPoly-append, IsPoly-times, constant_p
 use Rattle.polynomials.specs.laws.Congruence.{coefficient-minus, congruent_same, congruent_plus, congruent_sym, congruent_times, congruent_times_left, congruent_trans}
 use Rattle.polynomials.specs.laws.Coefficients.{append_nonzero, minus_poly, value_letter}
 use Rattle.polynomials.specs.laws.Degrees.{generator_of, graded_times}
-use Rattle.witness.specs.Tracking.{letter_poly}
+use Rattle.witness.specs.Tracking.{letter_poly, IsGraded}
 
 module _ {E : Type 0} (P : Presented E) (F : IsField P.field) where
   open P use {field as K, order as O, ideal as rs, generators as fs}
@@ -97,14 +97,11 @@ module _ {E : Type 0} (P : Presented E) (H : IsPresentation P) where
       (λ m. sym (value-times K F h k (fs ++ S) m))))
 
 module _ {E : Type 0} (K : FieldOps E) (F : IsField K) (O : MonomialOrder) where
-  abbrev IsGraded : ℕ → Polynomial E → Type 0
-  IsGraded d p = (m : Exponents) → coefficient K p m ≢ K.zero → O.degree m ≡ d
-
-  pub graded_sum : (d : ℕ) (p q r : Polynomial E) → Same K r (p ++ q) → IsGraded d p → IsGraded d q → IsGraded d r
+  pub graded_sum : (d : ℕ) (p q r : Polynomial E) → Same K r (p ++ q) → IsGraded K O d p → IsGraded K O d q → IsGraded K O d r
   graded_sum d p q r s hp hq m n = ⊎_elim (hp m) (hq m) (append_nonzero K F p q m (λ z. n (s m ∙ z)))
 
-  pub graded_multiple : (d : ℕ) (c : E) (p r : Polynomial E) → ((m : Exponents) → coefficient K r m ≡ K.times c (coefficient K p m)) → IsGraded d p → IsGraded d r
+  pub graded_multiple : (d : ℕ) (c : E) (p r : Polynomial E) → ((m : Exponents) → coefficient K r m ≡ K.times c (coefficient K p m)) → IsGraded K O d p → IsGraded K O d r
   graded_multiple d c p r s hp m n = hp m (λ z. n (s m ∙ (ap (K.times c) z ∙ times-zero K F c)))
 
-  pub graded_product : IsMonomialOrder O → (d e : ℕ) (p q r : Polynomial E) → IsPoly K O.places p → IsPoly K O.places q → Same K r (times K p q) → IsGraded d p → IsGraded e q → IsGraded (d + e) r
+  pub graded_product : IsMonomialOrder O → (d e : ℕ) (p q r : Polynomial E) → IsPoly K O.places p → IsPoly K O.places q → Same K r (times K p q) → IsGraded K O d p → IsGraded K O e q → IsGraded K O (d + e) r
   graded_product L d e p q r ip iq s hp hq m n = graded_times K F O L p q d e ip iq hp hq m (λ z. n (s m ∙ z))

@@ -2,3 +2,4 @@
 pub mod Letters
 pub mod Short
 pub mod Members
+pub mod Longer

@@ -1,5 +1,5 @@
 -- The letters over a list of polynomials: how many there are, which words they make, and what stays as the list grows.
-use Rattle.std.proofs.Common.{◌≡◌, ℕ, zero, suc, ◌+◌, ◌<◌, ◌≤◌, refl, sym, ◌∙◌, ap, List, [], ◌∷◌, ◌++◌, length, length-append, append_assoc, take, get_or, arith}
+use Rattle.std.proofs.Common.{◌≡◌, ℕ, zero, suc, ◌+◌, ◌<◌, ◌≤◌, refl, sym, ◌∙◌, ap, List, [], ◌∷◌, ◌++◌, length, length-append, take, get_or, arith}
 use Rattle.std.specs.Prelude.{map, sum}
 use Rattle.std.proofs.lemmas.List.{length-map, map-append, get_or-append-add}
 use Rattle.std.proofs.lemmas.List.Sums.{sum_by-cons}
@@ -8,9 +8,11 @@ use Rattle.word_field.specs.Field.{IsField}
 use Rattle.monomial_order.specs.Monomial.{exponent, product, variable, weighted_degree}
 use Rattle.monomial_order.specs.laws.Monomial.{IsMonomial-product, variable_monomial}
 use Rattle.monomial_order.specs.laws.Orders.{take-product, sum-product}
+use Rattle.monomial_order.specs.Orders.{word_order}
 use Rattle.word_laws.specs.Words.{word_order_of, variables, lead_degrees, IsWord, IsSWord}
-use Rattle.word_laws.specs.laws.Images.{length-variables, weighted_front}
+use Rattle.word_laws.specs.laws.Images.{length-variables}
 use Rattle.word_laws.specs.laws.Words.{no_x_variable}
+use Rattle.word_laws.specs.laws.Longer.{longer_compare, longer_degree}
 use Rattle.polynomials.specs.Polynomial.{Polynomial, coefficient, Same, term_of, lead_monomial}
 use Rattle.polynomials.specs.Subalgebra.{Presented}
 use Rattle.polynomials.specs.laws.Coefficients.{value_variable}
@@ -71,11 +73,17 @@ module _ {E : Type 0} (P : Presented E) (S T : List (Polynomial E)) where
   pub word_grows : (w : List ℕ) → IsWord (letters P S) w → IsWord (letters P (S ++ T)) w
   word_grows w h = record { trimmed = h.trimmed; within = let l = h.within in let a = places_letters P S in let b = places_letters P (S ++ T) in let c = length-append S T in omega arith }
 
-  degrees_split : letter_degrees P (S ++ T) ++ lead_degrees (letters P (S ++ T)) ≡ (letter_degrees P S ++ lead_degrees (letters P S)) ++ map (weighted_degree (letter_degrees P S)) (map lead_monomial T)
-  degrees_split =
-      ap (λ ds. letter_degrees P S ++ ds) (ap (map (weighted_degree (letter_degrees P S))) (map-append lead_monomial S T) ∙ map-append (weighted_degree (letter_degrees P S)) (map lead_monomial S) (map lead_monomial T)) ∙
-      sym (append_assoc (letter_degrees P S) (lead_degrees (letters P S)) (map (weighted_degree (letter_degrees P S)) (map lead_monomial T)))
+  leads_split : lead_degrees (letters P (S ++ T)) ≡ lead_degrees (letters P S) ++ map (weighted_degree (letter_degrees P S)) (map lead_monomial T)
+  leads_split =
+      ap (map (weighted_degree (letter_degrees P S))) (map-append lead_monomial S T) ∙ map-append (weighted_degree (letter_degrees P S)) (map lead_monomial S) (map lead_monomial T)
 
   pub degree_stays : (w : List ℕ) → length w ≤ (word_order_of (letters P S)).places → (word_order_of (letters P (S ++ T))).degree w ≡ (word_order_of (letters P S)).degree w
   degree_stays w h =
-      ap (λ ws. weighted_degree ws w) degrees_split ∙ weighted_front (letter_degrees P S ++ lead_degrees (letters P S)) (map (weighted_degree (letter_degrees P S)) (map lead_monomial T)) w h
+      ap (λ ds. (word_order (letter_degrees P S) ds).degree w) leads_split ∙
+      longer_degree (letter_degrees P S) (lead_degrees (letters P S)) (map (weighted_degree (letter_degrees P S)) (map lead_monomial T)) w h
+
+  pub compare_stays : (v w : List ℕ) → length v ≤ (word_order_of (letters P S)).places → length w ≤ (word_order_of (letters P S)).places →
+      (word_order_of (letters P (S ++ T))).compare v w ≡ (word_order_of (letters P S)).compare v w
+  compare_stays v w hv hw =
+      ap (λ ds. (word_order (letter_degrees P S) ds).compare v w) leads_split ∙
+      longer_compare (letter_degrees P S) (lead_degrees (letters P S)) (map (weighted_degree (letter_degrees P S)) (map lead_monomial T)) v w hv hw

@@ -1,10 +1,10 @@
 use Rattle.std.proofs.Common.{◌≤◌, ◌∷◌, ◌++◌, [], arith, sym, ap, subst, ◌∙◌, refl}
 use Rattle.polynomials.specs.Polynomial.{term_of, constant, AllAt, IsCanonical, Same}
-use Rattle.polynomials.specs.laws.ReducedBasis.{degree_one}
 use Rattle.poly_core.proofs.Merging.{told_differ, told_same}
 use Rattle.poly_core.proofs.Calls.{canonical_constant, zero_constant}
 use Rattle.poly_core.proofs.values.constant_terms.Goals as goal
 use Rattle.poly_core.proofs.values.constant_terms.Goals.{then-ne+in_ok-push, else-ne}
+use Rattle.monomial_order.specs.laws.Comparing.{degree_one}
 
 pub returns-clause-canonical : goal.returns-clause-canonical
 returns-clause-canonical g c =

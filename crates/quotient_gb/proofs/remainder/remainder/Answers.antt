@@ -1,8 +1,9 @@
 use Rattle.std.proofs.Common.{◌++◌, ◌∷◌, refl, sym, subst}
+use Rattle.polynomials.specs.laws.Lowering.{height_less, height_rest}
+use Rattle.linked_terms.specs.laws.Popping.{popped}
 use Rattle.poly_core.specs.Presentation.{presented}
 use Rattle.quotient_gb.specs.Remainder.{IsRemainderIn}
-use Rattle.quotient_gb.proofs.Reducing.{height_less, height_rest}
-use Rattle.quotient_gb.proofs.Remainders.{start, popped, work_is_canonical, after_reduction, after_move, finished}
+use Rattle.quotient_gb.proofs.Remainders.{start, work_is_canonical, after_reduction, after_move, finished}
 use Rattle.quotient_gb.proofs.remainder.remainder.Goals as goal
 
 pub reduce-init : goal.reduce-init
@@ -22,7 +23,7 @@ pub reduce-smaller-in_default-find_reducer : goal.reduce-smaller-in_default-find
 reduce-smaller-in_default-find_reducer g c =
     let P = presented g.F.Field.ops g.O.Order.order c.args.p.now in
     let G = c.args.before.now.members.items ++ c.args.found.now.members.items in
-    rw (popped c.reduce.work c.pop_lead.new.self c.in-Some.term c.in-Some.ensures) (height_rest (g.F.Field.ops c.args.p.now.field) (g.met.F.Field.laws c.args.p.now.field) (g.O.Order.order c.args.p.now.order) (g.met.O.Order.laws c.args.p.now.order) c.in-Some.term c.pop_lead.new.self.terms
+    rw (popped c.reduce.work c.pop_lead.new.self c.in-Some.term c.in-Some.ensures) (height_rest (g.F.Field.ops c.args.p.now.field) (g.O.Order.order c.args.p.now.order) (g.met.O.Order.laws c.args.p.now.order) c.in-Some.term c.pop_lead.new.self.terms
     (work_is_canonical P c.requires.presentation G c.requires.reducers c.args.a.now c.reduce.done.items (c.in-Some.term ∷ c.pop_lead.new.self.terms) (rw (popped c.reduce.work c.pop_lead.new.self c.in-Some.term c.in-Some.ensures) at c.reduce.invariant)))
 
 pub reduce-preserved-in_default-find_reducer : goal.reduce-preserved-in_default-find_reducer
@@ -34,7 +35,7 @@ reduce-preserved-in_default-find_reducer g c =
 
 pub reduce-smaller : goal.reduce-smaller
 reduce-smaller g c =
-    rw (popped c.reduce.work c.pop_lead.new.self c.in-Some.term c.in-Some.ensures) (height_less (g.F.Field.ops c.args.p.now.field) (g.met.F.Field.laws c.args.p.now.field) (g.O.Order.order c.args.p.now.order) (g.met.O.Order.laws c.args.p.now.order) c.in-Some.term c.pop_lead.new.self.terms c.cancel.new.work.terms c.in_ok-cancel.ensures.canonical c.in_ok-cancel.ensures.below)
+    rw (popped c.reduce.work c.pop_lead.new.self c.in-Some.term c.in-Some.ensures) (height_less (g.F.Field.ops c.args.p.now.field) (g.O.Order.order c.args.p.now.order) (g.met.O.Order.laws c.args.p.now.order) c.in-Some.term c.pop_lead.new.self.terms c.cancel.new.work.terms c.in_ok-cancel.ensures.canonical c.in_ok-cancel.ensures.below)
 
 pub reduce-preserved : goal.reduce-preserved
 reduce-preserved g c =
