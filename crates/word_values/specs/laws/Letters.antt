@@ -6,7 +6,7 @@ use Rattle.std.proofs.lemmas.List.Elements.{Contains-get_or}
 use Rattle.monomial_order.specs.Monomial.{exponent, product, variable, IsMonomial, IsTrimmed, weighted_degree}
 use Rattle.monomial_order.specs.laws.Cofactors.{length-product_right}
 use Rattle.monomial_order.specs.laws.Comparing.{le_or_not}
-use Rattle.monomial_order.specs.laws.Monomial.{weighted_nil, exponent_past}
+use Rattle.monomial_order.specs.laws.Monomial.{weighted_nil, exponent_past, variable_at}
 use Rattle.monomial_order.specs.laws.Orders.{weighted_degree-product, take-product, sum-product}
 use Rattle.word_laws.specs.Words.{lead_degrees, IsSWord}
 use Rattle.word_laws.specs.laws.Images.{degree_weighted}
@@ -25,9 +25,9 @@ weighted_variable (w ∷ ws) zero l = let z = weighted_nil ws in let e : w * 1 +
 weighted_variable (w ∷ ws) (suc j) l =
     let r = weighted_variable ws j (omega arith) in let e : w * 0 + weighted_degree ws (variable j) ≡ get_or ws j 0 = omega arith in e
 
+-- a letter alone has the exponent 1
 pub exponent_here : (i : ℕ) → exponent (variable i) i ≡ 1
-exponent_here zero = refl
-exponent_here (suc i) = exponent_here i
+exponent_here = variable_at
 
 module _ {E : Type 0} (P : Presented E) (S : List (Polynomial E)) where
   -- where a letter of an s-word stands
