@@ -1,4 +1,3 @@
-mod Lists
 mod IdealLeads
 mod Growing
 mod Pushing

@@ -1,24 +1,20 @@
 -- The loop of a subduction.
-use Rattle.std.proofs.Common.{◌≡◌, ◌≢◌, ℕ, suc, ◌+◌, ◌<◌, ◌≤◌, ◌⊎◌, inl, inr, sym, ◌∙◌, ap, subst, List, [], ◌∷◌, Bool, true, length, ⊎_elim, arith}
+use Rattle.std.proofs.Common.{◌≡◌, ◌≢◌, ℕ, ◌≤◌, ◌⊎◌, inl, inr, sym, ◌∙◌, ap, subst, List, [], ◌∷◌, Bool, true, length, ⊎_elim, arith}
 use Rattle.std.specs.Prelude.{map, nat_le}
 use Rattle.std.proofs.lemmas.Bool.{leb-true, le-leb}
-use Rattle.word_field.specs.Field.{FieldOps}
 use Rattle.monomial_order.specs.declared.terms.Term.{Term}
 use Rattle.monomial_order.specs.Limits.{degree_max, exponent_max}
 use Rattle.monomial_order.specs.Monomial.{Exponents, IsMonomial, IsMultiple, weighted_degree}
-use Rattle.monomial_order.specs.MonomialOrder.{MonomialOrder, IsMonomialOrder}
 use Rattle.monomial_order.specs.laws.Comparing.{degree_falls, equal_or_not}
-use Rattle.monomial_order.specs.laws.Rank.{rank, rank_falls}
 use Rattle.std.proofs.lemmas.List.{length-map}
 use Rattle.word_laws.specs.Words.{image_of, variables, AreLetters, IsLeast, IsSWord, word_order_of}
 use Rattle.word_laws.specs.laws.Words.{degree_image, degree_x}
 use Rattle.word_laws.specs.laws.Images.{degree_weighted, length-variables}
 use Rattle.subalgebra_laws.specs.Statements.{ForMonicElements, ProductsAreImages}
-use Rattle.linked_terms.specs.Chain.{Chain}
-use Rattle.polynomials.specs.Polynomial.{Polynomial, coefficient, degree_of, lead_monomial, IsBelow, IsCanonical}
+use Rattle.polynomials.specs.Polynomial.{Polynomial, coefficient, degree_of, lead_monomial, IsCanonical}
 use Rattle.polynomials.specs.Subalgebra.{Presented, IsGenerated, IsPresentation, IsStandard}
 use Rattle.polynomials.specs.laws.Coefficients.{decreasing_leads, nothing_at}
-use Rattle.polynomials.specs.laws.Terms.{canonical_right}
+use Rattle.polynomials.specs.laws.Terms.{canonical_right, AllAt-right}
 use Rattle.subalgebra_laws.specs.Words.{letters}
 use Rattle.witness.specs.Tracking.{values_of}
 use Rattle.word_values.specs.Values.{word_degree}
@@ -26,24 +22,7 @@ use Rattle.toric_ideal.specs.Listing.{IsDecided}
 use Rattle.subduction.specs.Basis.{BasisState, IsBasisOf}
 use Rattle.subduction.specs.Subduced.{IsInReach}
 use Rattle.subduction.specs.Steps.{IsSubducing}
-use Rattle.subduction.proofs.Lists.{at_right}
 use Rattle.subduction.proofs.Elements.{degree_is, monic_elements, places_is, standard_not_zero}
-
-pub popped : {E : Type 0} (old new : Chain E) (t : Term E) → ((rest : Polynomial E) × (old.terms ≡ t ∷ rest) × (new ≡ record { terms = rest; spare = old.spare + 1 })) → old.terms ≡ t ∷ new.terms
-popped old new t h = h.1 ∙ sym (ap (λ c. t ∷ c.terms) h.2)
-
--- how far the lead may still fall
-abbrev pub height : {E : Type 0} → MonomialOrder → Polynomial E → ℕ
-height O [] = 0
-height O (t ∷ p) = suc (rank O t.at)
-
-module _ {E : Type 0} (K : FieldOps E) (O : MonomialOrder) (L : IsMonomialOrder O) where
-  pub height_less : (t : Term E) (w r : Polynomial E) → IsCanonical K O r → IsBelow K O t.at r → height O r < height O (t ∷ w)
-  height_less t w [] c b = omega arith
-  height_less t w (x ∷ r) c b = let f = rank_falls O L x.at t.at c.decreasing.0.term.monomial b.0 in omega arith
-
-  pub height_rest : (t : Term E) (w : Polynomial E) → IsCanonical K O (t ∷ w) → height O w < height O (t ∷ w)
-  height_rest t w c = height_less t w w (canonical_right K O (t ∷ []) w c) c.decreasing.0.above
 
 -- at most d, as a test
 abbrev pub up_to : ℕ → ℕ → Bool
@@ -70,13 +49,13 @@ module _ {E : Type 0} (P : Presented E) (H : IsPresentation P) where
     S = values_of b.elements
 
     pub term_standard : IsStandard P t.at
-    term_standard = (at_right (IsStandard P) done (t ∷ w) h.standard).0
+    term_standard = (AllAt-right (IsStandard P) done (t ∷ w) h.standard).0
 
     pub term_degree : O.degree t.at ≤ degree_of O a
     term_degree =
         let Q = up_to (degree_of O a) in
         up_to_le (degree_of O a) (O.degree t.at)
-        (at_right (λ m. Q (O.degree m) ≡ true) done (t ∷ w) (h.degrees Q (λ m n. up_to_true (degree_of O a) (O.degree m) (degrees_to a ka m n))).0).0
+        (AllAt-right (λ m. Q (O.degree m) ≡ true) done (t ∷ w) (h.degrees Q (λ m n. up_to_true (degree_of O a) (O.degree m) (degrees_to a ka m n))).0).0
 
     pub work_canonical : IsCanonical K O (t ∷ w)
     work_canonical = canonical_right K O done (t ∷ w) h.canonical

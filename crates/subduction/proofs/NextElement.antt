@@ -8,7 +8,7 @@ use Rattle.monomial_order.specs.Monomial.{Exponents, Divides, exponent, variable
 use Rattle.monomial_order.specs.MonomialOrder.{MonomialOrder, IsMonomialOrder}
 use Rattle.monomial_order.specs.laws.Comparing.{divisor_degree, equal_or_not, le_or_not, numbers_or_not, proper_divisor}
 use Rattle.monomial_order.specs.laws.Lists.{contains_at, contains_cases, contains_either, contains_none}
-use Rattle.monomial_order.specs.laws.Monomial.{exponent_past, variable_divides, variable_length, variable_off, variable_trimmed}
+use Rattle.monomial_order.specs.laws.Monomial.{exponent_past, variable_divides, variable_length, variable_off, variable_trimmed, variable_at}
 use Rattle.polynomials.specs.Polynomial.{Polynomial, coefficient, degree_of, first_coefficient, lead_monomial, IsDecreasing, Same}
 use Rattle.polynomials.specs.Subalgebra.{Presented, IsGenerated, IsPresentation}
 use Rattle.polynomials.specs.laws.Same.{same_refl}
@@ -20,10 +20,6 @@ use Rattle.witness.specs.Tracking.{by_order, letter_poly, values_of, IsCanonical
 use Rattle.witness.specs.laws.Letters.{by_laws, by_places, element_letter}
 use Rattle.subduction.specs.Basis.{BasisState, AreShortAt, IsBasisElement, IsBasisOf, IsNewElement}
 use Rattle.subduction.specs.NewElements.{IsLoweredTo, IsMonicMultiple, IsNextElement, IsWitnessPut}
-
-variable_at : (i : ℕ) → exponent (variable i) i ≡ 1
-variable_at zero = refl
-variable_at (suc i) = variable_at i
 
 variables_differ : (i j : ℕ) → i ≢ j → variable i ≢ variable j
 variables_differ i j n e = let a = variable_length i in let b = variable_length j in let q = ap length e in n (omega arith)

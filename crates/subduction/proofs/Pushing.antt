@@ -1,112 +1,31 @@
 -- One more element keeps those before it.
-use Rattle.std.proofs.Common.{◌≡◌, ◌≢◌, ℕ, zero, suc, ◌+◌, ◌<◌, ◌≤◌, refl, sym, ◌∙◌, ap, subst, List, [], ◌∷◌, ◌++◌, length, get_or, take, drop, append_assoc, length-append, arith, ⊎_elim}
-use Rattle.std.specs.Prelude.{map, sum, All, Contains}
-use Rattle.std.proofs.lemmas.List.{get_or_append_left, length-map, map-append}
+use Rattle.std.proofs.Common.{◌≡◌, ◌≢◌, ℕ, zero, suc, ◌+◌, ◌<◌, ◌≤◌, sym, ◌∙◌, ap, subst, List, [], ◌∷◌, ◌++◌, length, get_or, append_assoc, length-append, arith, ⊎_elim}
+use Rattle.std.specs.Prelude.{map, All, Contains}
+use Rattle.std.proofs.lemmas.List.{get_or_append_left, map-append}
 use Rattle.std.proofs.lemmas.List.Elements.{All-append}
-use Rattle.std.specs.Ordering.{nat_cmp, ordering_then, on, then_cmp}
-use Rattle.std.specs.declared.cmp.Ordering.{Ordering}
-use Rattle.word_field.specs.Field.{FieldOps, IsField}
-use Rattle.monomial_order.specs.Monomial.{Exponents, exponent, IsMonomial, weighted_degree}
-use Rattle.monomial_order.specs.MonomialOrder.{MonomialOrder, IsMonomialOrder}
-use Rattle.monomial_order.specs.Orders.{word_order, lex}
-use Rattle.monomial_order.specs.declared.word_order.WordOrder.{WordOrder}
+use Rattle.monomial_order.specs.Monomial.{Exponents, exponent, IsMonomial}
+use Rattle.monomial_order.specs.MonomialOrder.{MonomialOrder}
 use Rattle.monomial_order.specs.laws.Comparing.{le_or_not}
 use Rattle.monomial_order.specs.laws.Monomial.{exponent_past}
 use Rattle.word_laws.specs.Words.{image_of, IsSWord, Letters}
-use Rattle.word_laws.specs.laws.Images.{weighted_front}
-use Rattle.polynomials.specs.Polynomial.{Polynomial, coefficient, constant, degree_of, lead_monomial, times, AllAt, IsCanonical, IsDecreasing, IsPoly, IsSmall}
-use Rattle.polynomials.specs.Value.{term_value, value}
+use Rattle.polynomials.specs.Polynomial.{Polynomial, degree_of, lead_monomial, IsCanonical, IsPoly}
+use Rattle.polynomials.specs.Value.{value}
 use Rattle.polynomials.specs.Ideal.{Congruent}
-use Rattle.polynomials.specs.Subalgebra.{Presented, IsPresentation, IsGenerated}
+use Rattle.polynomials.specs.Subalgebra.{Presented, IsPresentation}
 use Rattle.polynomials.specs.laws.Coefficients.{decreasing_leads, found_monomial}
 use Rattle.polynomials.specs.laws.Decreasing.{IsDecreasing_IsPoly}
+use Rattle.polynomials.specs.laws.Terms.{AllAt-map, poly_monomials}
 use Rattle.poly_core.specs.Presentation.{generator_degree}
 use Rattle.subalgebra_laws.specs.Statements.{ForMonicElements, ProductsAreImages}
 use Rattle.subalgebra_laws.specs.Words.{letters}
-use Rattle.subalgebra_laws.specs.laws.Fronts.{decreasing_over, monomial_value_front}
-use Rattle.toric_ideal.specs.Listing.{IsListing, IsNewLead, Listing}
-use Rattle.witness.specs.Tracking.{by_order, values_of, IsGraded, IsWitnessOrder, Tracks, UsesLower}
+use Rattle.subalgebra_laws.specs.laws.Fronts.{value_front}
+use Rattle.toric_ideal.specs.Listing.{IsListing, IsNewLead}
+use Rattle.witness.specs.Tracking.{by_order, values_of, Tracks, UsesLower}
 use Rattle.witness.specs.declared.tracked.Tracked.{Tracked}
 use Rattle.witness.specs.laws.Letters.{by_laws, by_places}
-use Rattle.subduction.specs.Basis.{BasisState, AreInParts, IsBasisElement, IsBasisOf, IsNewElement}
+use Rattle.witness.specs.laws.Longer.{canonical_longer, graded_longer}
+use Rattle.subduction.specs.Basis.{BasisState, IsBasisElement, IsBasisOf, IsNewElement}
 use Rattle.subduction.proofs.Elements.{degree_is, monic_elements, places_is, standard_not_zero}
-
--- orders of words with more letters at the end
-module _ (ds es : List ℕ) where
-  longer_degree : (m : Exponents) → length m ≤ length ds → (word_order [] (ds ++ es)).degree m ≡ (word_order [] ds).degree m
-  longer_degree m l = weighted_front ds es m l
-
-  abbrev rest : Exponents → Exponents → Ordering
-  rest = then_cmp (on (λ x. sum (take 0 x)) nat_cmp) (then_cmp (on (drop 0) lex) lex)
-
-  longer_compare : (m n : Exponents) → length m ≤ length ds → length n ≤ length ds → (word_order [] (ds ++ es)).compare m n ≡ (word_order [] ds).compare m n
-  longer_compare m n hm hn =
-      ap (λ d. ordering_then (nat_cmp d ((word_order [] (ds ++ es)).degree n)) (rest m n)) (longer_degree m hm) ∙
-      ap (λ d. ordering_then (nat_cmp ((word_order [] ds).degree m) d) (rest m n)) (longer_degree n hn)
-
-poly_monomials : {E : Type 0} (K : FieldOps E) (n : ℕ) (p : Polynomial E) → IsPoly K n p → AllAt (IsMonomial n) p
-poly_monomials K n [] h = tt
-poly_monomials K n (t ∷ p) h = (let a = h.0 in a.monomial, poly_monomials K n p h.1)
-
-value_longer : {E : Type 0} (K : FieldOps E) (e : Polynomial E) (fs gs : List (Polynomial E)) → AllAt (IsMonomial (length fs)) e → value K e (fs ++ gs) ≡ value K e fs
-value_longer K [] fs gs a = refl
-value_longer K (t ∷ e) fs gs a =
-    ap (λ x. times K (constant K t.by) x ++ value K e (fs ++ gs)) (monomial_value_front K t.at fs gs (let h = a.0 in h.within)) ∙
-    ap (λ x. term_value K fs t ++ x) (value_longer K e fs gs a.1)
-
--- the order v has the letters of w and more
-module _ (w v : WordOrder) (es : List ℕ) (no_x : w.x_degrees.items ≡ []) (none : v.x_degrees.items ≡ []) (more : v.s_degrees.items ≡ w.s_degrees.items ++ es) where
-  abbrev W : MonomialOrder
-  W = by_order w
-
-  abbrev V : MonomialOrder
-  V = by_order v
-
-  abbrev ds : List ℕ
-  ds = w.s_degrees.items
-
-  is_front : W ≡ word_order [] ds
-  is_front = ap (λ xs. word_order xs ds) no_x
-
-  is_longer : V ≡ word_order [] (ds ++ es)
-  is_longer = ap (λ xs. word_order xs v.s_degrees.items) none ∙ ap (word_order []) more
-
-  places_front : W.places ≡ length ds
-  places_front = ap (λ O. (let N : MonomialOrder = O in N.places)) is_front
-
-  places_longer : V.places ≡ length ds + length es
-  places_longer = ap (λ O. (let N : MonomialOrder = O in N.places)) is_longer ∙ length-append ds es
-
-  pub same_degree : (m : Exponents) → length m ≤ W.places → V.degree m ≡ W.degree m
-  same_degree m l =
-      ap (λ O. (let N : MonomialOrder = O in N.degree m)) is_longer ∙
-      (longer_degree ds es m (let n = places_front in omega arith) ∙ ap (λ O. (let N : MonomialOrder = O in N.degree m)) (sym is_front))
-
-  same_compare : (m n : Exponents) → length m ≤ W.places → length n ≤ W.places → V.compare m n ≡ W.compare m n
-  same_compare m n hm hn =
-      ap (λ O. (let N : MonomialOrder = O in N.compare m n)) is_longer ∙
-      (longer_compare ds es m n (let n = places_front in omega arith) (let n = places_front in omega arith) ∙
-      ap (λ O. (let N : MonomialOrder = O in N.compare m n)) (sym is_front))
-
-  module _ {E : Type 0} (K : FieldOps E) (F : IsField K) (p : Polynomial E) (c : IsCanonical K W p) where
-    monomials : AllAt (IsMonomial W.places) p
-    monomials = poly_monomials K W.places p (IsDecreasing_IsPoly K W p c.decreasing)
-
-    pub canonical_longer : IsCanonical K V p
-    canonical_longer = record {
-      decreasing = decreasing_over K W V (IsMonomial W.places)
-          (λ m h. record { trimmed = h.trimmed; within = let a = h.within in let b = places_front in let d = places_longer in omega arith })
-          (λ m n a b. same_compare m n a.within b.within) p monomials c.decreasing;
-      small = small p monomials c.small;
-    }
-      where
-        small : (p : Polynomial E) → AllAt (IsMonomial W.places) p → IsSmall W p → IsSmall V p
-        small [] a s = tt
-        small (t ∷ p) a s = (let d = same_degree t.at (let l = a.0 in l.within) in let x = s.0 in omega arith, small p a.1 s.1)
-
-    pub graded_longer : (d : ℕ) → IsGraded K W d p → IsGraded K V d p
-    graded_longer d h m n =
-        same_degree m (let l = found_monomial K F W (by_laws w) p (IsDecreasing_IsPoly K W p c.decreasing) m n in l.within) ∙ h m n
 
 module _ {F E : Type 0} (P : Presented E) (H : IsPresentation P) (b : BasisState F E) (B : IsBasisOf P b) where
   open P use {field as K, order as O, generators as fs}
@@ -135,9 +54,10 @@ module _ {F E : Type 0} (P : Presented E) (H : IsPresentation P) (b : BasisState
         subst (λ T. Congruent K O.places P.ideal t.value (value K t.by (fs ++ T))) (sym values_longer)
         (subst (Congruent K O.places P.ideal t.value)
         (sym (ap (value K t.by) (sym (append_assoc fs S (u.value ∷ []))) ∙
-        value_longer K t.by (fs ++ S) (u.value ∷ [])
+        value_front K t.by (fs ++ S) (u.value ∷ [])
+        (AllAt-map (IsMonomial (length (fs ++ S))) (λ m. length m ≤ length (fs ++ S)) (λ m h. h.within) t.by
         (poly_monomials K (length (fs ++ S)) t.by
-        (subst (λ n. IsPoly K n t.by) (places ∙ sym (length-append fs S)) (IsDecreasing_IsPoly K before t.by c.decreasing))))) h)
+        (subst (λ n. IsPoly K n t.by) (places ∙ sym (length-append fs S)) (IsDecreasing_IsPoly K before t.by c.decreasing)))))) h)
 
     pub lower_longer : (t : Tracked F E) → IsCanonical K before t.by → UsesLower P S t → UsesLower P S' t
     lower_longer t c h m n i x =

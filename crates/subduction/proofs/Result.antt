@@ -20,7 +20,7 @@ use Rattle.polynomials.specs.laws.NormalForm.{normal_form_bounded, normal_form_h
 use Rattle.polynomials.specs.laws.Membership.{value-negated}
 use Rattle.polynomials.specs.laws.Ring.{coefficient-append, coefficient_value}
 use Rattle.polynomials.specs.laws.Same.{append_same, coefficient-negated}
-use Rattle.polynomials.specs.laws.Terms.{canonical_left}
+use Rattle.polynomials.specs.laws.Terms.{canonical_left, AllAt-left}
 use Rattle.polynomials.specs.laws.Value.{value-append, value_same}
 use Rattle.subalgebra_laws.specs.Words.{combination_value, letters, HasSumAndRest}
 use Rattle.witness.specs.declared.tracked.Tracked.{Tracked}
@@ -30,7 +30,6 @@ use Rattle.subduction.specs.Steps.{IsIrreducibleWord, IsSubducing}
 use Rattle.subduction.specs.Subduced.{witness_sum, CanSubduce, IsSubduced}
 use Rattle.subduction.specs.laws.WitnessWords.{s_word_degree, s_word_monomial, witness_value}
 use Rattle.subduction.specs.laws.Elements.{leads_monomials}
-use Rattle.subduction.proofs.Lists.{at_left}
 use Rattle.subduction.proofs.Loop.{degrees_to, up_to, up_to_le, up_to_true}
 use Rattle.subduction.proofs.Steps.{finished}
 
@@ -110,7 +109,7 @@ module _ {F E : Type 0} (P : Presented E) (H : IsPresentation P) (b : BasisState
 
         module _ (Q : ℕ → Bool) (q : (m : Exponents) → coefficient K a m ≢ K.zero → Q (O.degree m) ≡ true) where
           rest_has : (m : Exponents) → coefficient K done m ≢ K.zero → Q (O.degree m) ≡ true
-          rest_has m k = all_found K F' O L (λ m. Q (O.degree m) ≡ true) done (at_left (λ m. Q (O.degree m) ≡ true) done [] (h.degrees Q q).0) m k
+          rest_has m k = all_found K F' O L (λ m. Q (O.degree m) ≡ true) done (AllAt-left (λ m. Q (O.degree m) ≡ true) done [] (h.degrees Q q).0) m k
 
           sum_has : (w : Exponents) → coefficient K e w ≢ K.zero → Q (M.degree w) ≡ true
           sum_has w k = all_found K F' O L (λ w. Q (M.degree w) ≡ true) words (h.degrees Q q).1 w (λ z. k (same w ∙ z))

@@ -3,13 +3,13 @@ use Rattle.std.proofs.Common.{◌≡◌, ◌≢◌, ℕ, zero, suc, ◌+◌, ◌
 use Rattle.std.specs.Prelude.{Contains, map, All}
 use Rattle.std.specs.declared.cmp.Ordering.TheVariants.{Less}
 use Rattle.std.proofs.lemmas.List.{get_or-map, length-map, map-append}
-use Rattle.word_field.specs.Field.{FieldOps, IsField, IsValue}
+use Rattle.word_field.specs.Field.{IsValue}
 use Rattle.word_field.specs.laws.Field.{times-zero}
 use Rattle.monomial_order.specs.Monomial.{Exponents}
 use Rattle.monomial_order.specs.MonomialOrder.{MonomialOrder, IsIncreasing}
-use Rattle.monomial_order.specs.laws.Lists.{contains_at, contains_cases, contains_map, contains_here, contains_there, contains_none, contains_either, contains_left, contains_right}
+use Rattle.monomial_order.specs.laws.Lists.{contains_at, contains_cases, contains_map, contains_here, contains_there, contains_none, contains_either}
 use Rattle.monomial_order.specs.laws.Comparing.{equal_or_not, increasing_below, increasing_tail, le_or_not, less_or_not, not_below_self}
-use Rattle.polynomials.specs.Polynomial.{Polynomial, coefficient, constant, lead_monomial, times, IsCanonical, Same}
+use Rattle.polynomials.specs.Polynomial.{Polynomial, coefficient, constant, lead_monomial, times, Same}
 use Rattle.polynomials.specs.Subalgebra.{Presented, IsPresentation}
 use Rattle.polynomials.specs.laws.Ring.{coefficient-append, coefficient_value}
 use Rattle.polynomials.specs.laws.Same.{append_same}
@@ -21,6 +21,9 @@ use Rattle.witness.specs.declared.tracked.Tracked.{Tracked}
 use Rattle.witness.specs.Tracking.{values_of, IsCanonicalPair, IsGradedPair, IsShort, Tracks}
 use Rattle.subduction.proofs.Reducing.{contains-All}
 use Rattle.subduction.specs.Settling.{lead_share, AreLess, AreMadeFrom, IsDifference, IsLess, IsMadeFrom}
+
+abbrev pub leads_of : {F E : Type 0} → List (Tracked F E) → List Exponents
+leads_of ts = map lead_monomial (values_of ts)
 
 module _ {F E : Type 0} (P : Presented E) (H : IsPresentation P) (W : MonomialOrder) (L : List (Polynomial E)) (old : List (Tracked F E)) (d : ℕ) where
   open P use {field as K, order as O, generators as fs}
@@ -184,9 +187,6 @@ module _ {F E : Type 0} (P : Presented E) (H : IsPresentation P) (W : MonomialOr
     pub parts : (u : Tracked F E) → Contains us u → IsLastPart u
     pub monic : (u : Tracked F E) → Contains us u → IsMonic u
     pub reduced : AreReducedInOrder us
-
-  abbrev leads_of : List (Tracked F E) → List Exponents
-  leads_of ts = map lead_monomial (values_of ts)
 
   -- the lead of the old element stays if those of the others are smaller
   stays : (t : Tracked F E) (us : List (Tracked F E)) (r : Tracked F E) → AreLess P W t us r → IsCanonicalPair K O W t → IsCanonicalPair K O W r → IsMonic t → ((u : Tracked F E) → Contains us u → IsCanonicalPair K O W u × IsMonic u) →

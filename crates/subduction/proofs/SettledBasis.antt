@@ -1,45 +1,31 @@
 -- The new elements of the last degree in a basis.
-use Rattle.std.proofs.Common.{◌≡◌, ◌≢◌, ℕ, zero, suc, ◌+◌, ◌-◌, ◌<◌, ◌≤◌, get_or, drop, take, refl, sym, ◌∙◌, ap, subst, List, [], ◌∷◌, ◌++◌, length, append_assoc, append-nil, length-append, ⊎_elim, ◌⊎◌, inl, inr, arith}
+use Rattle.std.proofs.Common.{◌≡◌, ◌≢◌, ℕ, zero, suc, ◌+◌, ◌-◌, ◌<◌, ◌≤◌, get_or, drop, take, refl, sym, ◌∙◌, ap, subst, List, [], ◌∷◌, ◌++◌, length, append_assoc, length-append, ⊎_elim, ◌⊎◌, arith}
 use Rattle.std.specs.Prelude.{Contains, map, All, AllPairs}
 use Rattle.std.proofs.lemmas.List.{drop-map, get_or-map, take-append-drop, get_or_default, get_or_append_left, get_or-append-add, length-map, map-append}
 use Rattle.std.proofs.lemmas.List.Elements.{All-contains, All-drop}
-use Rattle.word_field.specs.Field.{FieldOps, IsField}
 use Rattle.monomial_order.specs.Monomial.{Exponents, exponent, IsMonomial, IsTrimmed}
 use Rattle.monomial_order.specs.MonomialOrder.{MonomialOrder, IsIncreasing, IsMonomialOrder}
-use Rattle.monomial_order.specs.laws.Lists.{contains_at, contains_cases, contains_either, contains_here, contains_left, contains_map, contains_none, contains_right, contains_there}
+use Rattle.monomial_order.specs.laws.Lists.{contains_at, contains_either, contains_left, contains_none, contains_right, map_contains}
 use Rattle.monomial_order.specs.laws.Comparing.{le_or_not, numbers_or_not}
-use Rattle.monomial_order.specs.laws.Monomial.{exponent_past}
-use Rattle.polynomials.specs.Polynomial.{Polynomial, coefficient, constant, degree_of, lead_monomial, times, AllAt, IsCanonical, Same}
-use Rattle.polynomials.specs.Value.{monomial_value, term_value, value}
-use Rattle.polynomials.specs.Subalgebra.{Presented, IsPresentation, IsStandard}
+use Rattle.monomial_order.specs.laws.Monomial.{exponent_past, last_exponent}
+use Rattle.polynomials.specs.Polynomial.{Polynomial, coefficient, degree_of, lead_monomial, IsCanonical}
+use Rattle.polynomials.specs.Value.{value}
+use Rattle.polynomials.specs.Subalgebra.{Presented, IsPresentation}
 use Rattle.polynomials.specs.laws.Coefficients.{found_monomial}
 use Rattle.polynomials.specs.laws.Decreasing.{IsDecreasing_IsPoly}
 use Rattle.polynomials.specs.laws.Degrees.{decreasing_all}
-use Rattle.polynomials.specs.laws.ReducedBasis.{map_contains}
-use Rattle.subalgebra_laws.specs.laws.Fronts.{monomial_value_front}
+use Rattle.subalgebra_laws.specs.laws.Fronts.{value_front}
 use Rattle.witness.specs.declared.tracked.Tracked.{Tracked}
-use Rattle.witness.specs.Tracking.{by_order, values_of, IsCanonicalPair, IsGradedPair, IsShort, IsTrackedElement, Tracks, UsesLower}
+use Rattle.witness.specs.Tracking.{by_order, values_of, IsCanonicalPair, IsGradedPair, Tracks, UsesLower}
 use Rattle.witness.specs.laws.Letters.{by_laws, by_places}
-use Rattle.subduction.specs.Basis.{BasisState, AreInParts, AreSettled, AreShortAt, IsBasisElement, IsBasisOf, IsLinearSum}
+use Rattle.subduction.specs.Basis.{BasisState, AreInParts, AreSettled, IsBasisElement, IsBasisOf, IsLinearSum}
 use Rattle.subduction.specs.Settling.{AreMadeFrom}
 use Rattle.subduction.proofs.Reducing.{contains-All}
-use Rattle.subduction.proofs.Settled.{all_made, both_ways, AreDone, AreOld, HasSum, IsLastPart}
-
--- the last exponent of a trimmed list
-last_exponent : (e : ℕ) (w : Exponents) → IsTrimmed (e ∷ w) → exponent (e ∷ w) (length w) ≢ 0
-last_exponent e [] h = h
-last_exponent e (f ∷ w) h = last_exponent f w h
+use Rattle.subduction.proofs.Settled.{all_made, both_ways, AreDone, AreOld, HasSum, IsLastPart, leads_of}
 
 pub last_place : (m : Exponents) (k : ℕ) → IsTrimmed m → k < length m → (i : ℕ) × (k ≤ i) × (i < length m) × (exponent m i ≢ 0)
 last_place [] k h l = absurd (omega arith)
-last_place (e ∷ w) k h l = (length w, omega arith, omega arith, last_exponent e w h)
-
--- the value of what has the first letters alone
-value_front : {E : Type 0} (K : FieldOps E) (h : Polynomial E) (fs gs : List (Polynomial E)) → AllAt (λ m. length m ≤ length fs) h → value K h (fs ++ gs) ≡ value K h fs
-value_front K [] fs gs a = refl
-value_front K (t ∷ h) fs gs a =
-    ap (λ x. times K (constant K t.by) x ++ value K h (fs ++ gs)) (monomial_value_front K t.at fs gs a.0) ∙
-    ap (λ x. term_value K fs t ++ x) (value_front K h fs gs a.1)
+last_place (e ∷ w) k h l = (length w, omega arith, omega arith, λ z. let a = last_exponent (e ∷ w) (length w) h refl in omega arith)
 
 module _ {F E : Type 0} (P : Presented E) (H : IsPresentation P) (W : MonomialOrder) (N : IsMonomialOrder W) (L : List (Polynomial E)) where
   open P use {field as K, order as O, generators as fs}
@@ -121,10 +107,10 @@ module _ {F E : Type 0} (P : Presented E) (H : IsPresentation P) (b : BasisState
   from_last : (t : Tracked F E) → Contains before t → Contains b.elements t
   from_last t k = subst (λ xs. Contains xs t) (sym p.whole) (contains_right lower before t k)
 
-  low : (t : Tracked F E) → Contains lower t → degree_of O t.value < d
+  pub low : (t : Tracked F E) → Contains lower t → degree_of O t.value < d
   low t k = All-contains (λ (x : Tracked F E). degree_of O x.value < d) lower t p.lower_less k
 
-  equal : (t : Tracked F E) → Contains before t → degree_of O t.value ≡ d
+  pub equal : (t : Tracked F E) → Contains before t → degree_of O t.value ≡ d
   equal t k = All-contains (λ (x : Tracked F E). degree_of O x.value ≡ d) before t p.last_equal k
 
   at_last : (us : List (Tracked F E)) → ((u : Tracked F E) → Contains us u → degree_of O u.value ≡ d) → (j : ℕ) → j < length (values_of us) → degree_of O (get_or (values_of us) j []) ≡ d
@@ -225,9 +211,6 @@ module _ {F E : Type 0} (P : Presented E) (H : IsPresentation P) (b : BasisState
     new_elements =
         subst (All (IsBasisElement P c)) (sym elements)
         (contains-All (IsBasisElement P c) (lower ++ after) (λ t k. ⊎_elim (stays_low t) (last_is t) (contains_either lower after t k)))
-
-  abbrev leads_of : List (Tracked F E) → List Exponents
-  leads_of ts = map lead_monomial (values_of ts)
 
   -- the old leads in their parts
   pub leads_are : b.words.letters.leads ≡ leads_of lower ++ leads_of before

@@ -1,16 +1,13 @@
 -- A basis after its last elements are settled.
-use Rattle.std.proofs.Common.{◌≡◌, ◌≢◌, ℕ, ◌+◌, ◌<◌, ◌≤◌, get_or, drop, take, refl, sym, ◌∙◌, ap, subst, List, [], ◌∷◌, ◌++◌, length, length-append, ⊎_elim, arith}
-use Rattle.std.specs.Prelude.{Contains, map, replicate, All, AllPairs, ◌↔◌}
+use Rattle.std.proofs.Common.{◌≡◌, ◌≢◌, ℕ, ◌+◌, ◌<◌, ◌≤◌, drop, take, refl, sym, ◌∙◌, ap, subst, List, [], ◌∷◌, ◌++◌, length, length-append, ⊎_elim, arith}
+use Rattle.std.specs.Prelude.{Contains, map, replicate, AllPairs, ◌↔◌}
 use Rattle.std.proofs.lemmas.List.{get_or-append-add, length-map, map-append}
-use Rattle.std.proofs.lemmas.List.Elements.{All-contains}
 use Rattle.monomial_order.specs.Monomial.{Exponents, weighted_degree}
-use Rattle.monomial_order.specs.MonomialOrder.{MonomialOrder, IsIncreasing}
-use Rattle.monomial_order.specs.laws.Lists.{contains_either, contains_here, contains_left, contains_map, contains_none, contains_right, contains_there}
+use Rattle.monomial_order.specs.laws.Lists.{contains_either, contains_here, contains_left, contains_map, contains_none, contains_right, contains_there, map_contains}
 use Rattle.word_laws.specs.Words.{Letters, variables}
 use Rattle.word_laws.specs.laws.Images.{degree_weighted}
-use Rattle.polynomials.specs.Polynomial.{Polynomial, degree_of, lead_monomial}
+use Rattle.polynomials.specs.Polynomial.{degree_of, lead_monomial}
 use Rattle.polynomials.specs.Subalgebra.{Presented, IsPresentation}
-use Rattle.polynomials.specs.laws.ReducedBasis.{map_contains}
 use Rattle.poly_core.specs.Presentation.{generator_degree}
 use Rattle.quotient_gb.specs.Quotient.{QuotientState, IsQuotientOf}
 use Rattle.subalgebra_laws.specs.Statements.{IncreasingListsAreEqual}
@@ -20,11 +17,11 @@ use Rattle.toric_ideal.specs.Listing.{IsListing, IsSettled, OrdersByDegrees}
 use Rattle.witness.specs.declared.tracked.Tracked.{Tracked}
 use Rattle.witness.specs.Tracking.{by_order, values_of, IsWitnessOrder}
 use Rattle.subduction.specs.Basis.{BasisState, AreInParts, AreSettled, AreShortAt, IsBasisOf}
-use Rattle.subduction.specs.Settling.{AreMadeFrom, AreMadeInOrder}
+use Rattle.subduction.specs.Settling.{AreMadeInOrder}
 use Rattle.subduction.proofs.Elements.{places_is}
 use Rattle.subduction.proofs.Reducing.{contains-All}
-use Rattle.subduction.proofs.Settled.{all_made, AreDone}
-use Rattle.subduction.proofs.SettledBasis.{are_old, are_settled, comparable, last_leads, leads_are, new_elements, one_lead}
+use Rattle.subduction.proofs.Settled.{all_made, AreDone, leads_of}
+use Rattle.subduction.proofs.SettledBasis.{are_old, are_settled, comparable, last_leads, leads_are, new_elements, one_lead, low, equal}
 
 -- parts of lists
 take_front : {A : Type 0} (xs ys : List A) → take (length xs) (xs ++ ys) ≡ xs
@@ -76,9 +73,6 @@ module _ {F E : Type 0} (P : Presented E) (H : IsPresentation P) (b : BasisState
     abbrev d : ℕ
     d = b.words.degree
 
-    abbrev leads_of : List (Tracked F E) → List Exponents
-    leads_of ts = map lead_monomial (values_of ts)
-
     first : take n b.elements ≡ lower
     first = ap (λ k. take k b.elements) at ∙ (ap (take (length lower)) p.whole ∙ take_front lower before)
 
@@ -118,24 +112,18 @@ module _ {F E : Type 0} (P : Presented E) (H : IsPresentation P) (b : BasisState
     pub number_last : n + length us ≡ length b.elements
     number_last = let a = number in let e = ap length p.whole in let l = length-append lower before in omega arith
 
-    low : (t : Tracked F E) → Contains lower t → degree_of O t.value < d
-    low t k = All-contains (λ (x : Tracked F E). degree_of O x.value < d) lower t p.lower_less k
-
-    equal : (t : Tracked F E) → Contains before t → degree_of O t.value ≡ d
-    equal t k = All-contains (λ (x : Tracked F E). degree_of O x.value ≡ d) before t p.last_equal k
-
     low_lead : (m : Exponents) → Contains (leads_of lower) m → O.degree m < d
     low_lead m k =
         let q = map_contains lead_monomial (values_of lower) m k in
         let t = map_contains (λ (t : Tracked F E). t.value) lower q.0 q.1 in
-        let l = low t.0 t.1 in
+        let l = low P H b B lower before p t.0 t.1 in
         let i : degree_of O (let y : Tracked F E = t.0 in y.value) ≡ O.degree m = ap O.degree (ap lead_monomial t.2 ∙ q.2) in omega arith
 
     last_lead : (m : Exponents) → Contains (leads_of before) m → O.degree m ≡ d
     last_lead m k =
         let q = map_contains lead_monomial (values_of before) m k in
         let t = map_contains (λ (t : Tracked F E). t.value) before q.0 q.1 in
-        let l = equal t.0 t.1 in
+        let l = equal P H b B lower before p t.0 t.1 in
         let i : degree_of O (let y : Tracked F E = t.0 in y.value) ≡ O.degree m = ap O.degree (ap lead_monomial t.2 ∙ q.2) in omega arith
 
     lead_in : (ts : List (Tracked F E)) (t : Tracked F E) → Contains ts t → Contains (leads_of ts) (lead_monomial t.value)
@@ -155,8 +143,8 @@ module _ {F E : Type 0} (P : Presented E) (H : IsPresentation P) (b : BasisState
 
     pub short : (new : List (Tracked F E)) → new ≡ take n b.elements ++ us → AreShortAt P d b.elements → AreShortAt P d new
     short new e h t k q =
-        ⊎_elim (λ i. let l = low t i in absurd (omega arith))
-        (λ i. (done.0.parts t i).short (λ v j. h v (subst (λ ts. Contains ts v) (sym p.whole) (contains_right lower before v j)) (equal v j)))
+        ⊎_elim (λ i. let l = low P H b B lower before p t i in absurd (omega arith))
+        (λ i. (done.0.parts t i).short (λ v j. h v (subst (λ ts. Contains ts v) (sym p.whole) (contains_right lower before v j)) (equal P H b B lower before p v j)))
         (contains_either lower us t (subst (λ ts. Contains ts t) (whole new e) k))
 
     -- the leads in their new order
@@ -192,7 +180,7 @@ module _ {F E : Type 0} (P : Presented E) (H : IsPresentation P) (b : BasisState
     same_degrees : (new : List (Tracked F E)) → new ≡ lower ++ us → map (degree_of O) (values_of b.elements) ≡ map (degree_of O) (values_of new)
     same_degrees new e =
         ap (λ ts. map (degree_of O) (values_of ts)) p.whole ∙ (degrees_in_parts before ∙
-        (ap (λ ks. map (degree_of O) (values_of lower) ++ ks) (all_degrees before equal ∙ (ap (λ k. replicate k d) (sym number) ∙ sym (all_degrees us degrees))) ∙
+        (ap (λ ks. map (degree_of O) (values_of lower) ++ ks) (all_degrees before (equal P H b B lower before p) ∙ (ap (λ k. replicate k d) (sym number) ∙ sym (all_degrees us degrees))) ∙
         (sym (degrees_in_parts us) ∙ ap (λ ts. map (degree_of O) (values_of ts)) (sym e))))
 
     pub basis : IncreasingListsAreEqual P → (c : BasisState F E) → c.elements ≡ take n b.elements ++ us → c.quotient ≡ b.quotient → c.by_order ≡ b.by_order →

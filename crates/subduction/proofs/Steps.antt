@@ -16,14 +16,14 @@ use Rattle.polynomials.specs.laws.Degrees.{all_found, decreasing_all}
 use Rattle.polynomials.specs.laws.Ideal.{IsPoly-append, constant_poly}
 use Rattle.polynomials.specs.laws.Ring.{coefficient-append}
 use Rattle.polynomials.specs.laws.Same.{append_same, same_refl}
-use Rattle.polynomials.specs.laws.Terms.{AllAt-append, canonical_left, canonical_right}
+use Rattle.polynomials.specs.laws.Terms.{AllAt-append, canonical_left, canonical_right, AllAt-left, AllAt-right}
 use Rattle.polynomials.specs.laws.Value.{coefficient-scaled, coefficient-constant_times, one_times, value-append, value_same}
+use Rattle.polynomials.specs.laws.Lowering.{replaced}
 use Rattle.subalgebra_laws.specs.Words.{combination_value, letters, letter_values, word_value, HasSumAndRest, IsIrreducibleSum, IsReducibleWord, IsTopWord}
 use Rattle.subalgebra_laws.specs.Bases.{AreMonicElements}
 use Rattle.subalgebra_laws.specs.Statements.{LeastWordsAreIrreducible, TopImagesLeadNormalForms}
 use Rattle.word_values.specs.Values.{IsWordValue, word_degree}
 use Rattle.subduction.specs.Steps.{HasValueTaken, IsIrreducibleWord, IsMonicAt, IsSubducing}
-use Rattle.subduction.proofs.Lists.{at_left, at_right, replaced}
 
 -- a term by itself
 coefficient_single : {E : Type 0} (K : FieldOps E) (F : IsField K) (w : Exponents) (c : E) → IsValue K c → coefficient K (term_of w c ∷ []) w ≡ c
@@ -68,9 +68,9 @@ module _ {E : Type 0} (P : Presented E) (H : IsPresentation P) (S : List (Polyno
   module _ (a words done : Polynomial E) (t : Term E) (w : Polynomial E) (h : IsSubducing P S a words done (t ∷ w)) (u : Exponents) (r : Polynomial E) (k : HasValueTaken P S t w u r) where
     of_next : (Q : Exponents → Type 0) → AllAt Q (done ++ (t ∷ w)) → ((m : Exponents) → coefficient K k.value m ≢ K.zero → Q m) → AllAt Q (done ++ r)
     of_next Q old new =
-        AllAt-append Q done r (at_left Q done (t ∷ w) old)
+        AllAt-append Q done r (AllAt-left Q done (t ∷ w) old)
         (decreasing_all K F O L Q r k.taken.canonical.decreasing (λ m n.
-        ⊎_elim (all_found K F O L Q (t ∷ w) (at_right Q done (t ∷ w) old) m)
+        ⊎_elim (all_found K F O L Q (t ∷ w) (AllAt-right Q done (t ∷ w) old) m)
         (λ z. new m (λ y. z (coefficient-scaled K F (K.negate t.by) k.value m ∙ (ap (K.times (K.negate t.by)) y ∙ Rattle.word_field.specs.laws.Field.times-zero K F (K.negate t.by)))))
         (append_nonzero K F (t ∷ w) (scaled K (term_of [] (K.negate t.by)) k.value) m (λ z. n (k.taken.sum m ∙ z)))))
 
@@ -132,7 +132,7 @@ module _ {E : Type 0} (P : Presented E) (H : IsPresentation P) (S : List (Polyno
       degrees = λ Q q.
           let o = h.degrees Q q in
           let e = lead_degree u t.at k.value k.word_value k.monic in
-          let here : Q (O.degree t.at) ≡ true = (at_right (λ m. Q (O.degree m) ≡ true) done (t ∷ w) o.0).0 in
+          let here : Q (O.degree t.at) ≡ true = (AllAt-right (λ m. Q (O.degree m) ≡ true) done (t ∷ w) o.0).0 in
           let word : Q (word_degree P S u) ≡ true = subst (λ d. Q d ≡ true) e here in (
             of_next (λ m. Q (O.degree m) ≡ true) o.0 (λ m n. subst (λ d. Q d ≡ true) (sym (k.word_value.graded m n)) word),
             AllAt-append (λ x. Q (word_degree P S x) ≡ true) words (term_of u t.by ∷ []) o.1 (word, tt),
@@ -195,7 +195,7 @@ module _ {E : Type 0} (P : Presented E) (H : IsPresentation P) (S : List (Polyno
       irreducible = λ w k. (word w k).irreducible;
     };
     poly = IsDecreasing_IsPoly K O done (canonical_left K O done [] h.canonical).decreasing;
-    reduced = λ m k. (all_found K F O L (IsStandard P) done (at_left (IsStandard P) done [] h.standard) m k, all_found K F O L (λ x. ¬ IsGenerated (map lead_monomial S) x) done h.fresh m k);
+    reduced = λ m k. (all_found K F O L (IsStandard P) done (AllAt-left (IsStandard P) done [] h.standard) m k, all_found K F O L (λ x. ¬ IsGenerated (map lead_monomial S) x) done h.fresh m k);
     equal = congruent_trans K F O.places P.ideal b a (combination_value P S e ++ done) n
         (congruent_trans K F O.places P.ideal a (combination_value P S words ++ (done ++ [])) (combination_value P S e ++ done) h.equal
         (congruent_same K F O.places P.ideal (combination_value P S words ++ (done ++ [])) (combination_value P S e ++ done)

@@ -25,8 +25,8 @@ pub struct Subduced<F: Field> {
     pub word_sum: Poly<F>,
 }
 
-/// Takes the value of a sum of irreducible s-words away, so that no monomial that is left leads a member of the ideal or
-/// is a product of leads.
+/// Takes the value of a sum of irreducible s-words away, so that no monomial that is left leads a member of the ideal
+/// or is a product of leads.
 pub fn subduce<F: Field, O: Order>(
     alloc: Global,
     p: &Presentation<F, O>,

@@ -3,11 +3,11 @@ use Rattle.std.proofs.Common.{subst, List}
 use Rattle.std.specs.Prelude.{Contains}
 use Rattle.std.proofs.lemmas.List.Elements.{All-contains}
 use Rattle.monomial_order.specs.Monomial.{IsMonomial}
+use Rattle.monomial_order.specs.laws.Lists.{map_contains}
 use Rattle.polynomials.specs.Polynomial.{Polynomial, lead_monomial}
 use Rattle.polynomials.specs.Subalgebra.{Presented, IsPresentation}
 use Rattle.polynomials.specs.laws.Coefficients.{decreasing_leads, found_monomial, monic_some}
 use Rattle.polynomials.specs.laws.Decreasing.{IsDecreasing_IsPoly}
-use Rattle.polynomials.specs.laws.ReducedBasis.{map_contains}
 use Rattle.subalgebra_laws.specs.Bases.{AreMonicElements, IsMonicElement}
 use Rattle.witness.specs.Tracking.{values_of}
 use Rattle.word_values.specs.Values.{AreHomogeneousElements, IsHomogeneousElement}

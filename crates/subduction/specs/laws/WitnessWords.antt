@@ -8,7 +8,8 @@ use Rattle.monomial_order.specs.declared.word_order.WordOrder.{WordOrder}
 use Rattle.monomial_order.specs.Monomial.{Exponents, exponent, IsMonomial, IsTrimmed, weighted_degree}
 use Rattle.monomial_order.specs.MonomialOrder.{MonomialOrder}
 use Rattle.monomial_order.specs.laws.Lists.{contains_here, contains_there}
-use Rattle.monomial_order.specs.laws.Monomial.{weighted_nil, trimmed_tail}
+use Rattle.monomial_order.specs.laws.Monomial.{weighted_nil}
+use Rattle.monomial_order.specs.laws.Orders.{IsTrimmed-drop}
 use Rattle.word_laws.specs.Words.{lead_degrees, variables, word_order_of, IsSWord}
 use Rattle.word_laws.specs.laws.Images.{degree_weighted, length-variables}
 use Rattle.polynomials.specs.Polynomial.{Polynomial, coefficient, constant, degree_of, lead_monomial, term_of, times, AllAt, Same}
@@ -24,9 +25,7 @@ use Rattle.subduction.specs.Subduced.{places_from, witness_sum, witness_word}
 
 -- words at other places
 pub trimmed_drop : (n : ℕ) (w : List ℕ) → IsTrimmed w → IsTrimmed (drop n w)
-trimmed_drop zero w h = h
-trimmed_drop (suc n) [] h = tt
-trimmed_drop (suc n) (e ∷ w) h = trimmed_drop n w (trimmed_tail e w h)
+trimmed_drop = IsTrimmed-drop
 
 pub trimmed_behind : (k e : ℕ) (v : List ℕ) → IsTrimmed (e ∷ v) → IsTrimmed (replicate k 0 ++ (e ∷ v))
 trimmed_behind zero e v h = h

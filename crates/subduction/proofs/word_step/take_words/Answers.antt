@@ -4,9 +4,11 @@ use Rattle.word_laws.specs.Words.{IsLeast, IsSWord}
 use Rattle.subalgebra_laws.specs.Words.{letters}
 use Rattle.witness.specs.Tracking.{values_of}
 use Rattle.subduction.proofs.Elements.{homogeneous_elements, monic_elements}
-use Rattle.subduction.proofs.Loop.{factor_reach, factor_small, height_less, height_rest, popped, term_standard, word_reach, word_small, word_to, work_canonical}
+use Rattle.subduction.proofs.Loop.{factor_reach, factor_small, term_standard, word_reach, word_small, word_to, work_canonical}
 use Rattle.subduction.proofs.Steps.{after_rest, after_word, start}
 use Rattle.subduction.proofs.word_step.take_words.Goals as goal
+use Rattle.linked_terms.specs.laws.Popping.{popped}
+use Rattle.polynomials.specs.laws.Lowering.{height_less, height_rest}
 
 pub subduce-init : goal.subduce-init
 subduce-init g c =

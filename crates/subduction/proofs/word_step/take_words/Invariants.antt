@@ -1,10 +1,10 @@
 use Rattle.std.proofs.Common.{ℕ, ◌≤◌}
 use Rattle.poly_core.specs.Presentation.{presented}
 use Rattle.polynomials.specs.Polynomial.{degree_of}
+use Rattle.polynomials.specs.laws.Lowering.{height}
 use Rattle.witness.specs.Tracking.{values_of}
 use Rattle.word_values.specs.Values.{AreValues, AreWordsTo}
 use Rattle.subduction.specs.Steps.{IsSubducing}
-use Rattle.subduction.proofs.Loop.{height}
 use Rattle.subduction.proofs.word_step.take_words.Given as goal
 
 abbrev pub invariant-subduce : goal.invariant-subduce
