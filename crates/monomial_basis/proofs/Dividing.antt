@@ -3,6 +3,7 @@ use Rattle.std.proofs.Common.{◌≡◌, ◌≢◌, ℕ, zero, suc, ◌+◌, ◌
 use Rattle.std.specs.Prelude.{Contains, nat_lt, true, false}
 use Rattle.std.proofs.lemmas.Bool.{ltb-true, ltb-false}
 use Rattle.std.specs.declared.alloc.Global.{Global}
+use Rattle.std.proofs.lemmas.List.{get_or_default}
 use Rattle.monomial_order.specs.Monomial.{exponent, product, IsTrimmed, IsMonomial, Divides}
 use Rattle.monomial_order.specs.MonomialOrder.{MonomialOrder, IsMonomialOrder}
 use Rattle.monomial_order.specs.laws.Monomial.{product_assoc, product_comm, exponent-product, exponent_past, IsMonomial-product}
@@ -24,9 +25,7 @@ pub generated_more : (gs : List (List ℕ)) (g k m : List ℕ) → Contains gs g
 generated_more gs g k m h e w = record { factors = g ∷ w.factors; members = (h, w.members); product = ap (product g) w.product ∙ e }
 
 pub any_default : (xs : List (List ℕ)) (i : ℕ) (x d : List ℕ) → i < length xs → get_or xs i x ≡ x → get_or xs i d ≡ x
-any_default [] i x d l e = absurd (omega arith)
-any_default (y ∷ xs) zero x d l e = e
-any_default (y ∷ xs) (suc i) x d l e = any_default xs i x d (omega arith) e
+any_default xs i x d l e = get_or_default xs i d x l ∙ e
 
 -- what is found by the factors before j with U is found by those before j + 1, if it is found by the factor at j
 pub found_more : (gs : List (List ℕ)) (j : ℕ) (g m : List ℕ) (P Q U : List ℕ → Type 0) → j < length gs → g ≡ get_or gs j g →

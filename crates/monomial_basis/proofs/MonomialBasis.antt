@@ -7,18 +7,18 @@ use Rattle.word_field.specs.Field.{FieldOps, IsField}
 use Rattle.monomial_order.specs.declared.terms.Term.{Term}
 use Rattle.monomial_order.specs.Monomial.{variable, IsMonomial}
 use Rattle.monomial_order.specs.MonomialOrder.{MonomialOrder, IsMonomialOrder, IsIncreasing}
-use Rattle.monomial_order.specs.laws.Lists.{contains_cases, contains_here, contains_there, contains_none}
+use Rattle.monomial_order.specs.laws.Lists.{contains_cases, contains_here, contains_there, contains_none, map_contains}
 use Rattle.polynomials.specs.Polynomial.{Polynomial, AllAt, coefficient, Same, term_of, scaled, times, constant, minus, IsTerm, lead_monomial}
 use Rattle.polynomials.specs.Ideal.{Multiple, AreMultiples, sum_of, InIdeal}
 use Rattle.polynomials.specs.Value.{power, monomial_value, value}
-use Rattle.polynomials.specs.Subalgebra.{Presented, IsPresentation, IsGenerator, AreGenerators, product_of, AllIn, IsGenerated, LeadsIdeal, IsStandard, InSubalgebra, LeadsSubalgebra, IsElement, IsReducedBasis}
+use Rattle.polynomials.specs.Subalgebra.{Presented, IsPresentation, IsGenerator, product_of, AllIn, IsGenerated, LeadsIdeal, IsStandard, InSubalgebra, LeadsSubalgebra, IsElement, IsReducedBasis}
 use Rattle.poly_core.specs.Presentation.{AreCanonicalGenerators}
 use Rattle.polynomials.specs.laws.Same.{same_refl}
 use Rattle.polynomials.specs.laws.Coefficients.{single_term, value_letter}
-use Rattle.polynomials.specs.laws.Degrees.{all_found}
+use Rattle.polynomials.specs.laws.Degrees.{all_found, generator_of as each_generator}
 use Rattle.polynomials.specs.laws.Terms.{AllAt-append}
 use Rattle.polynomials.specs.laws.Congruence.{minus_zero, congruent_same}
-use Rattle.polynomials.specs.laws.ReducedBasis.{generated_times, map_contains}
+use Rattle.polynomials.specs.laws.ReducedBasis.{generated_times}
 use Rattle.monomial_basis.specs.Products.{AreFactors}
 use Rattle.monomial_basis.specs.MinimalGenerators.{IsMinimal}
 use Rattle.monomial_basis.specs.MonomialGenerators.{monomial_poly, AreMonomials, leads_of}
@@ -104,10 +104,6 @@ generators_generated ((t ∷ p) ∷ fs) K M G w f c =
     (λ k. generators_generated fs K (λ g i. M g (contains_there (t ∷ p) fs g i)) G (λ m i. w m (contains_there t.at (leads_of fs) m i)) f k)
     (contains_cases (t ∷ p) fs f c)
 
-generator_at : {E : Type 0} (K : FieldOps E) (O : MonomialOrder) (fs : List (Polynomial E)) → AreGenerators K O fs → (f : Polynomial E) → Contains fs f → IsGenerator K O f
-generator_at K O [] h f c = absurd (contains_none f c)
-generator_at K O (g ∷ fs) h f c = ⊎_elim (λ e. subst (IsGenerator K O) e h.0) (λ k. generator_at K O fs h.1 f k) (contains_cases g fs f c)
-
 map-lead : {E : Type 0} (K : FieldOps E) (ks : List (List ℕ)) → map lead_monomial (map (monomial_poly K) ks) ≡ ks
 map-lead K [] = refl
 map-lead K (k ∷ ks) = ap (λ l. k ∷ l) (map-lead K ks)
@@ -139,7 +135,7 @@ module _ {E : Type 0} (P : Presented E) (H : IsPresentation P) (none : P.ideal �
       (λ z. h.leads.nonzero (same m ∙ z))
 
   generator_of : (m : List ℕ) → Contains (leads_of P.generators) m → IsGenerator P.field P.order (monomial_poly P.field m)
-  generator_of m c = generator_at P.field P.order P.generators H.generators (monomial_poly P.field m) (lead_of_generator P.field P.generators M m c)
+  generator_of m c = each_generator P.field P.order P.generators H.generators (monomial_poly P.field m) (lead_of_generator P.field P.generators M m c)
 
   pub leads_are_factors : AreFactors P.order (leads_of P.generators)
   leads_are_factors m c =

@@ -1,10 +1,10 @@
 -- A list of lists in which one list is written.
-use Rattle.std.proofs.Common.{◌≡◌, ◌≢◌, ℕ, zero, suc, ◌<◌, refl, sym, ◌∙◌, ap, subst, List, [], ◌∷◌, ◌++◌, length, arith, get_or, ◌⊎◌, inl, inr, ⊎_elim, Some, true, false, Vec}
+use Rattle.std.proofs.Common.{◌≡◌, ◌≢◌, ℕ, zero, suc, ◌<◌, refl, sym, ◌∙◌, ap, subst, List, [], ◌∷◌, ◌++◌, length, arith, get_or, ◌⊎◌, inl, inr, ⊎_elim, Some, Vec}
 use Rattle.std.proofs.lemmas.Option.{same_Some}
-use Rattle.std.specs.Prelude.{Contains, slice_get, slice_set, nat_eq}
-use Rattle.std.proofs.lemmas.Bool.{eqb-true, eq-eqb, true≢false}
+use Rattle.std.specs.Prelude.{Contains, slice_get, slice_set}
 use Rattle.std.specs.declared.alloc.Global.{Global}
 use Rattle.monomial_basis.specs.Products.{IsPending}
+use Rattle.monomial_order.specs.laws.Comparing.{numbers_or_not}
 
 pub slice_get-set_same : {A : Type 0} (xs : List A) (i : ℕ) (y : A) → i < length xs → slice_get (slice_set xs i y) i ≡ Some y
 slice_get-set_same [] i y l = absurd (omega arith)
@@ -23,12 +23,6 @@ slice_get_at [] i x l e = absurd (omega arith)
 slice_get_at (y ∷ xs) zero x l e = ap Some (sym e)
 slice_get_at (y ∷ xs) (suc i) x l e = slice_get_at xs i x (omega arith) e
 
-same_or_not : (i j : ℕ) → (i ≡ j) ⊎ (i ≢ j)
-same_or_not i j = elim (nat_eq i j) as (λ b. nat_eq i j ≡ b → (i ≡ j) ⊎ (i ≢ j)) [
-  | true ↦ λ e. inl (eqb-true i j e)
-  | false ↦ λ e. inr (λ k. true≢false (sym (eq-eqb i j k) ∙ e))
-] refl
-
 -- the list at i was `before` and is `after`
 module _ (lists : List (Vec (List ℕ) Global)) (i : ℕ) (before after : Vec (List ℕ) Global) (l : i < length lists) (at : before ≡ get_or lists i before) where
   was : slice_get lists i ≡ Some before
@@ -43,7 +37,7 @@ module _ (lists : List (Vec (List ℕ) Global)) (i : ℕ) (before after : Vec (L
       (λ same. subst (λ x. IsPending (slice_set lists i after) x k) (sym same)
       (pending_here k (keeps k (subst (λ v. Contains v.items k) (same_Some w.0 before (sym w.1 ∙ (ap (slice_get lists) same ∙ was))) w.2))))
       (λ other. (w.0, slice_get-set_other lists i e after other ∙ w.1, w.2))
-      (same_or_not e i)
+      (numbers_or_not e i)
 
   pub pending_others : (m : List ℕ) → ((k : List ℕ) → Contains after.items k → Contains before.items k ⊎ (k ≡ m)) → (e : ℕ) (k : List ℕ) →
       IsPending (slice_set lists i after) e k → IsPending lists e k ⊎ ((e ≡ i) × (k ≡ m))
@@ -54,7 +48,7 @@ module _ (lists : List (Vec (List ℕ) Global)) (i : ℕ) (before after : Vec (L
       (λ h. inr (same, h))
       (others k (subst (λ v. Contains v.items k) (same_Some w.0 after (sym w.1 ∙ (ap (slice_get (slice_set lists i after)) same ∙ slice_get-set_same lists i after l))) w.2)))
       (λ other. inl (w.0, sym (slice_get-set_other lists i e after other) ∙ w.1, w.2))
-      (same_or_not e i)
+      (numbers_or_not e i)
 
   -- if nothing is left
   pub taken_was : (k : List ℕ) → Contains before.items k → IsPending lists i k
@@ -66,7 +60,7 @@ module _ (lists : List (Vec (List ℕ) Global)) (i : ℕ) (before after : Vec (L
       (λ same. absurd (nothing k (subst (λ xs. Contains xs k) none
       (subst (λ v. Contains v.items k) (same_Some w.0 after (sym w.1 ∙ (ap (slice_get (slice_set lists i after)) same ∙ slice_get-set_same lists i after l))) w.2))))
       (λ other. (w.0, sym (slice_get-set_other lists i e after other) ∙ w.1, w.2))
-      (same_or_not e i)
+      (numbers_or_not e i)
     where
       nothing : (k : List ℕ) → Contains [] k → ⊥
       nothing k h = let l = h.1 in omega arith
@@ -76,7 +70,7 @@ module _ (lists : List (Vec (List ℕ) Global)) (i : ℕ) (before after : Vec (L
       ⊎_elim
       (λ same. inr (same, subst (λ v. Contains v.items k) (same_Some w.0 before (sym w.1 ∙ (ap (slice_get lists) same ∙ was))) w.2))
       (λ other. inl (other, (w.0, slice_get-set_other lists i e after other ∙ w.1, w.2)))
-      (same_or_not e i)
+      (numbers_or_not e i)
 
 -- one more empty list
 pub pending_pushed : (lists : List (Vec (List ℕ) Global)) (v : Vec (List ℕ) Global) → v.items ≡ [] →
