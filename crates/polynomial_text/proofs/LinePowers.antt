@@ -6,8 +6,8 @@ use Rattle.monomial_order.specs.Monomial.{exponent, product, variable, IsTrimmed
 use Rattle.monomial_order.specs.laws.Monomial.{product-one, IsMonomial-product}
 use Rattle.monomial_order.specs.MonomialOrder.{MonomialOrder, IsMonomialOrder}
 use Rattle.monomial_order.specs.laws.Cofactors.{same_exponents}
-use Rattle.polynomials.specs.laws.ReducedBasis.{degree_one}
 use Rattle.monomial_order.specs.Limits.{degree_max}
+use Rattle.monomial_order.specs.laws.Comparing.{degree_one}
 use Rattle.polynomial_text.specs.PolyLine.{power}
 use Rattle.polynomial_text.specs.laws.Powers.{powers, trimmed_power, power_monomial}
 use Rattle.polynomial_text.specs.LineReading.{low, IsSmallMonomial}

@@ -3,8 +3,8 @@ use Rattle.std.proofs.Common.{◌≡◌, ℕ, Bool, true, false, cond, List, [],
 use Rattle.word_field.specs.Field.{FieldOps, IsField, IsValue}
 use Rattle.monomial_order.specs.declared.terms.Term.{Term}
 use Rattle.monomial_order.specs.MonomialOrder.{MonomialOrder, IsMonomialOrder}
+use Rattle.monomial_order.specs.laws.Comparing.{degree_one}
 use Rattle.polynomials.specs.Polynomial.{term_of}
-use Rattle.polynomials.specs.laws.ReducedBasis.{degree_one}
 use Rattle.poly_core.specs.declared.place_names.Names.{Names}
 use Rattle.polynomial_text.specs.Results.{along}
 use Rattle.polynomial_text.specs.PolyLine.{with_factor, term_at}

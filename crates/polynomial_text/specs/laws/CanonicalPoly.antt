@@ -6,6 +6,7 @@ use Rattle.word_field.specs.Field.{FieldOps, IsField}
 use Rattle.word_field.specs.laws.Field.{zero-plus-zero}
 use Rattle.monomial_order.specs.declared.terms.Term.{Term}
 use Rattle.monomial_order.specs.MonomialOrder.{MonomialOrder, IsMonomialOrder}
+use Rattle.monomial_order.specs.laws.Comparing.{degree_one}
 use Rattle.poly_core.specs.declared.place_names.Names.{Names}
 use Rattle.poly_core.specs.Names.{is_name_byte}
 use Rattle.polynomials.specs.Polynomial.{Polynomial, same_monomial, coefficient, term_of, Same, IsDecreasing, IsCanonical}
@@ -18,7 +19,6 @@ use Rattle.polynomial_text.specs.Grammar.{AreBlanks, IsSum, one_term, terms}
 use Rattle.polynomial_text.specs.laws.CanonicalParts.{Lack, Begins, begins_append, differs, name_no_blank}
 use Rattle.polynomial_text.specs.laws.GrammarReads.{line_derived, sum_in_line}
 use Rattle.polynomial_text.specs.laws.CanonicalTerms.{IsTextOfTerm, blanks_before, blanks_after, text_of_term}
-use Rattle.polynomials.specs.laws.ReducedBasis.{degree_one}
 
 begins_join : (x : List ℕ) (xs : List (List ℕ)) → Begins is_name_byte x → Begins is_name_byte (join (codes " + ") (x ∷ xs))
 begins_join x [] h = h
