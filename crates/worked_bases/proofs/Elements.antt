@@ -21,7 +21,8 @@ use Rattle.witness.specs.laws.Letters.{by_laws, by_places, by_small, element_wei
 use Rattle.worked_rows.specs.Rings.{IsRing, IsIn, IsLowIn}
 use Rattle.worked_rows.specs.laws.Generators.{low_generators}
 use Rattle.polynomial_text.specs.Degrees.{IsLow}
-use Rattle.worked_bases.specs.Elements.{ring_of, IsBasis, IsGeneratorElement, IsMade, IsNext, IsPair, UsesBelow}
+use Rattle.worked_bases.specs.Elements.{IsBasis, IsGeneratorElement, IsMade, IsNext, IsPair, UsesBelow}
+use Rattle.worked_bases.specs.Rings.{of_ring}
 
 pub same_test : (a b : ℕ) → IsTrue (nat_eq a b) → a ≡ b
 same_test a b h = grind (arith, nat_tests)
@@ -43,16 +44,16 @@ module _ (p : Presentation WordField WeightOrder ℕ) (V : IsRing p) where
     generator_in = subst (λ f. IsIn p f × IsLowIn p f) (sym value)
         (low_generators (residues p.field.modulus) V.presentation.field (weight_order_of p.order) V.presentation.order p.generators.items (n - 1) V.generators.each)
 
-    pub generator_element : degree_of (weight_order_of p.order) t.value ≢ 0 → t.by ≡ letter_poly (residues p.field.modulus) (n - 1) → ((S : List (Polynomial ℕ)) → Tracks (ring_of p) S t) →
+    pub generator_element : degree_of (weight_order_of p.order) t.value ≢ 0 → t.by ≡ letter_poly (residues p.field.modulus) (n - 1) → ((S : List (Polynomial ℕ)) → Tracks (of_ring p) S t) →
         ((w : WordOrder) → IsRing p → HasPlaces n w → IsCanonicalPair (residues p.field.modulus) (weight_order_of p.order) (by_order w) t) →
-        ((S : List (Polynomial ℕ)) (w : WordOrder) → IsRing p → IsWitnessOrder (ring_of p) S w →
+        ((S : List (Polynomial ℕ)) (w : WordOrder) → IsRing p → IsWitnessOrder (of_ring p) S w →
         IsGradedPair (residues p.field.modulus) (weight_order_of p.order) (by_order w) (generator_degree (weight_order_of p.order) (get_or p.generators.items (n - 1) [])) t) → IsGeneratorElement p t
     generator_element nonzero by tracks canonical graded = record {
       value = generator_in.0;
       low = generator_in.1;
       each = λ S w h. record {
         tracks = tracks S;
-        canonical = canonical w V (let a = by_places (ring_of p) S w h in omega arith);
+        canonical = canonical w V (let a = by_places (of_ring p) S w h in omega arith);
         graded = subst (λ d. IsGradedPair (residues p.field.modulus) (weight_order_of p.order) (by_order w) d t)
             (ap (generator_degree (weight_order_of p.order)) (sym value) ∙ same_degree t.value nonzero) (graded S w V h);
         lower = λ m k j x. absurd (x (letter_uses_none (residues p.field.modulus) V.presentation.field (length p.generators.items) (n - 1) (omega arith) m
@@ -60,13 +61,13 @@ module _ (p : Presentation WordField WeightOrder ℕ) (V : IsRing p) where
       };
     }
 
-  module _ (S : List (Polynomial ℕ)) (w : WordOrder) (h : IsWitnessOrder (ring_of p) S w) where
+  module _ (S : List (Polynomial ℕ)) (w : WordOrder) (h : IsWitnessOrder (of_ring p) S w) where
     -- no element has a greater degree than its letter
     element_degree : (i : ℕ) → degree_of (weight_order_of p.order) (get_or S i []) ≤ get_or w.s_degrees.items (length p.generators.items + i) 0
     element_degree i =
         ⊎_elim
         (λ beyond. let e = ap (degree_of (weight_order_of p.order)) (get_or_past S i [] beyond) ∙ weighted_nil p.order.weights.items in omega arith)
-        (λ inside. let e = sym (ap (λ ws. get_or (ws ++ w.s_degrees.items) (length p.generators.items + i) 0) h.no_x) ∙ element_weight (ring_of p) S w h i (omega arith) in omega arith)
+        (λ inside. let e = sym (ap (λ ws. get_or (ws ++ w.s_degrees.items) (length p.generators.items + i) 0) h.no_x) ∙ element_weight (of_ring p) S w h i (omega arith) in omega arith)
         (le_or_not (length S) i)
 
   pub next_element : (w : WordOrder) (fs : List (Polynomial ℕ)) (d : ℕ) (t : Tracked WordField ℕ) → IsPair p w t → IsMade p w fs d t →
@@ -100,8 +101,8 @@ module _ (p : Presentation WordField WeightOrder ℕ) (V : IsRing p) where
       long_enough = let n = length-map s (λ t. t.value) in let m = length-append (values_of s) more in omega arith
 
     module _ (t : Tracked WordField ℕ) (d : ℕ) (degree : degree_of (weight_order_of p.order) t.value ≡ d) where
-      pub push_order : (w v : WordOrder) → IsWitnessOrder (ring_of p) (values_of s) w → v.x_degrees.items ≡ w.x_degrees.items → v.s_degrees.items ≡ w.s_degrees.items ++ d ∷ [] →
-          IsWitnessOrder (ring_of p) (values_of (s ++ t ∷ [])) v
+      pub push_order : (w v : WordOrder) → IsWitnessOrder (of_ring p) (values_of s) w → v.x_degrees.items ≡ w.x_degrees.items → v.s_degrees.items ≡ w.s_degrees.items ++ d ∷ [] →
+          IsWitnessOrder (of_ring p) (values_of (s ++ t ∷ [])) v
       push_order w v h ex es = record {
         no_x = ex ∙ h.no_x;
         degrees = es ∙ (ap (λ ds. ds ++ d ∷ []) h.degrees ∙
@@ -112,12 +113,12 @@ module _ (p : Presentation WordField WeightOrder ℕ) (V : IsRing p) where
       }
 
     pub push_basis : (t : Tracked WordField ℕ) (w : WordOrder) (d : ℕ) → All (IsGeneratorElement p) s → IsNext p w (values_of s) d t →
-        IsWitnessOrder (ring_of p) (values_of (s ++ t ∷ [])) w → IsBasis p w (s ++ t ∷ [])
+        IsWitnessOrder (of_ring p) (values_of (s ++ t ∷ [])) w → IsBasis p w (s ++ t ∷ [])
     push_basis t w d each next h = record {
       order = h;
-      elements = All-push (IsTrackedElement (ring_of p) (by_order w) (values_of (s ++ t ∷ []))) s t
+      elements = All-push (IsTrackedElement (of_ring p) (by_order w) (values_of (s ++ t ∷ []))) s t
           (λ i z l. let g = each i z l in g.each (values_of (s ++ t ∷ [])) w h)
-          (subst (λ S. IsWitnessOrder (ring_of p) S w → IsTrackedElement (ring_of p) (by_order w) S t) (sym (map-append (λ t. t.value) s (t ∷ []))) (next.element (t.value ∷ [])) h);
+          (subst (λ S. IsWitnessOrder (of_ring p) S w → IsTrackedElement (of_ring p) (by_order w) S t) (sym (map-append (λ t. t.value) s (t ∷ []))) (next.element (t.value ∷ [])) h);
     }
 
   pub low_degrees : (w : WordOrder) (h : Polynomial ℕ) → IsLow (by_order w) h → HasDegreesUpTo (residues p.field.modulus) (by_order w) 30000 h

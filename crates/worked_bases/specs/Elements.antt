@@ -5,18 +5,14 @@ use Rattle.word_field.specs.declared.WordField.{WordField}
 use Rattle.monomial_order.specs.Monomial.{Exponents, exponent}
 use Rattle.monomial_order.specs.declared.weight_order.WeightOrder.{WeightOrder}
 use Rattle.monomial_order.specs.declared.word_order.WordOrder.{WordOrder}
-use Rattle.poly_core.specs.Presentation.{presented, weight_order_of}
+use Rattle.poly_core.specs.Presentation.{weight_order_of}
 use Rattle.poly_core.specs.declared.presentations.Presentation.{Presentation}
 use Rattle.polynomials.specs.Polynomial.{Polynomial, degree_of}
-use Rattle.polynomials.specs.Subalgebra.{Presented}
 use Rattle.polynomial_text.specs.Degrees.{IsLow}
 use Rattle.worked_rows.specs.Rings.{IsIn, IsLowIn}
 use Rattle.witness.specs.Tracking.{by_order, values_of, IsCanonicalPair, IsGradedPair, IsTrackedElement, IsWitnessOrder, Tracks}
 use Rattle.witness.specs.declared.tracked.Tracked.{Tracked}
-
--- what it presents
-abbrev pub ring_of : Presentation WordField WeightOrder ℕ → Presented ℕ
-ring_of p = presented (λ f. residues f.modulus) weight_order_of p
+use Rattle.worked_bases.specs.Rings.{of_ring}
 
 -- the letters in m have degrees below d
 abbrev pub UsesBelow : List ℕ → ℕ → Exponents → Type 0
@@ -27,13 +23,13 @@ module _ (p : Presentation WordField WeightOrder ℕ) where
   pub record IsGeneratorElement (t : Tracked WordField ℕ) : Type 0 where
     pub value : IsIn p t.value
     pub low : IsLowIn p t.value
-    pub each : (S : List (Polynomial ℕ)) (w : WordOrder) → IsWitnessOrder (ring_of p) S w →
-        IsTrackedElement (ring_of p) (by_order w) S t
+    pub each : (S : List (Polynomial ℕ)) (w : WordOrder) → IsWitnessOrder (of_ring p) S w →
+        IsTrackedElement (of_ring p) (by_order w) S t
 
   -- what expand asks for
   pub record IsBasis (w : WordOrder) (s : List (Tracked WordField ℕ)) : Type 0 where
-    pub order : IsWitnessOrder (ring_of p) (values_of s) w
-    pub elements : All (IsTrackedElement (ring_of p) (by_order w) (values_of s)) s
+    pub order : IsWitnessOrder (of_ring p) (values_of s) w
+    pub elements : All (IsTrackedElement (of_ring p) (by_order w) (values_of s)) s
 
   module _ (w : WordOrder) where
     -- both parts are canonical
@@ -47,12 +43,12 @@ module _ (p : Presentation WordField WeightOrder ℕ) where
 
     -- a witness, and both parts homogeneous of degree d, over each list of elements that begins with fs
     pub record IsMade (fs : List (Polynomial ℕ)) (d : ℕ) (t : Tracked WordField ℕ) : Type 0 where
-      pub tracks : (more : List (Polynomial ℕ)) → IsWitnessOrder (ring_of p) (fs ++ more) w → Tracks (ring_of p) (fs ++ more) t
-      pub graded : (more : List (Polynomial ℕ)) → IsWitnessOrder (ring_of p) (fs ++ more) w →
+      pub tracks : (more : List (Polynomial ℕ)) → IsWitnessOrder (of_ring p) (fs ++ more) w → Tracks (of_ring p) (fs ++ more) t
+      pub graded : (more : List (Polynomial ℕ)) → IsWitnessOrder (of_ring p) (fs ++ more) w →
           IsGradedPair (residues p.field.modulus) (weight_order_of p.order) (by_order w) d t
 
     -- an element of degree d over each list of elements that begins with fs
     pub record IsNext (fs : List (Polynomial ℕ)) (d : ℕ) (t : Tracked WordField ℕ) : Type 0 where
       pub degree : degree_of (weight_order_of p.order) t.value ≡ d
-      pub element : (more : List (Polynomial ℕ)) → IsWitnessOrder (ring_of p) (fs ++ more) w →
-          IsTrackedElement (ring_of p) (by_order w) (fs ++ more) t
+      pub element : (more : List (Polynomial ℕ)) → IsWitnessOrder (of_ring p) (fs ++ more) w →
+          IsTrackedElement (of_ring p) (by_order w) (fs ++ more) t

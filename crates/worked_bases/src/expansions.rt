@@ -1,5 +1,5 @@
-//! Witnesses in the generators alone, over the generators x + y, x*y and x*y^2. They are the elements s1, s2 and s3, and
-//! s4 is x*y^3.
+//! Witnesses in the generators alone, over the generators x + y, x*y and x*y^2. They are the elements s1, s2 and s3,
+//! and s4 is x*y^3.
 ghost use Rattle.std.specs.Prelude.{◌≡◌, ℕ, ◌+◌, ◌≤◌, ◌<◌, All, IfOk, IsTrue, List, length};
 ghost use Rattle.word_field.specs.Residues.{residues};
 ghost use Rattle.monomial_order.specs.declared.word_order.WordOrder.{WordOrder};
@@ -7,7 +7,8 @@ ghost use Rattle.polynomials.specs.Polynomial.{Polynomial, AllAt, IsCanonical};
 ghost use Rattle.polynomial_text.specs.Degrees.{IsLow};
 ghost use Rattle.witness.specs.Tracking.{by_order, values_of, HasPlaces, IsWitnessOrder};
 ghost use Rattle.worked_rows.specs.Rings.{IsIn, IsRing};
-ghost use Rattle.worked_bases.specs.Elements.{ring_of, IsBasis, IsGeneratorElement, IsLowPair, IsMade, IsNext, IsPair, UsesBelow};
+ghost use Rattle.worked_bases.specs.Elements.{IsBasis, IsGeneratorElement, IsLowPair, IsMade, IsNext, IsPair, UsesBelow};
+ghost use Rattle.worked_bases.specs.Rings.{of_ring};
 
 use monomial_order::{Order, Term, WordOrder};
 use poly_core::{Names, Poly};
@@ -25,7 +26,8 @@ const SUM_AND_PRODUCTS: &str =
 
 /// The names of the letters.
 const LETTERS: &str =
-    "subalgebra 1\nfield 101\nvars g1 g2 g3 s1 s2 s3 s4\nweights 1 1 1 1 1 1 1\norder lex\nideal 0\ngenerators 0\nend\n";
+    "subalgebra 1\nfield 101\nvars g1 g2 g3 s1 s2 s3 s4\nweights 1 1 1 1 1 1 1\norder lex\nideal 0\ngenerators 0\n\
+     end\n";
 
 /// Elements, and the order of witnesses over them.
 #[derive(Drop)]
@@ -65,7 +67,7 @@ fn generators(alloc: Global, p: &Ring) -> Result<Vec<Tracked<WordField>>, Fail>
 fn witness_order(alloc: Global, p: &Ring, s: &[Tracked<WordField>]) -> Result<WordOrder, Fail>
     requires valid { IsRing p.now }
     requires elements { All (IsGeneratorElement p.now) s.now }
-    ensures { IfOk result (IsWitnessOrder (ring_of p.now) (values_of s.now)) }
+    ensures { IfOk result (IsWitnessOrder (of_ring p.now) (values_of s.now)) }
 {
     let mut w = p.gen_order.copy(alloc)?;
     'elements: for t in s {

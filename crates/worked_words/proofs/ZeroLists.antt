@@ -1,9 +1,8 @@
 -- Lists with one member more, and the order by the degrees of the x.
-use Rattle.std.proofs.Common.{◌≡◌, ℕ, refl, sym, subst, List, [], ◌∷◌, length, ⊎_elim}
-use Rattle.std.specs.Prelude.{map, All, Contains}
+use Rattle.std.proofs.Common.{◌≡◌, ℕ, refl, sym, subst, List, [], ◌∷◌, length}
+use Rattle.std.specs.Prelude.{map, All}
 use Rattle.std.specs.declared.cmp.Ordering.{Ordering}
 use Rattle.std.proofs.lemmas.List.{append-nil}
-use Rattle.std.proofs.lemmas.List.Elements.{All-cons}
 use Rattle.std.proofs.lemmas.List.Kept.{AllPairs-cons}
 use Rattle.monomial_order.specs.Monomial.{Exponents, weighted_degree, Divides}
 use Rattle.monomial_order.specs.Orders.{weight_order}
@@ -11,11 +10,6 @@ use Rattle.word_laws.specs.Words.{variables}
 use Rattle.word_laws.specs.laws.Images.{variables_degrees}
 use Rattle.worked_words.specs.laws.Members.{each_member}
 use Rattle.toric_ideal.specs.Listing.{AreZeros, OrdersByDegrees, IsZero}
-
--- what holds of the first member and of the others holds of each
-pub all_members : {A : Type 0} (P : A → Type 0) (all : List A) (x : A) (xs : List A) → all ≡ x ∷ xs →
-    P x → All P xs → All P all
-all_members P all x xs e p h = subst (All P) (sym e) (All-cons P x xs p h)
 
 -- one zero more
 pub are_zeros_cons : (degrees : List ℕ) (c : ℕ) (all : List Exponents) (z : Exponents) (zs : List Exponents) →

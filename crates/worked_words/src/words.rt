@@ -121,7 +121,8 @@ fn closed_words_are_known(rt: HostRuntime) -> Result<(), Fail> {
     for row in [
         // no lead
         "1 1 | to 1, unknown, closed, to 15000 | -",
-        "1 1 | to 1, lead x, to 2, lead x*y, lex, to 3, closed, to 15000, factor x^9*y^4 = s1^5*s2^4 | x > s1, y*s1 > s2",
+        "1 1 | to 1, lead x, to 2, lead x*y, lex, to 3, closed, to 15000, factor x^9*y^4 = s1^5*s2^4 | x > s1, \
+         y*s1 > s2",
         // leads that are coprime
         "2 3 | to 6, lead x^3, lead y^2, lex, closed, to 15000, factor x^6*y^2 = s1*s2^2 | y^2 > s1, x^3 > s2",
         "1 1 1 | to 2, lead x*z, lead y^2, lex, closed | y^2 > s1, x*z > s2",
