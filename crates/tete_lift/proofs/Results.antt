@@ -1,6 +1,6 @@
 -- What subduction leaves of the value of a word.
-use Rattle.std.proofs.Common.{◌≡◌, ◌≢◌, ℕ, ◌<◌, sym, ◌∙◌, ap, subst, List, [], ◌∷◌, ◌++◌, append-nil, length, ⊎_elim}
-use Rattle.monomial_order.specs.Monomial.{Exponents, exponent}
+use Rattle.std.proofs.Common.{◌≡◌, ◌≢◌, ℕ, sym, ◌∙◌, ap, subst, List, [], ◌++◌, append-nil, length, ⊎_elim}
+use Rattle.monomial_order.specs.Monomial.{Exponents}
 use Rattle.word_laws.specs.Words.{word_order_of}
 use Rattle.word_field.specs.Field.{FieldOps, IsField}
 use Rattle.polynomials.specs.Polynomial.{Polynomial, coefficient, minus, negated, AllAt, IsCanonical, Same}

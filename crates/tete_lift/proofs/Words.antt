@@ -1,17 +1,15 @@
 -- The value of a word can be subduced.
-use Rattle.std.proofs.Common.{◌≡◌, ◌≢◌, ℕ, ◌<◌, ◌≤◌, inl, inr, sym, ◌∙◌, ap, subst, List, [], ◌∷◌, ◌++◌, append-nil, length, ⊎_elim, arith}
-use Rattle.monomial_order.specs.Limits.{exponent_max}
-use Rattle.monomial_order.specs.Monomial.{Exponents, exponent}
+use Rattle.std.proofs.Common.{◌≡◌, ℕ, ◌≤◌, inl, inr, sym, ◌∙◌, ap, subst, List, [], ◌∷◌, ◌++◌, append-nil, length, ⊎_elim, arith}
+use Rattle.monomial_order.specs.Monomial.{Exponents}
 use Rattle.monomial_order.specs.MonomialOrder.{MonomialOrder}
 use Rattle.polynomials.specs.Polynomial.{Polynomial, coefficient, constant, degree_of, term_of, times, IsCanonical, Same}
-use Rattle.polynomials.specs.Ideal.{Congruent}
 use Rattle.polynomials.specs.Value.{value}
 use Rattle.polynomials.specs.Subalgebra.{Presented, IsPresentation}
 use Rattle.polynomials.specs.laws.Coefficients.{single_term}
 use Rattle.polynomials.specs.laws.Congruence.{congruent_same, congruent_sym, congruent_trans}
 use Rattle.polynomials.specs.laws.Decreasing.{coefficient_first}
 use Rattle.polynomials.specs.laws.Value.{one_times}
-use Rattle.subalgebra_laws.specs.Words.{combination_value, word_value}
+use Rattle.subalgebra_laws.specs.Words.{word_value}
 use Rattle.witness.specs.declared.tracked.Tracked.{Tracked}
 use Rattle.witness.specs.Tracking.{by_order, values_of, IsGraded, IsGradedPair, Tracks}
 use Rattle.word_values.specs.Values.{word_degree, IsWordValue}
@@ -49,11 +47,14 @@ module _ {F E : Type 0} (P : Presented E) (H : IsPresentation P) (b : BasisState
 
   witness_canonical : IsCanonical K W (witness_sum P single)
   witness_canonical = record {
-    decreasing = (record {
-      term = record { monomial = s_word_monomial P H S b.by_order B.by_order u can.word; value = F'.one_value };
-      nonzero = F'.one_not_zero;
-      above = tt;
-    }, tt);
+    decreasing = (
+      record {
+        term = record { monomial = s_word_monomial P H S b.by_order B.by_order u can.word; value = F'.one_value };
+        nonzero = F'.one_not_zero;
+        above = tt;
+      },
+      tt,
+    );
     small = (let d = moved_degree in let s = can.small in omega arith, tt);
   }
 
@@ -67,11 +68,14 @@ module _ {F E : Type 0} (P : Presented E) (H : IsPresentation P) (b : BasisState
       (ap (λ p. coefficient K p m) (append-nil (times K (constant K K.one) (word_value P S u))) ∙ one_times K F' (word_value P S u) m)
 
   module _ (t : Tracked F E) (h : IsTrackedWord P b u t) where
+    pub degree_to : (n : ℕ) → word_degree P S u ≤ n → degree_of O t.value ≤ n
+    degree_to n l = let v = value_degree t.value h.value in omega arith
+
     pub can_subduce : CanSubduce P b t
     can_subduce = record {
       canonical = record { value = h.value.canonical; by = subst (IsCanonical K W) (sym h.by) witness_canonical };
-      reach = ⊎_elim (λ l. inl (let v = value_degree t.value h.value in omega arith)) inr can.reach;
-      small = let v = value_degree t.value h.value in let s = can.small in omega arith;
+      reach = ⊎_elim (λ l. inl (degree_to b.words.degree l)) inr can.reach;
+      small = degree_to 30000 can.small;
     }
 
     pub word_graded : IsGradedPair K O W (word_degree P S u) t
