@@ -34,7 +34,9 @@ less_back K F p q m =
     (F.plus_assoc a d (K.negate d) ∙
     (ap (K.plus a) (F.plus_negate d) ∙ (F.plus_zero a ∙ coefficient_value K F p m))))
 
-module _ {F E : Type 0} (P : Presented E) (H : IsPresentation P) (b : BasisState F E) (B : IsBasisOf P b) (u : Exponents) (can : CanLift P b u) (t : Tracked F E) (h : IsTrackedWord P b u t) (s : Subduced F E) (q : IsSubduced P b t s) where
+module _ {F E : Type 0} (P : Presented E) (H : IsPresentation P) (b : BasisState F E) (B : IsBasisOf P b)
+    (u : Exponents) (can : CanLift P b u) (t : Tracked F E) (h : IsTrackedWord P b u t)
+    (s : Subduced F E) (q : IsSubduced P b t s) where
   open P use {field as K, order as O, generators as fs}
   open H use {field as F', order as L}
 
@@ -58,7 +60,9 @@ module _ {F E : Type 0} (P : Presented E) (H : IsPresentation P) (b : BasisState
     sum = q.parts.sum;
     poly = q.parts.poly;
     reduced = q.parts.reduced;
-    equal = congruent_trans K F' O.places P.ideal v t.value (combination_value P S e ++ r) h.value.normal.inside q.parts.equal;
+    equal =
+        congruent_trans K F' O.places P.ideal v t.value (combination_value P S e ++ r) h.value.normal.inside
+        q.parts.equal;
   }
 
   pub relation : r ≡ [] → IsRelation P b u e
@@ -66,7 +70,9 @@ module _ {F E : Type 0} (P : Presented E) (H : IsPresentation P) (b : BasisState
     sum = q.parts.sum;
     canonical = subst (λ l. IsCanonical K (word_order_of l) e) B.letters q.canonical_sum;
     graded = subst (λ l. IsGraded K (word_order_of l) d e) B.letters (q.graded_sum d h.value.graded);
-    equal = subst (Congruent K O.places P.ideal v) (ap (λ x. combination_value P S e ++ x) z ∙ append-nil (combination_value P S e)) sum_and_rest.equal;
+    equal =
+        subst (Congruent K O.places P.ideal v)
+        (ap (λ x. combination_value P S e ++ x) z ∙ append-nil (combination_value P S e)) sum_and_rest.equal;
   }
 
   elements_alone : (m : Exponents) → coefficient K s.rest.by m ≢ K.zero → HasNoLetterBefore (length fs) m
@@ -83,7 +89,8 @@ module _ {F E : Type 0} (P : Presented E) (H : IsPresentation P) (b : BasisState
     equal =
         let C = combination_value P S e in
         congruent_trans K F' O.places P.ideal (minus K v r) (minus K (C ++ r) r) C
-        (congruent_plus K F' O.places P.ideal v (C ++ r) (negated K r) (negated K r) sum_and_rest.equal (congruent_refl K F' O.places P.ideal (negated K r)))
+        (congruent_plus K F' O.places P.ideal v (C ++ r) (negated K r) (negated K r) sum_and_rest.equal
+        (congruent_refl K F' O.places P.ideal (negated K r)))
         (congruent_same K F' O.places P.ideal (minus K (C ++ r) r) C (less_back K F' C r));
   }
 
@@ -97,5 +104,7 @@ module _ {F E : Type 0} (P : Presented E) (H : IsPresentation P) (b : BasisState
     elements_alone = elements_alone;
     short = short_elements K F' (length fs) s.rest.by elements_alone;
     difference = difference;
-    no_combination = λ c. n (IsDecreasing_unique K F' O L r [] q.canonical.value.decreasing tt ((law P S H (monic_elements P H b B) v e r sum_and_rest).0 c));
+    no_combination = λ c.
+        n (IsDecreasing_unique K F' O L r [] q.canonical.value.decreasing tt
+        ((law P S H (monic_elements P H b B) v e r sum_and_rest).0 c));
   }

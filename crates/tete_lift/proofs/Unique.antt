@@ -35,10 +35,12 @@ module _ {F E : Type 0} (P : Presented E) (b : BasisState F E) (u : Exponents) w
     open P use {field as K, order as O}
     open H use {field as F', order as L}
 
-    pub relation_unique : ForMonicElements E SumsAreUnique → (d e : Polynomial E) → IsRelation P b u d → IsRelation P b u e → d ≡ e
+    pub relation_unique : ForMonicElements E SumsAreUnique → (d e : Polynomial E) →
+        IsRelation P b u d → IsRelation P b u e → d ≡ e
     relation_unique law d e h k = law P S H (monic_elements P H b B) (word_value P S u) d e h.sum k.sum h.equal k.equal
 
-    sum_and_rest : (t : Tracked F E) (h : IsFresh P b u t) → HasSumAndRest P S (word_value P S u) h.difference.sum t.value
+    sum_and_rest : (t : Tracked F E) (h : IsFresh P b u t) →
+        HasSumAndRest P S (word_value P S u) h.difference.sum t.value
     sum_and_rest t h =
         let v = word_value P S u in
         record {
@@ -46,13 +48,17 @@ module _ {F E : Type 0} (P : Presented E) (b : BasisState F E) (u : Exponents) w
           poly = IsDecreasing_IsPoly K O t.value h.canonical.value.decreasing;
           reduced = h.reduced;
           equal =
-              congruent_trans K F' O.places P.ideal v (minus K v t.value ++ t.value) (combination_value P S h.difference.sum ++ t.value)
-              (congruent_same K F' O.places P.ideal v (minus K v t.value ++ t.value) (λ m. sym (minus_back K F' v t.value m)))
-              (congruent_plus K F' O.places P.ideal (minus K v t.value) (combination_value P S h.difference.sum) t.value t.value
-              h.difference.equal (congruent_refl K F' O.places P.ideal t.value));
+              congruent_trans K F' O.places P.ideal v (minus K v t.value ++ t.value)
+              (combination_value P S h.difference.sum ++ t.value)
+              (congruent_same K F' O.places P.ideal v (minus K v t.value ++ t.value)
+              (λ m. sym (minus_back K F' v t.value m)))
+              (congruent_plus K F' O.places P.ideal (minus K v t.value) (combination_value P S h.difference.sum)
+              t.value t.value h.difference.equal (congruent_refl K F' O.places P.ideal t.value));
         }
 
-    pub fresh_unique : ForMonicElements E SumsAndRestsAreUnique → (s t : Tracked F E) → IsFresh P b u s → IsFresh P b u t → s.value ≡ t.value
+    pub fresh_unique : ForMonicElements E SumsAndRestsAreUnique → (s t : Tracked F E) →
+        IsFresh P b u s → IsFresh P b u t → s.value ≡ t.value
     fresh_unique law s t h k =
         IsDecreasing_unique K F' O L s.value t.value h.canonical.value.decreasing k.canonical.value.decreasing
-        (law P S H (monic_elements P H b B) (word_value P S u) h.difference.sum s.value k.difference.sum t.value (sum_and_rest s h) (sum_and_rest t k)).1
+        (law P S H (monic_elements P H b B) (word_value P S u) h.difference.sum s.value k.difference.sum t.value
+        (sum_and_rest s h) (sum_and_rest t k)).1

@@ -19,7 +19,8 @@ use Rattle.subduction.specs.laws.Elements.{leads_monomials}
 use Rattle.subduction.specs.laws.WitnessWords.{s_word_degree, s_word_monomial, witness_value}
 use Rattle.tete_lift.specs.Lifting.{CanLift, IsTrackedWord}
 
-module _ {F E : Type 0} (P : Presented E) (H : IsPresentation P) (b : BasisState F E) (B : IsBasisOf P b) (u : Exponents) (can : CanLift P b u) where
+module _ {F E : Type 0} (P : Presented E) (H : IsPresentation P) (b : BasisState F E) (B : IsBasisOf P b)
+    (u : Exponents) (can : CanLift P b u) where
   open P use {field as K, order as O, generators as fs}
   open H use {field as F', order as L}
 
@@ -60,12 +61,14 @@ module _ {F E : Type 0} (P : Presented E) (H : IsPresentation P) (b : BasisState
 
   witness_graded : IsGraded K W (word_degree P S u) (witness_sum P single)
   witness_graded m n =
-      subst (λ v. W.degree v ≡ word_degree P S u) (single_term K F' (witness_word O.places (length fs) u) K.one m n) moved_degree
+      subst (λ v. W.degree v ≡ word_degree P S u) (single_term K F' (witness_word O.places (length fs) u) K.one m n)
+      moved_degree
 
   single_value : Same K (value K (witness_sum P single) (fs ++ S)) (word_value P S u)
   single_value m =
       witness_value P H S single (can.word, tt) m ∙
-      (ap (λ p. coefficient K p m) (append-nil (times K (constant K K.one) (word_value P S u))) ∙ one_times K F' (word_value P S u) m)
+      (ap (λ p. coefficient K p m) (append-nil (times K (constant K K.one) (word_value P S u))) ∙
+      one_times K F' (word_value P S u) m)
 
   module _ (t : Tracked F E) (h : IsTrackedWord P b u t) where
     pub degree_to : (n : ℕ) → word_degree P S u ≤ n → degree_of O t.value ≤ n

@@ -19,7 +19,8 @@ returns-in_err-value-clause-words g c d l k = (rw c.elements.ensures at c.prepar
 pub get-requires-clause-elements : goal.get-requires-clause-elements
 get-requires-clause-elements g c =
     let P = presented g.F.Field.ops g.O.Order.order c.args.p.now in
-    rw c.elements-in-None.ensures (homogeneous_elements P c.requires.presentation.presentation c.args.b.now c.requires.basis)
+    rw c.elements-in-None.ensures
+    (homogeneous_elements P c.requires.presentation.presentation c.args.b.now c.requires.basis)
 
 pub get-requires-clause-values : goal.get-requires-clause-values
 get-requires-clause-values g c = rw c.elements-in-None.ensures (rw c.elements.ensures at c.prepare.ensures.values)
