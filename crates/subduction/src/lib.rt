@@ -14,4 +14,5 @@ mod word_step;
 
 pub use basis::Basis;
 pub use subduction::{Subduced, subduce, subduce_with};
+pub use witness_words::moved_word;
 pub use word_values::Values;

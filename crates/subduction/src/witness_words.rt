@@ -7,13 +7,8 @@ use monomial_order::{Memory, Monomial, Term};
 use std::alloc::Global;
 use word_field::Field;
 
-/// The word with its places from n on moved to those from k on.
-pub(crate) fn moved_word(
-    alloc: Global,
-    n: usize,
-    k: usize,
-    w: &Monomial,
-) -> Result<Monomial, Memory>
+/// The word with its places from n on moved to those from k on: an s-word as a word of witnesses.
+pub fn moved_word(alloc: Global, n: usize, k: usize, w: &Monomial) -> Result<Monomial, Memory>
     ensures { IfOk result (λ m. m ≡ witness_word n k w.now) }
 {
     let exponents = w.as_slice();

@@ -1,0 +1,8 @@
+//! Lifts of s-words: what their values are by a basis.
+#![tactic(auto)]
+
+pub mod laws;
+mod lifting;
+mod tracked_words;
+
+pub use lifting::{Lifted, lift, lift_with};
