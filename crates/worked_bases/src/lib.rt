@@ -5,6 +5,8 @@
 #[cfg(test)]
 mod expansions;
 #[cfg(test)]
+mod lifts;
+#[cfg(test)]
 mod subductions;
 #[cfg(test)]
 mod values;

@@ -79,7 +79,7 @@ fn take_degree(
 }
 
 /// Extends the basis to a degree of at most 15000.
-fn extend(
+pub(crate) fn extend(
     alloc: Global,
     p: &Ring,
     b: &mut Basis<WordField, WeightOrder>,
@@ -95,7 +95,11 @@ fn extend(
 }
 
 /// What the generators leave, degree by degree to the bound.
-fn basis(alloc: Global, p: &Ring, bound: u32) -> Result<Basis<WordField, WeightOrder>, Fail>
+pub(crate) fn basis(
+    alloc: Global,
+    p: &Ring,
+    bound: u32,
+) -> Result<Basis<WordField, WeightOrder>, Fail>
     requires { IsRing p.now }
     ensures { IfOk result (IsLowBasis p.now) }
 {
@@ -107,7 +111,7 @@ fn basis(alloc: Global, p: &Ring, bound: u32) -> Result<Basis<WordField, WeightO
 }
 
 /// The text of a sum of words in x1, x2, s1, s2, ..
-fn words_text(alloc: Global, p: &Ring, e: &Poly<WordField>) -> Result<String, Fail>
+pub(crate) fn words_text(alloc: Global, p: &Ring, e: &Poly<WordField>) -> Result<String, Fail>
     requires { (W : MonomialOrder) × IsCanonical (residues p.now.field.modulus) W e.now }
 {
     let names = Names::Paired {

@@ -120,7 +120,7 @@ fn longer(
 }
 
 /// The word of letters, which are counted from 0.
-fn word_of(
+pub(crate) fn word_of(
     alloc: Global,
     p: &Ring,
     elements: &[Tracked<WordField>],
