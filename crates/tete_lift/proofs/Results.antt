@@ -21,7 +21,7 @@ use Rattle.subduction.specs.declared.subduction.Subduced.{Subduced}
 use Rattle.subduction.specs.Subduced.{witness_sum, IsSubduced}
 use Rattle.subduction.specs.laws.Elements.{monic_elements}
 use Rattle.subduction.specs.laws.WitnessWords.{sum_letters, HasNoLetterBefore}
-use Rattle.tete_lift.specs.Lifting.{CanLift, IsFresh, IsRelation, IsTrackedWord}
+use Rattle.tete_lift.specs.Lifting.{CanLift, IsFresh, IsRightSide, IsTrackedWord}
 use Rattle.tete_lift.proofs.Words.{single, word_graded, word_tracks}
 
 -- a sum less its second part is the first
@@ -65,7 +65,7 @@ module _ {F E : Type 0} (P : Presented E) (H : IsPresentation P) (b : BasisState
         q.parts.equal;
   }
 
-  pub relation : r ≡ [] → IsRelation P b u e
+  pub relation : r ≡ [] → IsRightSide P (values_of b.elements) u e
   relation z = record {
     sum = q.parts.sum;
     canonical = subst (λ l. IsCanonical K (word_order_of l) e) B.letters q.canonical_sum;

@@ -13,13 +13,13 @@ use Rattle.witness.specs.Tracking.{values_of}
 use Rattle.word_values.specs.Values.{word_degree}
 use Rattle.subduction.specs.Basis.{BasisState, IsBasisOf, IsNewElement}
 use Rattle.subduction.specs.laws.Elements.{monic_elements}
-use Rattle.tete_lift.specs.Lifting.{IsFresh, IsRelation}
+use Rattle.tete_lift.specs.Lifting.{IsFresh, IsRightSide}
 
 module _ {F E : Type 0} (P : Presented E) (b : BasisState F E) (u : Exponents) where
   abbrev S : List (Polynomial E)
   S = values_of b.elements
 
-  pub never_both : (e : Polynomial E) (t : Tracked F E) → IsRelation P b u e → ¬ IsFresh P b u t
+  pub never_both : (e : Polynomial E) (t : Tracked F E) → IsRightSide P (values_of b.elements) u e → ¬ IsFresh P b u t
   never_both e t r h = h.no_combination (record { sum = e; irreducible = r.sum; equal = r.equal })
 
   pub is_new : (t : Tracked F E) → word_degree P S u ≡ b.words.degree → IsFresh P b u t → IsNewElement P b t
@@ -36,7 +36,7 @@ module _ {F E : Type 0} (P : Presented E) (b : BasisState F E) (u : Exponents) w
     open H use {field as F', order as L}
 
     pub relation_unique : ForMonicElements E SumsAreUnique → (d e : Polynomial E) →
-        IsRelation P b u d → IsRelation P b u e → d ≡ e
+        IsRightSide P (values_of b.elements) u d → IsRightSide P (values_of b.elements) u e → d ≡ e
     relation_unique law d e h k = law P S H (monic_elements P H b B) (word_value P S u) d e h.sum k.sum h.equal k.equal
 
     sum_and_rest : (t : Tracked F E) (h : IsFresh P b u t) →

@@ -1,5 +1,5 @@
 -- The lift of an s-word: a relation, or a value that is no combination.
-use Rattle.std.specs.Prelude.{◌≡◌, ◌≢◌, ℕ, ◌≤◌, ◌<◌, ◌⊎◌, [], ◌∷◌, length, map}
+use Rattle.std.specs.Prelude.{◌≡◌, ◌≢◌, ℕ, ◌≤◌, ◌<◌, ◌⊎◌, List, [], ◌∷◌, length, map}
 use Rattle.monomial_order.specs.Limits.{degree_max}
 use Rattle.monomial_order.specs.Monomial.{Exponents, exponent}
 use Rattle.word_laws.specs.Words.{word_order_of, IsSWord}
@@ -15,6 +15,14 @@ use Rattle.subduction.specs.Subduced.{witness_word}
 use Rattle.tete_lift.specs.declared.lifting.Lifted.{Lifted}
 use Rattle.tete_lift.specs.declared.lifting.Lifted.TheVariants.{Relation, Fresh}
 
+module _ {E : Type 0} (P : Presented E) (S : List (Polynomial E)) where
+  -- Modulo the ideal, the value of the s-word u is that of the sum e of irreducible s-words, which have the degree of u.
+  pub record IsRightSide (u : Exponents) (e : Polynomial E) : Type 0 where
+    pub sum : IsIrreducibleSum P S e
+    pub canonical : IsCanonical P.field (word_order_of (letters P S)) e
+    pub graded : IsGraded P.field (word_order_of (letters P S)) (word_degree P S u) e
+    pub equal : Congruent P.field P.order.places P.ideal (word_value P S u) (combination_value P S e)
+
 module _ {F E : Type 0} (P : Presented E) (b : BasisState F E) where
   -- an s-word whose degree is in reach of the basis
   pub record CanLift (u : Exponents) : Type 0 where
@@ -26,15 +34,6 @@ module _ {F E : Type 0} (P : Presented E) (b : BasisState F E) where
   pub record IsTrackedWord (u : Exponents) (t : Tracked F E) : Type 0 where
     pub value : IsWordValue P (values_of b.elements) u t.value
     pub by : t.by ≡ term_of (witness_word P.order.places (length P.generators) u) P.field.one ∷ []
-
-  -- modulo the ideal, the value of u is that of the sum e of irreducible s-words, which have the degree of u
-  pub record IsRelation (u : Exponents) (e : Polynomial E) : Type 0 where
-    pub sum : IsIrreducibleSum P (values_of b.elements) e
-    pub canonical : IsCanonical P.field (word_order_of (letters P (values_of b.elements))) e
-    pub graded : IsGraded P.field (word_order_of (letters P (values_of b.elements)))
-        (word_degree P (values_of b.elements) u) e
-    pub equal : Congruent P.field P.order.places P.ideal
-        (word_value P (values_of b.elements) u) (combination_value P (values_of b.elements) e)
 
   -- The value of u is no combination. It is one and t, which is not zero and has standard monomials that are no
   -- products of leads. The witness of t has letters of elements alone.
@@ -54,5 +53,5 @@ module _ {F E : Type 0} (P : Presented E) (b : BasisState F E) where
 
   -- what the lift of u gives
   abbrev pub IsLifted : Exponents → Lifted F E → Type 0
-  IsLifted u (Relation e) = IsRelation u e
+  IsLifted u (Relation e) = IsRightSide P (values_of b.elements) u e
   IsLifted u (Fresh t) = IsFresh u t

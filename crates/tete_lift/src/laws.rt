@@ -7,7 +7,7 @@ ghost use Rattle.witness.specs.declared.tracked.Tracked.{Tracked};
 ghost use Rattle.witness.specs.Tracking.{values_of, IsShort};
 ghost use Rattle.word_values.specs.Values.{word_degree};
 ghost use Rattle.subduction.specs.Basis.{BasisState, IsBasisOf, IsNewElement};
-ghost use Rattle.tete_lift.specs.Lifting.{IsFresh, IsRelation};
+ghost use Rattle.tete_lift.specs.Lifting.{IsFresh, IsRightSide};
 
 use word_field::Field;
 
@@ -27,11 +27,12 @@ pub fn fresh_is_short<F: Field>()
 /// A word has one relation, or what is left of its value is unique, and never both.
 pub fn lifts_are_unique<F: Field>()
     ensures relations { (P : Presented F.Elem) (b : BasisState F F.Elem) → IsPresentation P → IsBasisOf P b →
-        (u : Exponents) (d e : Polynomial F.Elem) → IsRelation P b u d → IsRelation P b u e → d ≡ e }
+        (u : Exponents) (d e : Polynomial F.Elem) → IsRightSide P (values_of b.elements) u d →
+        IsRightSide P (values_of b.elements) u e → d ≡ e }
     ensures fresh { (P : Presented F.Elem) (b : BasisState F F.Elem) → IsPresentation P → IsBasisOf P b →
         (u : Exponents) (s t : Tracked F F.Elem) → IsFresh P b u s → IsFresh P b u t → s.value ≡ t.value }
     ensures one { (P : Presented F.Elem) (b : BasisState F F.Elem) (u : Exponents) (e : Polynomial F.Elem)
-        (t : Tracked F F.Elem) → IsRelation P b u e → ¬ IsFresh P b u t }
+        (t : Tracked F F.Elem) → IsRightSide P (values_of b.elements) u e → ¬ IsFresh P b u t }
 {
     subalgebra_laws::laws::uniqueness::<F>();
 }
