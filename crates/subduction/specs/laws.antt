@@ -2,3 +2,4 @@
 pub mod Elements
 pub mod WitnessWords
 pub mod Decisions
+pub mod Degrees
