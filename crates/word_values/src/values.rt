@@ -50,6 +50,14 @@ impl<F: Field> Values<F> {
         }
     }
 
+    /// From now on a value is kept if its degree and the least degree of an element are together at most the limit.
+    /// What is kept already stays.
+    pub fn set_limit(&mut self, limit: u32)
+        ensures { self.new ≡ self.old }
+    {
+        self.limit = limit;
+    }
+
     /// The value of a word, if the word is one letter or kept.
     pub fn get<'a, O: Order>(
         &'a self,
