@@ -1,0 +1,5 @@
+pub mod Candidates
+pub mod Relations
+pub mod Completion
+pub mod Closed
+pub mod Report

@@ -1,0 +1,252 @@
+//! Completions.
+ghost use Rattle.std.specs.Prelude.{◌≡◌, suc, ◌≤◌, ◌<◌, [], length, max, remove, true, false, if◌then◌else◌, OnOk, OnErr, IfOk};
+ghost use Rattle.poly_core.specs.Presentation.{presented, IsValid};
+ghost use Rattle.polynomials.specs.Subalgebra.{IsReducedBasis};
+ghost use Rattle.subalgebra_laws.specs.Bases.{IsClosedAt};
+ghost use Rattle.witness.specs.Tracking.{values_of};
+ghost use Rattle.subduction.specs.Basis.{IsBasisOf, IsKnownClosed};
+ghost use Rattle.completion.specs.Candidates.{AreCandidates};
+ghost use Rattle.completion.specs.Closed.{HasLater};
+ghost use Rattle.completion.specs.Completion.{elements_of, pending_of, AreKept, IsCompletion, IsUnchanged};
+ghost use Rattle.completion.specs.Relations.{AreRelations};
+ghost use Rattle.completion.specs.Report.{IsReport};
+ghost use Rattle.subduction.specs.Subduced.{CanSubduce, IsSubduced};
+
+use crate::{Candidate, Found, Pick, Relation};
+use degree_queue::DegreeQueue;
+use monomial_order::{Memory, Order};
+use poly_core::Presentation;
+use std::alloc::Global;
+use std::marker::Model;
+use subduction::{Basis, Subduced, Values};
+use witness::Tracked;
+use word_field::Field;
+
+/// The greatest degree that can be closed.
+pub const BOUND_MAX: u32 = 15000;
+
+/// The reduced basis of a presentation to a degree, with its relations. It goes on degree by degree.
+#[derive(Drop)]
+pub struct Completion<F: Field, O: Order> {
+    pub(crate) presentation: Presentation<F, O>,
+    pub(crate) basis: Basis<F, O>,
+    pub(crate) values: Values<F>,
+    pub(crate) kept: u32,
+    pub(crate) relations: Vec<Relation<F>>,
+    pub(crate) degree: u32,
+    pub(crate) read: u32,
+    pub(crate) begun: bool,
+    pub(crate) queue: DegreeQueue<Candidate>,
+    pub(crate) found: Vec<Found<F>>,
+}
+
+impl<F: Field, O: Order> Model for Completion<F, O> {
+    ghost use Rattle.completion.specs.Completion.{CompletionState};
+
+    ghost Value = { CompletionState F O F.Elem };
+
+    ghost view = { λ c. record {
+      presentation = c.presentation;
+      basis = c.basis;
+      values = c.values;
+      kept = c.kept;
+      relations = c.relations.items;
+      degree = c.degree;
+      read = c.read;
+      begun = c.begun;
+      queue = c.queue;
+      found = c.found.items;
+    } };
+}
+
+impl<F: Field, O: Order> Completion<F, O> {
+    /// The empty basis, to the degree 0.
+    pub fn new(alloc: Global, p: Presentation<F, O>) -> Result<Completion<F, O>, Memory>
+        requires presentation { IsValid F.ops O.order p }
+        ensures completion { IfOk result (IsCompletion F.ops O.order) }
+        ensures presentation { IfOk result (λ c. c.presentation ≡ p) }
+        ensures degree { IfOk result (λ c. c.degree ≡ 0) }
+        ensures begun { IfOk result (λ c. c.begun ≡ false) }
+    {
+        let _ = p;
+        let _ = alloc;
+        Err(Memory)
+    }
+
+    /// Begins the next degree: its candidates are the generators of this degree, in their order, and then the minimal
+    /// reducible s-words, in increasing order.
+    pub fn begin_degree(&mut self, _alloc: Global) -> Result<(), Memory>
+        requires completion { IsCompletion F.ops O.order self.old }
+        requires not_begun { self.old.begun ≡ false }
+        requires small { self.old.degree < BOUND_MAX }
+        ensures completion { IsCompletion F.ops O.order self.new }
+        ensures begun { OnOk result (self.new.begun ≡ true) }
+        ensures candidates { let P = presented F.ops O.order self.old.presentation in OnOk result
+            (AreCandidates P (suc self.old.degree) (length self.new.found) (pending_of self.new)) }
+        ensures degree { self.new.degree ≡ self.old.degree }
+        ensures kept { AreKept (presented F.ops O.order self.old.presentation) self.old self.new }
+        ensures memory { OnErr result (IsUnchanged self.old self.new) }
+    {
+        Err(Memory)
+    }
+
+    /// How many candidates wait.
+    pub fn pending(&self) -> usize
+        requires { IsCompletion F.ops O.order self.now }
+        ensures { result ≡ length (pending_of self.now) }
+    {
+        self.queue.len(self.degree + 1)
+    }
+
+    /// Treats the candidate at index k.
+    pub fn take(&mut self, _alloc: Global, _k: usize) -> Result<(), Memory>
+        requires completion { IsCompletion F.ops O.order self.old }
+        requires begun { self.old.begun ≡ true }
+        requires inside { _k < length (pending_of self.old) }
+        ensures completion { IsCompletion F.ops O.order self.new }
+        ensures begun { self.new.begun ≡ true }
+        ensures rest { OnOk result (pending_of self.new ≡ remove (pending_of self.old) _k) }
+        ensures degree { self.new.degree ≡ self.old.degree }
+        ensures kept { AreKept (presented F.ops O.order self.old.presentation) self.old self.new }
+        ensures memory { OnErr result (IsUnchanged self.old self.new) }
+    {
+        Err(Memory)
+    }
+
+    /// Ends the degree, if no candidate waits.
+    pub fn close_degree(&mut self, _alloc: Global) -> Result<(), Memory>
+        requires completion { IsCompletion F.ops O.order self.old }
+        requires begun { self.old.begun ≡ true }
+        requires none_pending { pending_of self.old ≡ [] }
+        ensures completion { IsCompletion F.ops O.order self.new }
+        ensures closed { OnOk result (self.new.begun ≡ false) }
+        ensures degree { OnOk result (self.new.degree ≡ suc self.old.degree) }
+        ensures kept { AreKept (presented F.ops O.order self.old.presentation) self.old self.new }
+        ensures memory_begun { OnErr result (self.new.begun ≡ true) }
+        ensures memory_degree { OnErr result (self.new.degree ≡ self.old.degree) }
+        ensures memory_pending { OnErr result (pending_of self.new ≡ []) }
+        ensures memory_relations { OnErr result (self.new.relations ≡ self.old.relations) }
+    {
+        Err(Memory)
+    }
+
+    /// Begins the next degree, takes its candidates and ends it. The j-th candidate that is taken is at the index of the
+    /// j-th pick modulo the number of those that wait, and the first one if the picks are spent.
+    pub fn close_with(&mut self, _alloc: Global, _picks: &[usize]) -> Result<(), Memory>
+        requires completion { IsCompletion F.ops O.order self.old }
+        requires not_begun { self.old.begun ≡ false }
+        requires small { self.old.degree < BOUND_MAX }
+        ensures completion { IsCompletion F.ops O.order self.new }
+        ensures closed { OnOk result (self.new.begun ≡ false) }
+        ensures degree { OnOk result (self.new.degree ≡ suc self.old.degree) }
+        ensures kept { AreKept (presented F.ops O.order self.old.presentation) self.old self.new }
+        ensures memory { OnErr result (self.new.degree ≡ self.old.degree) }
+    {
+        Err(Memory)
+    }
+
+    /// Ends the degree that is begun, whatever d is, and then closes all degrees up to d.
+    pub fn run_to(&mut self, _alloc: Global, _d: u32, _pick: Pick) -> Result<(), Memory>
+        requires completion { IsCompletion F.ops O.order self.old }
+        requires small { _d ≤ BOUND_MAX }
+        ensures completion { IsCompletion F.ops O.order self.new }
+        ensures closed { OnOk result (self.new.begun ≡ false) }
+        ensures degree { OnOk result
+            (self.new.degree ≡ max _d (if self.old.begun then suc self.old.degree else self.old.degree)) }
+        ensures kept { AreKept (presented F.ops O.order self.old.presentation) self.old self.new }
+        ensures memory { OnErr result (self.old.degree ≤ self.new.degree) }
+    {
+        Err(Memory)
+    }
+
+    /// The degree to which the basis is closed.
+    pub fn closed_degree(&self) -> u32
+        ensures { result ≡ self.now.degree }
+    {
+        self.degree
+    }
+
+    /// What is completed.
+    pub fn presentation(&self) -> &Presentation<F, O>
+        ensures { result.now ≡ self.now.presentation }
+    {
+        &self.presentation
+    }
+
+    /// The reduced basis to the closed degree, with witnesses.
+    pub fn basis(&self) -> &[Tracked<F>]
+        requires completion { IsCompletion F.ops O.order self.now }
+        requires not_begun { self.now.begun ≡ false }
+        ensures value { result.now ≡ self.now.basis.elements }
+        ensures reduced { let P = presented F.ops O.order self.now.presentation in
+            IsReducedBasis P self.now.degree (values_of result.now) }
+    {
+        self.basis.elements()
+    }
+
+    /// The minimal reducible s-words to the closed degree in increasing order, each with its right side.
+    pub fn relations(&self) -> &[Relation<F>]
+        requires completion { IsCompletion F.ops O.order self.now }
+        requires not_begun { self.now.begun ≡ false }
+        ensures value { result.now ≡ self.now.relations }
+        ensures exact { let P = presented F.ops O.order self.now.presentation in
+            AreRelations P (elements_of self.now) self.now.degree result.now }
+    {
+        self.relations.as_slice()
+    }
+
+    /// The basis with its quotient and words.
+    pub fn lower(&self) -> &Basis<F, O>
+        requires completion { IsCompletion F.ops O.order self.now }
+        requires not_begun { self.now.begun ≡ false }
+        ensures value { result.now ≡ self.now.basis }
+        ensures basis { IsBasisOf (presented F.ops O.order self.now.presentation) result.now }
+        ensures words { self.now.degree ≤ result.now.words.degree }
+        ensures quotient { self.now.degree ≤ result.now.quotient.degree }
+    {
+        &self.basis
+    }
+
+    /// Whether nothing new comes after the closed degree: the basis then is the reduced basis to each greater degree.
+    pub fn is_complete(&mut self, _alloc: Global) -> Result<bool, Memory>
+        requires completion { IsCompletion F.ops O.order self.old }
+        requires not_begun { self.old.begun ≡ false }
+        requires some { 1 ≤ self.old.degree }
+        ensures completion { IsCompletion F.ops O.order self.new }
+        ensures unchanged { IsUnchanged self.old self.new }
+        ensures yes { let P = presented F.ops O.order self.old.presentation in
+            IfOk result (λ r. r ≡ true → IsClosedAt P self.old.degree (elements_of self.old)) }
+        ensures known { IfOk result (λ r. r ≡ true → IsKnownClosed self.new.basis) }
+        ensures no { let P = presented F.ops O.order self.old.presentation in
+            IfOk result (λ r. r ≡ false → HasLater P self.old.degree (elements_of self.old)) }
+    {
+        Err(Memory)
+    }
+
+    /// The report on the presentation to the closed degree, with the mark of `is_complete`.
+    pub fn report(&mut self, _alloc: Global) -> Result<Vec<u8>, Memory>
+        requires completion { IsCompletion F.ops O.order self.old }
+        requires not_begun { self.old.begun ≡ false }
+        requires some { 1 ≤ self.old.degree }
+        ensures completion { IsCompletion F.ops O.order self.new }
+        ensures unchanged { IsUnchanged self.old self.new }
+        ensures report { let P = presented F.ops O.order self.old.presentation in
+            IfOk result (λ v. IsReport P self.old.presentation.names self.old.degree v.items) }
+    {
+        Err(Memory)
+    }
+
+    /// Subducts by the basis, with the values of words that are kept.
+    pub fn subduce(&mut self, _alloc: Global, _t: &Tracked<F>) -> Result<Subduced<F>, Memory>
+        requires completion { IsCompletion F.ops O.order self.old }
+        requires not_begun { self.old.begun ≡ false }
+        requires can { CanSubduce (presented F.ops O.order self.old.presentation) self.old.basis _t.now }
+        ensures completion { IsCompletion F.ops O.order self.new }
+        ensures unchanged { IsUnchanged self.old self.new }
+        ensures basis { self.new.basis ≡ self.old.basis }
+        ensures subduced { let P = presented F.ops O.order self.old.presentation in
+            IfOk result (IsSubduced P self.old.basis _t.now) }
+    {
+        Err(Memory)
+    }
+}

@@ -1,0 +1,2 @@
+//! Whether anything comes after a degree.
+ghost use Rattle.std.specs.Prelude.{◌≡◌};

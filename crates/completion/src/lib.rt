@@ -1,0 +1,20 @@
+//! The completion of a presentation: the reduced basis of its subalgebra degree by degree, with the relations.
+//!
+//! The candidates of a degree are the generators and the minimal reducible s-words of this degree. Each is subducted, in
+//! any order; what is left of it is a new element. At the end of the degree its elements are reduced by each other.
+#![tactic(auto)]
+
+mod candidates;
+mod closing;
+mod completion;
+mod insertion;
+mod later;
+pub mod laws;
+mod pick;
+mod relations;
+mod report;
+
+pub use candidates::{Candidate, Found};
+pub use completion::Completion;
+pub use pick::Pick;
+pub use relations::Relation;

@@ -1,0 +1,2 @@
+//! The text of a report.
+ghost use Rattle.std.specs.Prelude.{◌≡◌};

@@ -1,0 +1,40 @@
+-- What is answered to the question whether a polynomial is in the subalgebra.
+use Rattle.std.specs.Prelude.{◌≡◌, ◌≢◌, ◌⊎◌, ℕ, ◌<◌, ◌≤◌, List, [], length}
+use Rattle.polynomials.specs.Polynomial.{Polynomial, degree_of, IsPoly}
+use Rattle.polynomials.specs.Ideal.{Congruent}
+use Rattle.polynomials.specs.Value.{value}
+use Rattle.polynomials.specs.Subalgebra.{Presented, InSubalgebra}
+use Rattle.subalgebra_laws.specs.Bases.{IsClosedAt}
+use Rattle.subalgebra_laws.specs.Words.{IsSubductionRemainder}
+use Rattle.membership.specs.declared.answer.Reply.{Reply}
+use Rattle.membership.specs.declared.answer.Reply.TheVariants.{Beyond, Member, No}
+
+-- S is the reduced basis to the degree c, and a the query.
+module _ {F E : Type 0} (P : Presented E) (c : ℕ) (S : List (Polynomial E)) (a : Polynomial E) where
+  -- the degree of a is at most c, or nothing new comes after c
+  abbrev pub IsWithin : Type 0
+  IsWithin = (degree_of P.order a ≤ c) ⊎ IsClosedAt P c S
+
+  -- a has the degree d above c, and something new comes after c
+  pub record IsBeyond (d : ℕ) : Type 0 where
+    pub degree : degree_of P.order a ≡ d
+    pub above : c < d
+    pub not_closed : ¬ IsClosedAt P c S
+
+  -- a has the value of h, modulo the ideal
+  pub record HasWitness (h : Polynomial E) : Type 0 where
+    pub within : IsWithin
+    pub poly : IsPoly P.field (length P.generators) h
+    pub value : Congruent P.field P.order.places P.ideal a (value P.field h P.generators)
+
+  -- a is no member of the subalgebra, and r is its remainder
+  pub record HasRemainder (r : Polynomial E) : Type 0 where
+    pub within : IsWithin
+    pub no_member : ¬ InSubalgebra P a
+    pub remainder : IsSubductionRemainder P a r
+    pub nonzero : r ≢ []
+
+  abbrev pub IsAnswer : Reply F E → Type 0
+  IsAnswer (Beyond d) = IsBeyond d
+  IsAnswer (Member h) = HasWitness h
+  IsAnswer (No r) = HasRemainder r

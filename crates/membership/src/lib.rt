@@ -1,0 +1,6 @@
+//! Whether polynomials are in a subalgebra.
+#![tactic(auto)]
+
+mod answer;
+
+pub use answer::{Reply, answer};
