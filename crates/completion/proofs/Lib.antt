@@ -1,0 +1,4 @@
+mod WordDegrees
+mod Inserting
+mod RightSides
+mod Taking
