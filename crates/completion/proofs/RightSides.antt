@@ -1,8 +1,8 @@
 -- Right sides without letters of the last degree.
-use Rattle.std.proofs.Common.{◌≡◌, ◌≢◌, ℕ, ◌+◌, ◌<◌, ◌≤◌, refl, sym, ◌∙◌, ap, subst, List, [], ◌∷◌, ◌++◌, length, arith}
+use Rattle.std.proofs.Common.{◌≡◌, ◌≢◌, ℕ, zero, suc, take, ◌+◌, ◌<◌, ◌≤◌, refl, sym, ◌∙◌, ap, subst, List, [], ◌∷◌, ◌++◌, length, arith}
 use Rattle.std.specs.Prelude.{map, All, Contains}
 use Rattle.std.proofs.lemmas.List.{length-map, map-append}
-use Rattle.std.proofs.lemmas.List.Elements.{All-head, All-tail, All-map}
+use Rattle.std.proofs.lemmas.List.Elements.{All-cons, All-head, All-tail, All-map}
 use Rattle.monomial_order.specs.Limits.{exponent_max}
 use Rattle.monomial_order.specs.Monomial.{Exponents}
 use Rattle.monomial_order.specs.MonomialOrder.{MonomialOrder}
@@ -25,6 +25,12 @@ use Rattle.subduction.specs.Basis.{BasisState, AreInParts, IsBasisOf}
 use Rattle.subduction.specs.laws.Elements.{homogeneous_elements, leads_monomials}
 use Rattle.completion.specs.Relations.{IsRightSide}
 use Rattle.completion.proofs.Inserting.{values_grown}
+
+-- what holds of as many members as there are holds of all
+pub all_taken : {A : Type 0} (Q : A → Type 0) (xs : List A) (n : ℕ) → length xs ≤ n → All Q (take n xs) → All Q xs
+all_taken Q [] n l h = λ i d k. absurd (omega arith)
+all_taken Q (x ∷ xs) zero l h = absurd (omega arith)
+all_taken Q (x ∷ xs) (suc n) l h = All-cons Q x xs (All-head Q x (take n xs) h) (all_taken Q xs n (omega arith) (All-tail Q x (take n xs) h))
 
 module _ {F E : Type 0} (P : Presented E) (H : IsPresentation P) (b : BasisState F E) (B : IsBasisOf P b) where
   open P use {field as K, order as O}
