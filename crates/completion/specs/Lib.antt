@@ -3,3 +3,4 @@ pub mod Relations
 pub mod Completion
 pub mod Closed
 pub mod Report
+pub mod Taking

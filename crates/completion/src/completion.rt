@@ -5,13 +5,15 @@ ghost use Rattle.polynomials.specs.Subalgebra.{IsReducedBasis};
 ghost use Rattle.subalgebra_laws.specs.Bases.{IsClosedAt};
 ghost use Rattle.witness.specs.Tracking.{values_of};
 ghost use Rattle.subduction.specs.Basis.{IsBasisOf, IsKnownClosed};
-ghost use Rattle.completion.specs.Candidates.{AreCandidates};
+ghost use Rattle.completion.specs.Candidates.{AreCandidates, IsCandidate};
 ghost use Rattle.completion.specs.Closed.{HasLater};
 ghost use Rattle.completion.specs.Completion.{elements_of, pending_of, AreKept, IsCompletion, IsUnchanged};
 ghost use Rattle.completion.specs.Relations.{AreRelations};
 ghost use Rattle.completion.specs.Report.{IsReport};
+ghost use Rattle.completion.specs.Taking.{IsTreated};
 ghost use Rattle.subduction.specs.Subduced.{CanSubduce, IsSubduced};
 
+use crate::insertion::{insert_found, insert_generator};
 use crate::{Candidate, Found, Pick, Relation};
 use degree_queue::DegreeQueue;
 use monomial_order::{Memory, Order};
@@ -99,18 +101,58 @@ impl<F: Field, O: Order> Completion<F, O> {
     }
 
     /// Treats the candidate at index k.
-    pub fn take(&mut self, _alloc: Global, _k: usize) -> Result<(), Memory>
+    pub fn take(&mut self, alloc: Global, k: usize) -> Result<(), Memory>
         requires completion { IsCompletion F.ops O.order self.old }
         requires begun { self.old.begun ≡ true }
-        requires inside { _k < length (pending_of self.old) }
+        requires inside { k < length (pending_of self.old) }
         ensures completion { IsCompletion F.ops O.order self.new }
         ensures begun { self.new.begun ≡ true }
-        ensures rest { OnOk result (pending_of self.new ≡ remove (pending_of self.old) _k) }
+        ensures rest { OnOk result (pending_of self.new ≡ remove (pending_of self.old) k) }
         ensures degree { self.new.degree ≡ self.old.degree }
         ensures kept { AreKept (presented F.ops O.order self.old.presentation) self.old self.new }
         ensures memory { OnErr result (IsUnchanged self.old self.new) }
     {
-        Err(Memory)
+        subalgebra_laws::laws::growing::<F>();
+        let degree = self.degree + 1;
+        let candidate = *self.queue.get(degree, k);
+        self.take_candidate(alloc, candidate)?;
+        let _candidate = self.queue.pop_at(degree, k);
+        Ok(())
+    }
+
+    /// Makes a candidate of the degree a combination.
+    fn take_candidate(&mut self, alloc: Global, candidate: Candidate) -> Result<(), Memory>
+        requires completion { IsCompletion F.ops O.order self.old }
+        requires begun { self.old.begun ≡ true }
+        requires candidate { let P = presented F.ops O.order self.old.presentation in
+            IsCandidate P (suc self.old.degree) (length self.old.found) candidate }
+        ensures completion { IsCompletion F.ops O.order self.new }
+        ensures treated { let P = presented F.ops O.order self.old.presentation in
+            OnOk result (IsTreated P self.new candidate) }
+        ensures queue { self.new.queue ≡ self.old.queue }
+        ensures begun { self.new.begun ≡ true }
+        ensures degree { self.new.degree ≡ self.old.degree }
+        ensures kept { AreKept (presented F.ops O.order self.old.presentation) self.old self.new }
+        ensures memory { OnErr result (IsUnchanged self.old self.new) }
+    {
+        subalgebra_laws::laws::growing::<F>();
+        self.kept = self.kept.max(self.degree + 1);
+        match candidate {
+            Candidate::Generator(i) => insert_generator(
+                alloc,
+                &self.presentation,
+                &mut self.basis,
+                &mut self.values,
+                i,
+            ),
+            Candidate::Word(j) => insert_found(
+                alloc,
+                &self.presentation,
+                &mut self.basis,
+                &mut self.values,
+                &mut self.found[j],
+            ),
+        }
     }
 
     /// Ends the degree, if no candidate waits.

@@ -1,82 +1,180 @@
 //! A candidate is subducted, and what is left of it becomes an element.
-ghost use Rattle.std.specs.Prelude.{◌≡◌, ℕ, ◌≤◌, ◌<◌, length, get_or, OnOk, OnErr, IfOk, IfSome};
-ghost use Rattle.monomial_order.specs.Monomial.{Exponents};
+ghost use Rattle.std.specs.Prelude.{◌≡◌, ℕ, List, [], ◌≤◌, ◌<◌, length, get_or, OnOk, OnErr, IfOk, IfSome};
+ghost use Rattle.word_laws.specs.Words.{IsWord};
 ghost use Rattle.poly_core.specs.Presentation.{presented, IsValid};
-ghost use Rattle.subalgebra_laws.specs.Words.{word_value, IsCombination, IsMinimalWord};
-ghost use Rattle.witness.specs.Tracking.{values_of};
-ghost use Rattle.word_values.specs.Values.{word_degree, AreValues, AreWordsTo};
-ghost use Rattle.subduction.specs.Basis.{AreShortAt, IsBasisOf};
+ghost use Rattle.polynomials.specs.Polynomial.{Polynomial, minus, IsPoly};
+ghost use Rattle.polynomials.specs.Subalgebra.{HasDegreesTo};
+ghost use Rattle.subalgebra_laws.specs.Words.{letters, word_value, IsCombination, IsMinimalWord};
+ghost use Rattle.witness.specs.declared.tracked.Tracked.{Tracked};
+ghost use Rattle.witness.specs.Tracking.{values_of, IsShort};
+ghost use Rattle.word_values.specs.Values.{word_degree, AreValues, AreWordsTo, Table};
+ghost use Rattle.subduction.specs.Basis.{AreInParts, AreShortAt, IsBasisOf, IsNewElement};
 ghost use Rattle.completion.specs.Candidates.{IsGeneratorAt};
 ghost use Rattle.completion.specs.Completion.{IsGrown};
 ghost use Rattle.completion.specs.Relations.{IsRightSide};
 
+use crate::Found;
+use crate::right_sides::lower_right_side;
 use monomial_order::{Memory, Monomial, Order};
 use poly_core::{Poly, Presentation};
 use std::alloc::Global;
-use subduction::{Basis, Values};
+use subduction::{Basis, Subduced, Values, subduce_with};
+use tete_lift::{Lifted, lift_with};
+use witness::{Tracked, generator};
 use word_field::Field;
+
+/// Adds a new element. To its degree, what differs from it by a combination is one now.
+fn push_rest<F: Field, O: Order>(
+    alloc: Global,
+    p: &Presentation<F, O>,
+    basis: &mut Basis<F, O>,
+    rest: Tracked<F>,
+) -> Result<(), Memory>
+    requires presentation { IsValid F.ops O.order p.now }
+    requires basis { IsBasisOf (presented F.ops O.order p.now) basis.old }
+    requires new { IsNewElement (presented F.ops O.order p.now) basis.old rest }
+    ensures basis { IsBasisOf (presented F.ops O.order p.now) basis.new }
+    ensures grown { IsGrown (presented F.ops O.order p.now) basis.old.words.degree basis.old.elements basis.new.elements }
+    ensures values { let P = presented F.ops O.order p.now in (kept : Table F.Elem) →
+        AreValues P (values_of basis.old.elements) kept → AreValues P (values_of basis.new.elements) kept }
+    ensures words { let P = presented F.ops O.order p.now in (kept : Table F.Elem) (d : ℕ) →
+        AreValues P (values_of basis.old.elements) kept → AreWordsTo P (values_of basis.old.elements) d kept →
+        AreWordsTo P (values_of basis.new.elements) d kept }
+    ensures combinations { let P = presented F.ops O.order p.now in OnOk result ((a : Polynomial F.Elem) →
+        IsPoly P.field P.order.places a → HasDegreesTo P basis.old.words.degree a →
+        IsCombination P (values_of basis.old.elements) (minus P.field a rest.value) →
+        IsCombination P (values_of basis.new.elements) a) }
+    ensures short { let P = presented F.ops O.order p.now in let d = basis.old.words.degree in
+        IsShort P.field (length P.generators) rest.by → AreShortAt P d basis.old.elements →
+        AreShortAt P d basis.new.elements }
+    ensures degree { basis.new.words.degree ≡ basis.old.words.degree }
+    ensures quotient { basis.new.quotient ≡ basis.old.quotient }
+    ensures memory { OnErr result (basis.new ≡ basis.old) }
+{
+    subalgebra_laws::laws::growing::<F>();
+    subalgebra_laws::laws::combining::<F>();
+    word_values::laws::growing::<F>();
+    basis.push(alloc, p, rest)?;
+    Ok(())
+}
 
 /// Makes the generator at an index, of the degree of the basis, a combination: what is left of it becomes an element.
 pub(crate) fn insert_generator<F: Field, O: Order>(
-    _alloc: Global,
-    _p: &Presentation<F, O>,
-    _basis: &mut Basis<F, O>,
-    _values: &mut Values<F>,
-    _i: usize,
+    alloc: Global,
+    p: &Presentation<F, O>,
+    basis: &mut Basis<F, O>,
+    values: &mut Values<F>,
+    i: usize,
 ) -> Result<(), Memory>
-    requires presentation { IsValid F.ops O.order _p.now }
-    requires basis { IsBasisOf (presented F.ops O.order _p.now) _basis.old }
-    requires values { AreValues (presented F.ops O.order _p.now) (values_of _basis.old.elements) _values.old }
-    requires generator { IsGeneratorAt (presented F.ops O.order _p.now) _basis.old.words.degree _i }
-    ensures basis { IsBasisOf (presented F.ops O.order _p.now) _basis.new }
-    ensures values { AreValues (presented F.ops O.order _p.now) (values_of _basis.new.elements) _values.new }
-    ensures kept { let P = presented F.ops O.order _p.now in (d : ℕ) → _basis.old.words.degree ≤ d →
-        AreWordsTo P (values_of _basis.old.elements) d _values.old →
-        AreWordsTo P (values_of _basis.new.elements) d _values.new }
-    ensures grown { IsGrown (presented F.ops O.order _p.now) _basis.old.words.degree _basis.old.elements
-        _basis.new.elements }
-    ensures combination { let P = presented F.ops O.order _p.now in
-        OnOk result (IsCombination P (values_of _basis.new.elements) (get_or P.generators _i [])) }
-    ensures short { let P = presented F.ops O.order _p.now in let d = _basis.old.words.degree in
-        AreShortAt P d _basis.old.elements → AreShortAt P d _basis.new.elements }
-    ensures degree { _basis.new.words.degree ≡ _basis.old.words.degree }
-    ensures quotient { _basis.new.quotient ≡ _basis.old.quotient }
-    ensures memory { OnErr result (_basis.new ≡ _basis.old) }
+    requires presentation { IsValid F.ops O.order p.now }
+    requires basis { IsBasisOf (presented F.ops O.order p.now) basis.old }
+    requires values { AreValues (presented F.ops O.order p.now) (values_of basis.old.elements) values.old }
+    requires generator { IsGeneratorAt (presented F.ops O.order p.now) basis.old.words.degree i }
+    ensures basis { IsBasisOf (presented F.ops O.order p.now) basis.new }
+    ensures values { AreValues (presented F.ops O.order p.now) (values_of basis.new.elements) values.new }
+    ensures kept { let P = presented F.ops O.order p.now in (d : ℕ) → basis.old.words.degree ≤ d →
+        AreWordsTo P (values_of basis.old.elements) d values.old →
+        AreWordsTo P (values_of basis.new.elements) d values.new }
+    ensures grown { IsGrown (presented F.ops O.order p.now) basis.old.words.degree basis.old.elements
+        basis.new.elements }
+    ensures combination { let P = presented F.ops O.order p.now in
+        OnOk result (IsCombination P (values_of basis.new.elements) (get_or P.generators i [])) }
+    ensures short { let P = presented F.ops O.order p.now in let d = basis.old.words.degree in
+        AreShortAt P d basis.old.elements → AreShortAt P d basis.new.elements }
+    ensures degree { basis.new.words.degree ≡ basis.old.words.degree }
+    ensures quotient { basis.new.quotient ≡ basis.old.quotient }
+    ensures memory { OnErr result (basis.new ≡ basis.old) }
 {
-    Err(Memory)
+    let t = generator(alloc, p, i + 1)?;
+    let Subduced {
+        rest,
+        word_sum: _sum,
+    } = subduce_with(alloc, p, basis, values, &t)?;
+    if rest.value.lead().is_none() {
+        return Ok(());
+    }
+    push_rest(alloc, p, basis, rest)
 }
 
 /// Makes the value of an s-word of the degree of the basis a combination: what is left of it becomes an element. If it
 /// was one already, the answer is its right side.
 pub(crate) fn insert_word<F: Field, O: Order>(
-    _alloc: Global,
-    _p: &Presentation<F, O>,
-    _basis: &mut Basis<F, O>,
-    _values: &mut Values<F>,
-    _u: &Monomial,
+    alloc: Global,
+    p: &Presentation<F, O>,
+    basis: &mut Basis<F, O>,
+    values: &mut Values<F>,
+    u: &Monomial,
 ) -> Result<Option<Poly<F>>, Memory>
-    requires presentation { IsValid F.ops O.order _p.now }
-    requires basis { IsBasisOf (presented F.ops O.order _p.now) _basis.old }
-    requires values { AreValues (presented F.ops O.order _p.now) (values_of _basis.old.elements) _values.old }
-    requires word { IsMinimalWord (presented F.ops O.order _p.now) (values_of _basis.old.elements) _u.now }
-    requires same_degree { word_degree (presented F.ops O.order _p.now) (values_of _basis.old.elements) _u.now
-        ≡ _basis.old.words.degree }
-    ensures basis { IsBasisOf (presented F.ops O.order _p.now) _basis.new }
-    ensures values { AreValues (presented F.ops O.order _p.now) (values_of _basis.new.elements) _values.new }
-    ensures kept { let P = presented F.ops O.order _p.now in (d : ℕ) → _basis.old.words.degree ≤ d →
-        AreWordsTo P (values_of _basis.old.elements) d _values.old →
-        AreWordsTo P (values_of _basis.new.elements) d _values.new }
-    ensures grown { IsGrown (presented F.ops O.order _p.now) _basis.old.words.degree _basis.old.elements
-        _basis.new.elements }
-    ensures combination { let P = presented F.ops O.order _p.now in OnOk result
-        (IsCombination P (values_of _basis.new.elements) (word_value P (values_of _basis.old.elements) _u.now)) }
-    ensures right { let P = presented F.ops O.order _p.now in IfOk result (λ r. IfSome r (λ e.
-        (_basis.new ≡ _basis.old) × IsRightSide P (values_of _basis.old.elements) _u.now e)) }
-    ensures short { let P = presented F.ops O.order _p.now in let d = _basis.old.words.degree in
-        AreShortAt P d _basis.old.elements → AreShortAt P d _basis.new.elements }
-    ensures degree { _basis.new.words.degree ≡ _basis.old.words.degree }
-    ensures quotient { _basis.new.quotient ≡ _basis.old.quotient }
-    ensures memory { OnErr result (_basis.new ≡ _basis.old) }
+    requires presentation { IsValid F.ops O.order p.now }
+    requires basis { IsBasisOf (presented F.ops O.order p.now) basis.old }
+    requires values { AreValues (presented F.ops O.order p.now) (values_of basis.old.elements) values.old }
+    requires word { IsMinimalWord (presented F.ops O.order p.now) (values_of basis.old.elements) u.now }
+    requires same_degree { word_degree (presented F.ops O.order p.now) (values_of basis.old.elements) u.now
+        ≡ basis.old.words.degree }
+    ensures basis { IsBasisOf (presented F.ops O.order p.now) basis.new }
+    ensures values { AreValues (presented F.ops O.order p.now) (values_of basis.new.elements) values.new }
+    ensures kept { let P = presented F.ops O.order p.now in (d : ℕ) → basis.old.words.degree ≤ d →
+        AreWordsTo P (values_of basis.old.elements) d values.old →
+        AreWordsTo P (values_of basis.new.elements) d values.new }
+    ensures grown { IsGrown (presented F.ops O.order p.now) basis.old.words.degree basis.old.elements
+        basis.new.elements }
+    ensures combination { let P = presented F.ops O.order p.now in OnOk result
+        (IsCombination P (values_of basis.new.elements) (word_value P (values_of basis.old.elements) u.now)) }
+    ensures right { let P = presented F.ops O.order p.now in IfOk result (λ r. IfSome r (λ e.
+        (basis.new ≡ basis.old) × IsRightSide P (values_of basis.old.elements) u.now e)) }
+    ensures short { let P = presented F.ops O.order p.now in let d = basis.old.words.degree in
+        AreShortAt P d basis.old.elements → AreShortAt P d basis.new.elements }
+    ensures degree { basis.new.words.degree ≡ basis.old.words.degree }
+    ensures quotient { basis.new.quotient ≡ basis.old.quotient }
+    ensures memory { OnErr result (basis.new ≡ basis.old) }
 {
-    Err(Memory)
+    tete_lift::laws::fresh_is_new::<F>();
+    tete_lift::laws::fresh_is_short::<F>();
+    match lift_with(alloc, p, basis, values, u)? {
+        Lifted::Relation(right) => Ok(Some(right)),
+        Lifted::Fresh(rest) => {
+            push_rest(alloc, p, basis, rest)?;
+            Ok(None)
+        }
+    }
+}
+
+/// Makes the value of a word that was found a combination. Its right side is kept if it has no letter of the last degree.
+pub(crate) fn insert_found<F: Field, O: Order>(
+    alloc: Global,
+    p: &Presentation<F, O>,
+    basis: &mut Basis<F, O>,
+    values: &mut Values<F>,
+    found: &mut Found<F>,
+) -> Result<(), Memory>
+    requires presentation { IsValid F.ops O.order p.now }
+    requires basis { IsBasisOf (presented F.ops O.order p.now) basis.old }
+    requires values { AreValues (presented F.ops O.order p.now) (values_of basis.old.elements) values.old }
+    requires word { IsMinimalWord (presented F.ops O.order p.now) (values_of basis.old.elements) found.old.word }
+    requires same_degree { word_degree (presented F.ops O.order p.now) (values_of basis.old.elements) found.old.word
+        ≡ basis.old.words.degree }
+    ensures basis { IsBasisOf (presented F.ops O.order p.now) basis.new }
+    ensures values { AreValues (presented F.ops O.order p.now) (values_of basis.new.elements) values.new }
+    ensures kept { let P = presented F.ops O.order p.now in (d : ℕ) → basis.old.words.degree ≤ d →
+        AreWordsTo P (values_of basis.old.elements) d values.old →
+        AreWordsTo P (values_of basis.new.elements) d values.new }
+    ensures grown { IsGrown (presented F.ops O.order p.now) basis.old.words.degree basis.old.elements basis.new.elements }
+    ensures combination { let P = presented F.ops O.order p.now in OnOk result (IsCombination P
+        (values_of basis.new.elements) (word_value P (values_of basis.old.elements) found.old.word)) }
+    ensures word { found.new.word ≡ found.old.word }
+    ensures right { let P = presented F.ops O.order p.now in (lower last : List (Tracked F F.Elem)) →
+        AreInParts P basis.old.words.degree basis.old.elements lower last →
+        IsWord (letters P (values_of lower)) found.old.word →
+        IfSome found.old.right (IsRightSide P (values_of lower) found.old.word) →
+        IfSome found.new.right (IsRightSide P (values_of lower) found.new.word) }
+    ensures short { let P = presented F.ops O.order p.now in let d = basis.old.words.degree in
+        AreShortAt P d basis.old.elements → AreShortAt P d basis.new.elements }
+    ensures degree { basis.new.words.degree ≡ basis.old.words.degree }
+    ensures quotient { basis.new.quotient ≡ basis.old.quotient }
+    ensures memory { OnErr result (basis.new ≡ basis.old) }
+{
+    subalgebra_laws::laws::growing::<F>();
+    let right = insert_word(alloc, p, basis, values, &found.word)?;
+    found.right = lower_right_side(p, basis, right);
+    Ok(())
 }

@@ -1,0 +1,5 @@
+mod WordDegrees
+mod Inserting
+mod Generators
+mod RightSides
+mod Taking
