@@ -2,4 +2,5 @@ pub mod Candidates
 pub mod Relations
 pub mod Completion
 pub mod Closed
+pub mod Closing
 pub mod Report

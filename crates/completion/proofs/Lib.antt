@@ -1,0 +1,10 @@
+mod WordDegrees
+mod Combining
+mod Parts
+mod LastElements
+mod LongerWords
+mod NextRelations
+mod Sides
+mod PushedRelations
+mod ClosedDegree
+mod LastDegree
