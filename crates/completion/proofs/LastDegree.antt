@@ -16,6 +16,9 @@ use Rattle.subduction.specs.Basis.{BasisState, AreInParts, AreSettled, IsBasisOf
 use Rattle.subduction.specs.laws.Elements.{leads_monomials}
 use Rattle.completion.proofs.LastElements.{homogeneous, last_degree, values_are}
 
+pub found_at : (xs ys : List Exponents) (i : ℕ) (m : Exponents) → xs ≡ ys → i < length xs → m ≡ get_or xs i m → Contains ys m
+found_at xs ys i m e l h = subst (λ zs. Contains zs m) e (subst (Contains xs) (sym h) (contains_at xs i m l))
+
 module _ {F E : Type 0} (P : Presented E) (H : IsPresentation P) (b : BasisState F E) (B : IsBasisOf P b) where
   open P use {order as O}
 

@@ -36,17 +36,17 @@ increasing_join O L (k ∷ ks) ms r s h =
     increasing_cons O k (ks ++ ms) (λ n c. ⊎_elim (λ a. increasing_below O L k ks r n a) (λ b. h k n (contains_here k ks) b) (contains_either ks ms n c))
     (increasing_join O L ks ms (increasing_tail O k ks r) s (λ x y c d. h x y (contains_there k ks x c) d))
 
-module _ {F E : Type 0} (P : Presented E) (H : IsPresentation P) (S T : List (Polynomial E)) (c : ℕ) (A : AreStandardAfter P (suc c) S T) (L : IsMonomialOrder (word_order_of (letters P (S ++ T)))) where
+module _ {E : Type 0} (P : Presented E) (H : IsPresentation P) (S T : List (Polynomial E)) (c : ℕ) (A : AreStandardAfter P (suc c) S T) (L : IsMonomialOrder (word_order_of (letters P (S ++ T)))) where
   abbrev V : MonomialOrder
   V = word_order_of (letters P S)
 
   abbrev W : MonomialOrder
   W = word_order_of (letters P (S ++ T))
 
-  abbrev word_of : Relation F E → Exponents
+  abbrev word_of : {F : Type 0} → Relation F E → Exponents
   word_of r = r.word
 
-  module _ (values : ValuesStay P S T) (sums : ForNewElements E SumsStay) (minimal : ForStandardElements E MinimalWordsStay)
+  module _ {F : Type 0} (values : ValuesStay P S T) (sums : ForNewElements E SumsStay) (minimal : ForStandardElements E MinimalWordsStay)
       (old more : List (Relation F E)) (words : List Exponents) (R : AreRelations P S c old) (N : AreWordsAt P S (suc c) words) (same : map word_of more ≡ words) where
     old_word : (u : Exponents) → Contains (map word_of old) u → IsMinimalWord P S u × (word_degree P S u ≤ c)
     old_word u k = (R.exactly u).0 k

@@ -43,7 +43,7 @@ module _ {E : Type 0} (P : Presented E) (H : IsPresentation P) where
   graded_elements (s ∷ S) h =
       let e = h s (contains_here s S) in (
         IsDecreasing_IsPoly K O s e.canonical.decreasing,
-        λ m n. (e.homogeneous).each m n ∙ sym (degree_weighted O L (lead_monomial s) (lead_places P H s e)),
+        λ m n. (e.homogeneous).each m n ∙ sym (degree_weighted O L (lead_monomial s) (lead_places P [] H s e)),
         graded_elements S (λ t k. h t (contains_there s S t k)),
       )
 
