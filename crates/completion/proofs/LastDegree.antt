@@ -120,3 +120,15 @@ module _ {E : Type 0} (P : Presented E) (S : List (Polynomial E)) where
 
   pub words_above : (kept : Table E) (c d : ℕ) → AreWordsTo P S c kept → c ≤ d → AreWordsTo P S d kept
   words_above kept c d h l w v e = let x = h w v e in omega arith
+
+  -- all values, or none of them
+  module _ (kept left : Table E) (c d : ℕ) (h : ((left ≡ kept) × (c ≤ d)) ⊎ (left ≡ [])) where
+    pub left_values : AreValues P S kept → AreValues P S left
+    left_values v = ⊎_elim (λ e. subst (AreValues P S) (sym e.0) v) (λ e. subst (AreValues P S) (sym e) nothing_kept) h
+
+    pub left_words : AreWordsTo P S c kept → AreWordsTo P S d left
+    left_words v =
+        ⊎_elim (λ e. subst (AreWordsTo P S d) (sym e.0) (words_above kept c d v e.1)) (λ e. subst (AreWordsTo P S d) (sym e) (λ w x i. absurd (no_value x i))) h
+      where
+        no_value : (x : Polynomial E) → None ≡ Some x → ⊥
+        no_value x i = absurd cc

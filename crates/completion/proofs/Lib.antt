@@ -8,3 +8,4 @@ mod Sides
 mod PushedRelations
 mod ClosedDegree
 mod LastDegree
+mod ClosedCompletion

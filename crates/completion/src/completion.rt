@@ -129,6 +129,9 @@ impl<F: Field, O: Order> Completion<F, O> {
         ensures memory_pending { OnErr result (pending_of self.new ≡ []) }
         ensures memory_relations { OnErr result (self.new.relations ≡ self.old.relations) }
     {
+        subalgebra_laws::laws::combining::<F>();
+        subalgebra_laws::laws::growing::<F>();
+        quotient_gb::laws::quotients_decide::<F>();
         settle_last(alloc, &self.presentation, &mut self.basis, &mut self.values, &mut self.kept)?;
         let found = self.found.as_slice();
         let sides = made_sides(alloc, &self.presentation, &self.basis, &mut self.values, found)?;

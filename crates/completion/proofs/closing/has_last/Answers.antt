@@ -4,8 +4,6 @@ use Rattle.std.proofs.lemmas.Bool.{eq-eqb, true≢false}
 use Rattle.std.proofs.lemmas.List.{get_or_default}
 use Rattle.poly_core.specs.Presentation.{presented}
 use Rattle.toric_ideal.specs.Listing.{Listing}
-use Rattle.completion.proofs.ClosedDegree.{closed_at_degree}
-use Rattle.completion.proofs.PushedRelations.{last_relation}
 use Rattle.completion.proofs.LastDegree.{found_at, lead_is_monomial, lead_is_small, none_last}
 use Rattle.completion.proofs.closing.has_last.Goals as goal
 
