@@ -132,9 +132,21 @@ impl<F: Field, O: Order> Completion<F, O> {
         subalgebra_laws::laws::combining::<F>();
         subalgebra_laws::laws::growing::<F>();
         quotient_gb::laws::quotients_decide::<F>();
-        settle_last(alloc, &self.presentation, &mut self.basis, &mut self.values, &mut self.kept)?;
+        settle_last(
+            alloc,
+            &self.presentation,
+            &mut self.basis,
+            &mut self.values,
+            &mut self.kept,
+        )?;
         let found = self.found.as_slice();
-        let sides = made_sides(alloc, &self.presentation, &self.basis, &mut self.values, found)?;
+        let sides = made_sides(
+            alloc,
+            &self.presentation,
+            &self.basis,
+            &mut self.values,
+            found,
+        )?;
         self.relations.reserve(self.found.len())?;
         let found = mem::replace(&mut self.found, Vec::new(alloc));
         push_relations(&mut self.relations, found, sides);

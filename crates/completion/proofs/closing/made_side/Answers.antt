@@ -1,6 +1,5 @@
-use Rattle.std.proofs.Common.{◌≡◌, ◌≤◌, sym, ◌∙◌, subst, arith}
+use Rattle.std.proofs.Common.{sym, ◌∙◌, subst, arith}
 use Rattle.poly_core.specs.Presentation.{presented}
-use Rattle.polynomials.specs.Polynomial.{Polynomial}
 use Rattle.witness.specs.Tracking.{values_of}
 use Rattle.tete_lift.specs.Lifting.{IsLifted, IsRelation}
 use Rattle.completion.specs.Relations.{IsRightSide}

@@ -1,7 +1,6 @@
-use Rattle.std.proofs.Common.{◌≡◌, sym, ◌∙◌, subst, take}
+use Rattle.std.proofs.Common.{take}
 use Rattle.poly_core.specs.Presentation.{presented}
 use Rattle.witness.specs.Tracking.{values_of}
-use Rattle.completion.specs.Closing.{AreSides}
 use Rattle.completion.proofs.Sides.{sides_append, take_next}
 use Rattle.completion.proofs.closing.made_sides.Goals as goal
 

@@ -1,6 +1,5 @@
-use Rattle.std.proofs.Common.{◌≡◌, ◌≤◌, ℕ, take}
+use Rattle.std.proofs.Common.{◌≤◌, ℕ, take}
 use Rattle.poly_core.specs.Presentation.{presented}
-use Rattle.polynomials.specs.Subalgebra.{Presented}
 use Rattle.witness.specs.Tracking.{values_of}
 use Rattle.word_values.specs.Values.{AreValues, AreWordsTo}
 use Rattle.completion.specs.Closing.{AreSides}

@@ -4,7 +4,6 @@ use Rattle.polynomials.specs.Polynomial.{Polynomial}
 use Rattle.toric_ideal.specs.Listing.{Listing}
 use Rattle.witness.specs.Tracking.{values_of}
 use Rattle.word_values.specs.Values.{AreValues, AreWordsTo}
-use Rattle.subduction.specs.Basis.{BasisState, AreShortAt}
 use Rattle.completion.proofs.LastDegree.{kept_over, left_values, left_words}
 use Rattle.completion.proofs.closing.settle_last.Goals as goal
 

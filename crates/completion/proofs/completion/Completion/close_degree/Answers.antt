@@ -1,6 +1,5 @@
-use Rattle.std.proofs.Common.{◌≡◌, ℕ, suc, ◌+◌, ◌≤◌, [], true, refl, sym, ◌∙◌, ap, subst, arith}
+use Rattle.std.proofs.Common.{◌≡◌, suc, ◌+◌, ◌≤◌, [], true, refl, sym, subst, arith}
 use Rattle.poly_core.specs.Presentation.{presented}
-use Rattle.witness.specs.Tracking.{values_of}
 use Rattle.completion.specs.Completion.{pending_of, CompletionState, IsCompletion}
 use Rattle.completion.proofs.ClosedCompletion.{closed_kept, closed_state, found_can_relate, settled_kept, settled_state, unsettled_kept, unsettled_standing}
 use Rattle.completion.proofs.ClosedDegree.{ClosingLaws}
