@@ -3,3 +3,13 @@ mod Inserting
 mod Generators
 mod RightSides
 mod Taking
+mod Combining
+mod Parts
+mod LastElements
+mod LongerWords
+mod NextRelations
+mod Sides
+mod PushedRelations
+mod ClosedDegree
+mod LastDegree
+mod ClosedCompletion

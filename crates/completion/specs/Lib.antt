@@ -2,5 +2,6 @@ pub mod Candidates
 pub mod Relations
 pub mod Completion
 pub mod Closed
+pub mod Closing
 pub mod Report
 pub mod Taking

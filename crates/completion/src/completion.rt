@@ -14,12 +14,14 @@ ghost use Rattle.completion.specs.Taking.{IsTreated};
 ghost use Rattle.subduction.specs.Subduced.{CanSubduce, IsSubduced};
 
 use crate::insertion::{insert_found, insert_generator};
+use crate::closing::{made_sides, push_relations, settle_last};
 use crate::{Candidate, Found, Pick, Relation};
 use degree_queue::DegreeQueue;
 use monomial_order::{Memory, Order};
 use poly_core::Presentation;
 use std::alloc::Global;
 use std::marker::Model;
+use std::mem;
 use subduction::{Basis, Subduced, Values};
 use witness::Tracked;
 use word_field::Field;
@@ -156,7 +158,7 @@ impl<F: Field, O: Order> Completion<F, O> {
     }
 
     /// Ends the degree, if no candidate waits.
-    pub fn close_degree(&mut self, _alloc: Global) -> Result<(), Memory>
+    pub fn close_degree(&mut self, alloc: Global) -> Result<(), Memory>
         requires completion { IsCompletion F.ops O.order self.old }
         requires begun { self.old.begun ≡ true }
         requires none_pending { pending_of self.old ≡ [] }
@@ -169,7 +171,30 @@ impl<F: Field, O: Order> Completion<F, O> {
         ensures memory_pending { OnErr result (pending_of self.new ≡ []) }
         ensures memory_relations { OnErr result (self.new.relations ≡ self.old.relations) }
     {
-        Err(Memory)
+        subalgebra_laws::laws::combining::<F>();
+        subalgebra_laws::laws::growing::<F>();
+        quotient_gb::laws::quotients_decide::<F>();
+        settle_last(
+            alloc,
+            &self.presentation,
+            &mut self.basis,
+            &mut self.values,
+            &mut self.kept,
+        )?;
+        let found = self.found.as_slice();
+        let sides = made_sides(
+            alloc,
+            &self.presentation,
+            &self.basis,
+            &mut self.values,
+            found,
+        )?;
+        self.relations.reserve(self.found.len())?;
+        let found = mem::replace(&mut self.found, Vec::new(alloc));
+        push_relations(&mut self.relations, found, sides);
+        self.degree += 1;
+        self.begun = false;
+        Ok(())
     }
 
     /// Begins the next degree, takes its candidates and ends it. The j-th candidate that is taken is at the index of the
