@@ -81,6 +81,7 @@ module _ {F E : Type 0} (P : Presented E) where
           coefficient P.field t.value m ≢ P.field.zero → ¬ IsGenerated (map lead_monomial (values_of lower)) m
       pub relations : AreRelations P (values_of lower) s.degree s.relations
       pub degree : s.basis.words.degree ≡ suc s.degree
+      pub quotient : s.basis.quotient.degree ≤ suc s.degree
       pub words : AreWordsAt P (values_of lower) (suc s.degree) (map (λ f. f.word) s.found)
       pub rights : All (λ f. IfSome f.right (IsRightSide P (values_of lower) f.word)) s.found
       pub pending : All (IsCandidate P (suc s.degree) (length s.found)) (pending_of s)
@@ -96,6 +97,7 @@ module _ {F E : Type 0} (P : Presented E) where
       pub values : AreValues P (elements_of s) s.values
       pub kept : AreWordsTo P (elements_of s) s.kept s.values
       pub short : AreShortAbove s.read s.basis.elements
+      pub none_later : (d : ℕ) → suc s.degree < d → list_of s.queue d ≡ []
       pub at_degree : s.begun ≡ false → IsAtDegree
       pub in_degree : s.begun ≡ true → IsInDegree
 

@@ -13,6 +13,7 @@ pub mod laws;
 mod pick;
 mod relations;
 mod report;
+mod running;
 
 pub use candidates::{Candidate, Found};
 pub use completion::Completion;
