@@ -13,3 +13,8 @@ mod PushedRelations
 mod ClosedDegree
 mod LastDegree
 mod ClosedCompletion
+mod Kept
+mod FirstDegree
+mod NextDegree
+mod WordsAtDegree
+mod QueuedCandidates

@@ -15,6 +15,7 @@ ghost use Rattle.subduction.specs.Subduced.{CanSubduce, IsSubduced};
 
 use crate::insertion::{insert_found, insert_generator};
 use crate::closing::{made_sides, push_relations, settle_last};
+use crate::candidates::{queue_candidates, words_at};
 use crate::{Candidate, Found, Pick, Relation};
 use degree_queue::DegreeQueue;
 use monomial_order::{Memory, Order};
@@ -72,14 +73,28 @@ impl<F: Field, O: Order> Completion<F, O> {
         ensures degree { IfOk result (λ c. c.degree ≡ 0) }
         ensures begun { IfOk result (λ c. c.begun ≡ false) }
     {
-        let _ = p;
-        let _ = alloc;
-        Err(Memory)
+        subalgebra_laws::laws::lower_bases::<F>();
+        let basis = Basis::new(alloc, &p)?;
+        let values = Values::new(alloc, BOUND_MAX);
+        let relations = Vec::new(alloc);
+        let queue = DegreeQueue::new(alloc);
+        Ok(Completion {
+            presentation: p,
+            basis,
+            values,
+            kept: 0,
+            relations,
+            degree: 0,
+            read: 0,
+            begun: false,
+            queue,
+            found: Vec::new(alloc),
+        })
     }
 
     /// Begins the next degree: its candidates are the generators of this degree, in their order, and then the minimal
     /// reducible s-words, in increasing order.
-    pub fn begin_degree(&mut self, _alloc: Global) -> Result<(), Memory>
+    pub fn begin_degree(&mut self, alloc: Global) -> Result<(), Memory>
         requires completion { IsCompletion F.ops O.order self.old }
         requires not_begun { self.old.begun ≡ false }
         requires small { self.old.degree < BOUND_MAX }
@@ -91,7 +106,14 @@ impl<F: Field, O: Order> Completion<F, O> {
         ensures kept { AreKept (presented F.ops O.order self.old.presentation) self.old self.new }
         ensures memory { OnErr result (IsUnchanged self.old self.new) }
     {
-        Err(Memory)
+        let d = self.degree + 1;
+        self.basis.extend_to(alloc, &self.presentation, d)?;
+        let found = words_at(alloc, &self.presentation, &self.basis)?;
+        let count = found.as_slice().len();
+        queue_candidates(&self.presentation, &mut self.queue, d, count)?;
+        self.found = found;
+        self.begun = true;
+        Ok(())
     }
 
     /// How many candidates wait.
@@ -199,7 +221,7 @@ impl<F: Field, O: Order> Completion<F, O> {
 
     /// Begins the next degree, takes its candidates and ends it. The j-th candidate that is taken is at the index of the
     /// j-th pick modulo the number of those that wait, and the first one if the picks are spent.
-    pub fn close_with(&mut self, _alloc: Global, _picks: &[usize]) -> Result<(), Memory>
+    pub fn close_with(&mut self, alloc: Global, picks: &[usize]) -> Result<(), Memory>
         requires completion { IsCompletion F.ops O.order self.old }
         requires not_begun { self.old.begun ≡ false }
         requires small { self.old.degree < BOUND_MAX }
@@ -209,21 +231,26 @@ impl<F: Field, O: Order> Completion<F, O> {
         ensures kept { AreKept (presented F.ops O.order self.old.presentation) self.old self.new }
         ensures memory { OnErr result (self.new.degree ≡ self.old.degree) }
     {
-        Err(Memory)
+        self.begin_degree(alloc)?;
+        self.take_picked(alloc, picks)?;
+        self.close_degree(alloc)?;
+        Ok(())
     }
 
     /// Ends the degree that is begun, whatever d is, and then closes all degrees up to d.
-    pub fn run_to(&mut self, _alloc: Global, _d: u32, _pick: Pick) -> Result<(), Memory>
+    pub fn run_to(&mut self, alloc: Global, d: u32, pick: Pick) -> Result<(), Memory>
         requires completion { IsCompletion F.ops O.order self.old }
-        requires small { _d ≤ BOUND_MAX }
+        requires small { d ≤ BOUND_MAX }
         ensures completion { IsCompletion F.ops O.order self.new }
         ensures closed { OnOk result (self.new.begun ≡ false) }
         ensures degree { OnOk result
-            (self.new.degree ≡ max _d (if self.old.begun then suc self.old.degree else self.old.degree)) }
+            (self.new.degree ≡ max d (if self.old.begun then suc self.old.degree else self.old.degree)) }
         ensures kept { AreKept (presented F.ops O.order self.old.presentation) self.old self.new }
         ensures memory { OnErr result (self.old.degree ≤ self.new.degree) }
     {
-        Err(Memory)
+        self.end_begun(alloc, pick)?;
+        self.close_to(alloc, d, pick)?;
+        Ok(())
     }
 
     /// The degree to which the basis is closed.

@@ -14,6 +14,7 @@ mod pick;
 mod relations;
 mod report;
 mod right_sides;
+mod running;
 
 pub use candidates::{Candidate, Found};
 pub use completion::Completion;
