@@ -1,5 +1,5 @@
 //! A candidate is subducted, and what is left of it becomes an element.
-ghost use Rattle.std.specs.Prelude.{◌≡◌, ℕ, ◌≤◌, ◌<◌, length, get_or, OnOk, OnErr, IfOk, IfSome};
+ghost use Rattle.std.specs.Prelude.{◌≡◌, ℕ, ◌≤◌, ◌<◌, [], length, get_or, OnOk, OnErr, IfOk, IfSome};
 ghost use Rattle.monomial_order.specs.Monomial.{Exponents};
 ghost use Rattle.poly_core.specs.Presentation.{presented, IsValid};
 ghost use Rattle.subalgebra_laws.specs.Words.{word_value, IsCombination, IsMinimalWord};

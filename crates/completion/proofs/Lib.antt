@@ -1,0 +1,5 @@
+mod ClosedBases
+mod HigherDegrees
+mod LastMembers
+mod ReportLines
+mod StandingAfter
