@@ -2,4 +2,5 @@ mod ClosedBases
 mod HigherDegrees
 mod LastMembers
 mod ReportLines
+mod Reported
 mod StandingAfter

@@ -1,5 +1,5 @@
 -- A completion at a closed degree, after its basis is marked or its values change.
-use Rattle.std.proofs.Common.{◌≡◌, ℕ, ◌≤◌, sym, subst, List, false, true, arith}
+use Rattle.std.proofs.Common.{◌≡◌, ℕ, ◌≤◌, ◌∙◌, sym, subst, List, false, true, arith}
 use Rattle.polynomials.specs.Subalgebra.{Presented, IsReducedBasis}
 use Rattle.quotient_gb.specs.Quotient.{closing_max}
 use Rattle.witness.specs.Tracking.{values_of}
@@ -10,7 +10,7 @@ use Rattle.completion.specs.Relations.{AreRelations}
 
 module _ {F O E : Type 0} (P : Presented E) (s : CompletionState F O E) (st : IsStanding P s) (begun : s.begun ≡ false) where
   not_begun : {A : Type 0} → s.begun ≡ true → A
-  not_begun t = absurd (let e : false ≡ true = sym begun Rattle.std.proofs.Common.∙ t in cc)
+  not_begun t = absurd (let e : false ≡ true = sym begun ∙ t in cc)
 
   -- with a basis that has the same elements and degrees
   pub with_basis : (b : BasisState F E) → IsBasisOf P b → b.elements ≡ s.basis.elements → b.words.degree ≡ s.basis.words.degree →
