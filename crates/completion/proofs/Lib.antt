@@ -18,3 +18,9 @@ mod FirstDegree
 mod NextDegree
 mod WordsAtDegree
 mod QueuedCandidates
+mod ClosedBases
+mod HigherDegrees
+mod LastMembers
+mod ReportLines
+mod Reported
+mod StandingAfter

@@ -23,7 +23,7 @@ use Rattle.witness.specs.Tracking.{values_of}
 use Rattle.word_values.specs.Values.{word_degree}
 use Rattle.subduction.specs.Basis.{BasisState, IsBasisOf}
 use Rattle.subduction.specs.laws.Decisions.{ZerosRepresent, zeros_represent}
-use Rattle.subduction.specs.laws.Filters.{filter_has, filter_part}
+use Rattle.monomial_order.specs.laws.Lists.{filter_has, filter_part}
 use Rattle.completion.specs.Candidates.{AreWordsAt}
 
 -- no letter of the first ones

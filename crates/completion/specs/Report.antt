@@ -1,11 +1,15 @@
 -- The report on a presentation to a degree.
-use Rattle.std.specs.Prelude.{◌≡◌, ◌⊎◌, ℕ, ◌+◌, List, [], ◌∷◌, ◌++◌, length, codes}
+use Rattle.std.specs.Prelude.{◌≡◌, ◌⊎◌, ℕ, ◌+◌, List, [], ◌∷◌, ◌++◌, length, codes, Bool, if◌then◌else◌}
 use Rattle.std.specs.Fmt.{decimal}
 use Rattle.poly_core.specs.declared.place_names.Names.{Names}
 use Rattle.poly_core.specs.Text.{monomial_text, poly_text}
 use Rattle.polynomials.specs.Polynomial.{Polynomial, lead_monomial}
 use Rattle.polynomials.specs.Subalgebra.{Presented, IsReducedBasis}
 use Rattle.subalgebra_laws.specs.Bases.{IsClosedAt}
+
+-- the mark
+abbrev pub mark_text : Bool → List ℕ
+mark_text complete = if complete then codes "complete" else codes "open"
 
 module _ {E : Type 0} (P : Presented E) (names : Names) where
   -- the number of the element, the degree of its lead, its lead, and the element

@@ -16,14 +16,16 @@ ghost use Rattle.subduction.specs.Subduced.{CanSubduce, IsSubduced};
 use crate::insertion::{insert_found, insert_generator};
 use crate::closing::{made_sides, push_relations, settle_last};
 use crate::candidates::{queue_candidates, words_at};
+use crate::later::has_nothing_later;
+use crate::report::report_on;
 use crate::{Candidate, Found, Pick, Relation};
 use degree_queue::DegreeQueue;
 use monomial_order::{Memory, Order};
-use poly_core::Presentation;
+use poly_core::{Poly, Presentation};
 use std::alloc::Global;
 use std::marker::Model;
 use std::mem;
-use subduction::{Basis, Subduced, Values};
+use subduction::{Basis, Subduced, Values, subduce_with};
 use witness::Tracked;
 use word_field::Field;
 
@@ -302,7 +304,7 @@ impl<F: Field, O: Order> Completion<F, O> {
     }
 
     /// Whether nothing new comes after the closed degree: the basis then is the reduced basis to each greater degree.
-    pub fn is_complete(&mut self, _alloc: Global) -> Result<bool, Memory>
+    pub fn is_complete(&mut self, alloc: Global) -> Result<bool, Memory>
         requires completion { IsCompletion F.ops O.order self.old }
         requires not_begun { self.old.begun ≡ false }
         requires some { 1 ≤ self.old.degree }
@@ -314,11 +316,11 @@ impl<F: Field, O: Order> Completion<F, O> {
         ensures no { let P = presented F.ops O.order self.old.presentation in
             IfOk result (λ r. r ≡ false → HasLater P self.old.degree (elements_of self.old)) }
     {
-        Err(Memory)
+        has_nothing_later(alloc, &self.presentation, &mut self.basis, self.degree)
     }
 
     /// The report on the presentation to the closed degree, with the mark of `is_complete`.
-    pub fn report(&mut self, _alloc: Global) -> Result<Vec<u8>, Memory>
+    pub fn report(&mut self, alloc: Global) -> Result<Vec<u8>, Memory>
         requires completion { IsCompletion F.ops O.order self.old }
         requires not_begun { self.old.begun ≡ false }
         requires some { 1 ≤ self.old.degree }
@@ -327,20 +329,24 @@ impl<F: Field, O: Order> Completion<F, O> {
         ensures report { let P = presented F.ops O.order self.old.presentation in
             IfOk result (λ v. IsReport P self.old.presentation.names self.old.degree v.items) }
     {
-        Err(Memory)
+        let complete = self.is_complete(alloc)?;
+        let elements = self.basis.elements();
+        report_on(alloc, &self.presentation, self.degree, elements, complete)
     }
 
     /// Subducts by the basis, with the values of words that are kept.
-    pub fn subduce(&mut self, _alloc: Global, _t: &Tracked<F>) -> Result<Subduced<F>, Memory>
+    pub fn subduce(&mut self, alloc: Global, t: &Tracked<F>) -> Result<Subduced<F>, Memory>
         requires completion { IsCompletion F.ops O.order self.old }
         requires not_begun { self.old.begun ≡ false }
-        requires can { CanSubduce (presented F.ops O.order self.old.presentation) self.old.basis _t.now }
+        requires can { CanSubduce (presented F.ops O.order self.old.presentation) self.old.basis t.now }
         ensures completion { IsCompletion F.ops O.order self.new }
         ensures unchanged { IsUnchanged self.old self.new }
         ensures basis { self.new.basis ≡ self.old.basis }
         ensures subduced { let P = presented F.ops O.order self.old.presentation in
-            IfOk result (IsSubduced P self.old.basis _t.now) }
+            IfOk result (IsSubduced P self.old.basis t.now) }
     {
-        Err(Memory)
+        let degree = Poly::degree(&self.presentation.order, &t.value).unwrap_or(0);
+        self.kept = self.kept.max(degree);
+        subduce_with(alloc, &self.presentation, &self.basis, &mut self.values, t)
     }
 }
