@@ -1,0 +1,4 @@
+mod Degrees
+mod Remainders
+mod Expansions
+mod Reach

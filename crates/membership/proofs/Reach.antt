@@ -1,0 +1,34 @@
+-- Queries and completions whose elements stay.
+use Rattle.std.proofs.Common.{◌≡◌, ◌≢◌, ℕ, ◌≤◌, sym, ap, subst, List, [], arith}
+use Rattle.monomial_order.specs.Monomial.{Exponents}
+use Rattle.poly_core.specs.declared.presentations.Presentation.{Presentation}
+use Rattle.polynomials.specs.Polynomial.{Polynomial, coefficient, degree_of, lead_monomial, IsCanonical, IsDegree}
+use Rattle.polynomials.specs.Subalgebra.{Presented, IsPresentation}
+use Rattle.polynomials.specs.laws.Coefficients.{decreasing_leads}
+use Rattle.witness.specs.declared.tracked.Tracked.{Tracked}
+use Rattle.completion.specs.Completion.{CompletionState, IsUnchanged}
+use Rattle.membership.proofs.Degrees.{degrees_to}
+
+-- the greatest degree of a monomial is that of the lead
+pub degree_is : {E : Type 0} (P : Presented E) → IsPresentation P → (a : Polynomial E) → IsCanonical P.field P.order a → a ≢ [] →
+    (d : ℕ) → IsDegree P.field P.order d a → degree_of P.order a ≡ d
+degree_is P H a k some d h =
+    let high = degrees_to P H a k h.some.0 h.some.1 in
+    let e = h.some.2 in
+    let low = h.greatest (lead_monomial a) (decreasing_leads P.field H.field P.order H.order a k.decreasing some).nonzero in
+    omega arith
+
+module _ {F O E : Type 0} (s t : CompletionState F O E) (u : IsUnchanged s t) (Q : Presentation F O E → ℕ → List (Tracked F E) → Type 0) where
+  -- what holds before a call that changes nothing holds after it
+  pub after : Q s.presentation s.degree s.basis.elements → Q t.presentation t.degree t.basis.elements
+  after h =
+      subst (λ ts. Q t.presentation t.degree ts) (sym u.elements)
+      (subst (λ d. Q t.presentation d s.basis.elements) (sym u.degree)
+      (subst (λ p. Q p s.degree s.basis.elements) (sym u.presentation) h))
+
+  -- and the other way round
+  pub before : Q t.presentation t.degree t.basis.elements → Q s.presentation s.degree s.basis.elements
+  before h =
+      subst (λ ts. Q s.presentation s.degree ts) u.elements
+      (subst (λ d. Q s.presentation d t.basis.elements) u.degree
+      (subst (λ p. Q p t.degree t.basis.elements) u.presentation h))
