@@ -2,3 +2,4 @@ mod Degrees
 mod Remainders
 mod Expansions
 mod Reach
+mod Answering
