@@ -1,5 +1,5 @@
 -- What the rest and the sum of words of a query answer.
-use Rattle.std.proofs.Common.{◌≡◌, ◌≢◌, ℕ, ◌≤◌, sym, subst, List, [], length, arith}
+use Rattle.std.proofs.Common.{◌≡◌, ◌≢◌, ℕ, ◌≤◌, sym, subst, [], length, arith}
 use Rattle.polynomials.specs.Polynomial.{Polynomial, degree_of, negated, IsCanonical, IsPoly}
 use Rattle.polynomials.specs.Ideal.{Congruent}
 use Rattle.polynomials.specs.Value.{value}

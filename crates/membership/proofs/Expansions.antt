@@ -1,5 +1,5 @@
 -- The words that were taken away, as a witness of a polynomial of which nothing is left.
-use Rattle.std.proofs.Common.{◌≡◌, ◌≢◌, ℕ, ◌≤◌, sym, ◌∙◌, ap, subst, List, [], ◌++◌, append-nil, length}
+use Rattle.std.proofs.Common.{◌≡◌, ℕ, ◌≤◌, sym, ◌∙◌, ap, subst, List, [], ◌++◌, append-nil, length}
 use Rattle.std.proofs.lemmas.List.{length-map}
 use Rattle.word_field.specs.Field.{FieldOps}
 use Rattle.word_field.specs.laws.Field.{negate-negate, negate-zero}

@@ -1,6 +1,5 @@
 -- Queries and completions whose elements stay.
 use Rattle.std.proofs.Common.{◌≡◌, ◌≢◌, ℕ, ◌≤◌, sym, ◌∙◌, ap, subst, List, [], arith, IfOk, Result, Ok, Err}
-use Rattle.monomial_order.specs.Monomial.{Exponents}
 use Rattle.poly_core.specs.declared.presentations.Presentation.{Presentation}
 use Rattle.polynomials.specs.Polynomial.{Polynomial, coefficient, degree_of, lead_monomial, IsCanonical, IsDegree}
 use Rattle.polynomials.specs.Subalgebra.{Presented, IsPresentation}

@@ -1,17 +1,17 @@
 -- What is left of a polynomial within reach is its remainder modulo the subalgebra.
-use Rattle.std.proofs.Common.{◌≡◌, ◌≢◌, ℕ, ◌≤◌, List, [], ◌++◌, ⊎_elim, arith}
+use Rattle.std.proofs.Common.{◌≢◌, ℕ, ◌≤◌, List, ◌++◌, ⊎_elim, arith}
 use Rattle.word_field.specs.Field.{FieldOps, IsField}
 use Rattle.monomial_order.specs.Monomial.{Exponents}
 use Rattle.word_laws.specs.Words.{word_order_of}
 use Rattle.polynomials.specs.Polynomial.{Polynomial, coefficient, minus, negated, degree_of, IsCanonical, Same}
-use Rattle.polynomials.specs.Subalgebra.{Presented, InSubalgebra, IsDecidedTo, IsPresentation, IsReducedBasis, IsStandard, LeadsSubalgebra}
+use Rattle.polynomials.specs.Subalgebra.{Presented, InSubalgebra, IsDecidedTo, IsPresentation, IsReducedBasis, LeadsSubalgebra}
 use Rattle.polynomials.specs.laws.Congruence.{congruent_plus, congruent_refl, congruent_same, congruent_trans}
 use Rattle.polynomials.specs.laws.Decreasing.{IsDecreasing_IsPoly}
 use Rattle.polynomials.specs.laws.Membership.{sub_congruent}
 use Rattle.polynomials.specs.laws.Ring.{coefficient-append, coefficient_value}
 use Rattle.polynomials.specs.laws.Same.{coefficient-negated}
 use Rattle.quotient_gb.specs.Quotient.{IsQuotientOf, QuotientState}
-use Rattle.subalgebra_laws.specs.Bases.{AreMembers, IsClosedAt}
+use Rattle.subalgebra_laws.specs.Bases.{AreMembers}
 use Rattle.subalgebra_laws.specs.Statements.{ForClosedBases, ForMonicMembers, LeadsAreExactly, SumsOfSWordsAreMembers}
 use Rattle.subalgebra_laws.specs.Words.{combination_value, letters, IsSubductionRemainder}
 use Rattle.witness.specs.declared.tracked.Tracked.{Tracked}
@@ -67,8 +67,8 @@ module _ {F E : Type 0} (P : Presented E) (H : IsPresentation P) (b : BasisState
         let generated = (h.parts.reduced m n).1 in
         ⊎_elim
         (λ small.
-            let d = (h.degrees (degree_of O t.value) (degrees_to P H t.value k)).0 m n in
-            generated ((leads P S c H R m (omega arith)).0 l).1)
+        let d = (h.degrees (degree_of O t.value) (degrees_to P H t.value k)).0 m n in
+        generated ((leads P S c H R m (omega arith)).0 l).1)
         (λ closed. generated ((all P S c (O.degree m) H (decided decide) R closed m (omega arith)).0 l).1) within
 
     pub is_remainder : ForMonicMembers E SumsOfSWordsAreMembers → LeadsAreKnown E → ForClosedBases E (λ P S _ c. LeadsAreExactly P S c) → QuotientsDecide E →

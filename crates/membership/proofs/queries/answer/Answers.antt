@@ -1,4 +1,4 @@
-use Rattle.std.proofs.Common.{◌≡◌, ◌≢◌, ℕ, ◌≤◌, sym, ◌∙◌, subst, IfOk}
+use Rattle.std.proofs.Common.{◌≡◌, ◌≢◌, ℕ, ◌≤◌, ◌∙◌, IfOk}
 use Rattle.poly_core.specs.Presentation.{presented}
 use Rattle.polynomials.specs.Polynomial.{degree_of, IsCanonical}
 use Rattle.witness.specs.Tracking.{values_of}

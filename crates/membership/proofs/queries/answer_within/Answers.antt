@@ -1,4 +1,4 @@
-use Rattle.std.proofs.Common.{◌≡◌, ◌≢◌, sym, ◌∙◌, [], true, false}
+use Rattle.std.proofs.Common.{◌≡◌, sym, ◌∙◌, true, false}
 use Rattle.poly_core.specs.Presentation.{presented}
 use Rattle.membership.proofs.Answering.{has_remainder, has_witness, small_words}
 use Rattle.membership.proofs.queries.answer_within.Goals as goal
