@@ -1,4 +1,3 @@
-mod Degrees
 mod Remainders
 mod Expansions
 mod Reach

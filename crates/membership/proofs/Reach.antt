@@ -7,7 +7,7 @@ use Rattle.polynomials.specs.laws.Coefficients.{decreasing_leads, nothing_at}
 use Rattle.polynomials.specs.laws.ReducedBasis.{degree_one}
 use Rattle.witness.specs.declared.tracked.Tracked.{Tracked}
 use Rattle.completion.specs.Completion.{CompletionState, IsUnchanged}
-use Rattle.membership.proofs.Degrees.{degrees_to}
+use Rattle.subduction.specs.laws.Degrees.{degrees_to}
 
 -- the greatest degree of a monomial is that of the lead
 pub degree_is : {E : Type 0} (P : Presented E) → IsPresentation P → (a : Polynomial E) → IsCanonical P.field P.order a →
@@ -15,12 +15,15 @@ pub degree_is : {E : Type 0} (P : Presented E) → IsPresentation P → (a : Pol
 degree_is P H a k d h =
     let high = degrees_to P H a k h.some.0 h.some.1 in
     let e = h.some.2 in
-    let some : a ≢ [] = λ z. h.some.1 (ap (λ p. coefficient P.field p h.some.0) z ∙ sym (nothing_at P.field h.some.0)) in
-    let low = h.greatest (lead_monomial a) (decreasing_leads P.field H.field P.order H.order a k.decreasing some).nonzero in
+    let some : a ≢ [] = λ z. h.some.1 (ap (λ p. coefficient P.field p h.some.0) z ∙
+        sym (nothing_at P.field h.some.0)) in
+    let low = h.greatest (lead_monomial a)
+        (decreasing_leads P.field H.field P.order H.order a k.decreasing some).nonzero in
     omega arith
 
 -- zero has the degree 0
-pub zero_low : {E : Type 0} (P : Presented E) → IsPresentation P → (a : Polynomial E) → a ≡ [] → (n : ℕ) → degree_of P.order a ≤ n
+pub zero_low : {E : Type 0} (P : Presented E) → IsPresentation P → (a : Polynomial E) → a ≡ [] → (n : ℕ) →
+    degree_of P.order a ≤ n
 zero_low P H a z n =
     let o = degree_one P.order H.order in
     subst (λ p. degree_of P.order p ≤ n) (sym z) (let e : P.order.degree [] ≤ n = omega arith in e)
@@ -31,7 +34,8 @@ ok_map (Ok x) P Q f h = f x h
 ok_map (Err e) P Q f h = tt
 
 -- two calls that change nothing
-pub unchanged_twice : {F O E : Type 0} (s t v : CompletionState F O E) → IsUnchanged s t → IsUnchanged t v → IsUnchanged s v
+pub unchanged_twice : {F O E : Type 0} (s t v : CompletionState F O E) → IsUnchanged s t → IsUnchanged t v →
+    IsUnchanged s v
 unchanged_twice s t v h k = record {
   presentation = k.presentation ∙ h.presentation;
   degree = k.degree ∙ h.degree;
@@ -42,7 +46,8 @@ unchanged_twice s t v h k = record {
   pending = k.pending ∙ h.pending;
 }
 
-module _ {F O E : Type 0} (s t : CompletionState F O E) (u : IsUnchanged s t) (Q : Presentation F O E → ℕ → List (Tracked F E) → Type 0) where
+module _ {F O E : Type 0} (s t : CompletionState F O E) (u : IsUnchanged s t)
+    (Q : Presentation F O E → ℕ → List (Tracked F E) → Type 0) where
   -- what holds before a call that changes nothing holds after it
   pub after : Q s.presentation s.degree s.basis.elements → Q t.presentation t.degree t.basis.elements
   after h =

@@ -4,7 +4,8 @@ use Rattle.word_field.specs.Field.{FieldOps, IsField}
 use Rattle.monomial_order.specs.Monomial.{Exponents}
 use Rattle.word_laws.specs.Words.{word_order_of}
 use Rattle.polynomials.specs.Polynomial.{Polynomial, coefficient, minus, negated, degree_of, IsCanonical, Same}
-use Rattle.polynomials.specs.Subalgebra.{Presented, InSubalgebra, IsDecidedTo, IsPresentation, IsReducedBasis, LeadsSubalgebra}
+use Rattle.polynomials.specs.Subalgebra.{Presented, InSubalgebra, IsDecidedTo, IsPresentation, IsReducedBasis}
+use Rattle.polynomials.specs.Subalgebra.{LeadsSubalgebra}
 use Rattle.polynomials.specs.laws.Congruence.{congruent_plus, congruent_refl, congruent_same, congruent_trans}
 use Rattle.polynomials.specs.laws.Decreasing.{IsDecreasing_IsPoly}
 use Rattle.polynomials.specs.laws.Membership.{sub_congruent}
@@ -21,21 +22,24 @@ use Rattle.subduction.specs.declared.subduction.Subduced.{Subduced}
 use Rattle.subduction.specs.Subduced.{IsSubduced}
 use Rattle.subduction.specs.laws.Elements.{monic_elements}
 use Rattle.membership.specs.Answer.{IsWithin}
-use Rattle.membership.proofs.Degrees.{degrees_to}
+use Rattle.subduction.specs.laws.Degrees.{degrees_to}
 
 -- what is known of the leads of a reduced basis
 abbrev pub LeadsAreKnown : Type 0 → Type 0
-LeadsAreKnown E = (P : Presented E) (S : List (Polynomial E)) (c : ℕ) → IsPresentation P → IsReducedBasis P c S → LeadsAreExactly P S c
+LeadsAreKnown E = (P : Presented E) (S : List (Polynomial E)) (c : ℕ) → IsPresentation P → IsReducedBasis P c S →
+    LeadsAreExactly P S c
 
 -- quotients decide the ideal to their degrees
 abbrev pub QuotientsDecide : Type 0 → Type 0
-QuotientsDecide E = (P : Presented E) → IsPresentation P → (q : QuotientState E) → IsQuotientOf P q → IsDecidedTo P q.degree
+QuotientsDecide E = (P : Presented E) → IsPresentation P → (q : QuotientState E) → IsQuotientOf P q →
+    IsDecidedTo P q.degree
 
 less_end : {E : Type 0} (K : FieldOps E) (F : IsField K) (p q : Polynomial E) → Same K (minus K (p ++ q) q) p
 less_end K F p q m =
     simp (coefficient-append K F, coefficient-negated K F, F.plus_assoc, F.plus_negate, F.plus_zero, coefficient_value K F)
 
-module _ {F E : Type 0} (P : Presented E) (H : IsPresentation P) (b : BasisState F E) (B : IsBasisOf P b) (c : ℕ) (R : IsReducedBasis P c (values_of b.elements)) (low : c ≤ b.words.degree) where
+module _ {F E : Type 0} (P : Presented E) (H : IsPresentation P) (b : BasisState F E) (B : IsBasisOf P b) (c : ℕ)
+    (R : IsReducedBasis P c (values_of b.elements)) (low : c ≤ b.words.degree) where
   open P use {field as K, order as O}
   open H use {field as F', order as L}
 
@@ -55,13 +59,16 @@ module _ {F E : Type 0} (P : Presented E) (H : IsPresentation P) (b : BasisState
         let V = combination_value P S r.word_sum in
         let e = r.rest.value in
         sub_congruent P H V (minus K t.value e)
-        (law P S H (monic_elements P H b B) members r.word_sum (IsDecreasing_IsPoly K (word_order_of (letters P S)) r.word_sum h.parts.sum.decreasing) h.parts.sum.words)
+        (law P S H (monic_elements P H b B) members r.word_sum
+            (IsDecreasing_IsPoly K (word_order_of (letters P S)) r.word_sum h.parts.sum.decreasing) h.parts.sum.words)
         (congruent_trans K F' O.places P.ideal (minus K t.value e) (minus K (V ++ e) e) V
-        (congruent_plus K F' O.places P.ideal t.value (V ++ e) (negated K e) (negated K e) h.parts.equal (congruent_refl K F' O.places P.ideal (negated K e)))
+        (congruent_plus K F' O.places P.ideal t.value (V ++ e) (negated K e) (negated K e) h.parts.equal
+            (congruent_refl K F' O.places P.ideal (negated K e)))
         (congruent_same K F' O.places P.ideal (minus K (V ++ e) e) V (less_end K F' V e)))
 
     -- what is left leads no member
-    no_lead : LeadsAreKnown E → ForClosedBases E (λ P S _ c. LeadsAreExactly P S c) → QuotientsDecide E → IsWithin P c S t.value →
+    no_lead : LeadsAreKnown E → ForClosedBases E (λ P S _ c. LeadsAreExactly P S c) → QuotientsDecide E →
+        IsWithin P c S t.value →
         (m : Exponents) → coefficient K r.rest.value m ≢ K.zero → LeadsSubalgebra P m → ⊥
     no_lead leads all decide within m n l =
         let generated = (h.parts.reduced m n).1 in
@@ -71,7 +78,8 @@ module _ {F E : Type 0} (P : Presented E) (H : IsPresentation P) (b : BasisState
         generated ((leads P S c H R m (omega arith)).0 l).1)
         (λ closed. generated ((all P S c (O.degree m) H (decided decide) R closed m (omega arith)).0 l).1) within
 
-    pub is_remainder : ForMonicMembers E SumsOfSWordsAreMembers → LeadsAreKnown E → ForClosedBases E (λ P S _ c. LeadsAreExactly P S c) → QuotientsDecide E →
+    pub is_remainder : ForMonicMembers E SumsOfSWordsAreMembers → LeadsAreKnown E →
+        ForClosedBases E (λ P S _ c. LeadsAreExactly P S c) → QuotientsDecide E →
         IsWithin P c S t.value → IsSubductionRemainder P t.value r.rest.value
     is_remainder words leads all decide within = record {
       poly = h.parts.poly;

@@ -7,7 +7,6 @@ use Rattle.monomial_order.specs.declared.terms.Term.{Term}
 use Rattle.monomial_order.specs.Limits.{degree_max, exponent_max}
 use Rattle.monomial_order.specs.Monomial.{Exponents, IsMonomial, IsMultiple, weighted_degree}
 use Rattle.monomial_order.specs.MonomialOrder.{MonomialOrder, IsMonomialOrder}
-use Rattle.monomial_order.specs.laws.Comparing.{degree_falls, equal_or_not}
 use Rattle.monomial_order.specs.laws.Rank.{rank, rank_falls}
 use Rattle.std.proofs.lemmas.List.{length-map}
 use Rattle.word_laws.specs.Words.{image_of, variables, AreLetters, IsLeast, IsSWord, word_order_of}
@@ -15,9 +14,8 @@ use Rattle.word_laws.specs.laws.Words.{degree_image, degree_x}
 use Rattle.word_laws.specs.laws.Images.{degree_weighted, length-variables}
 use Rattle.subalgebra_laws.specs.Statements.{ForMonicElements, ProductsAreImages}
 use Rattle.linked_terms.specs.Chain.{Chain}
-use Rattle.polynomials.specs.Polynomial.{Polynomial, coefficient, degree_of, lead_monomial, IsBelow, IsCanonical}
+use Rattle.polynomials.specs.Polynomial.{Polynomial, degree_of, lead_monomial, IsBelow, IsCanonical}
 use Rattle.polynomials.specs.Subalgebra.{Presented, IsGenerated, IsPresentation, IsStandard}
-use Rattle.polynomials.specs.laws.Coefficients.{decreasing_leads, nothing_at}
 use Rattle.polynomials.specs.laws.Terms.{canonical_right}
 use Rattle.subalgebra_laws.specs.Words.{letters}
 use Rattle.witness.specs.Tracking.{values_of}
@@ -26,6 +24,7 @@ use Rattle.toric_ideal.specs.Listing.{IsDecided}
 use Rattle.subduction.specs.Basis.{BasisState, IsBasisOf}
 use Rattle.subduction.specs.Subduced.{IsInReach}
 use Rattle.subduction.specs.Steps.{IsSubducing}
+use Rattle.subduction.specs.laws.Degrees.{degrees_to}
 use Rattle.subduction.proofs.Lists.{at_right}
 use Rattle.subduction.proofs.Elements.{degree_is, monic_elements, places_is, standard_not_zero}
 
@@ -59,12 +58,6 @@ module _ {E : Type 0} (P : Presented E) (H : IsPresentation P) where
   open P use {field as K, order as O}
   open H use {field as F', order as L}
 
-  pub degrees_to : (a : Polynomial E) → IsCanonical K O a → (m : Exponents) → coefficient K a m ≢ K.zero → O.degree m ≤ degree_of O a
-  degrees_to [] k m n = absurd (n (sym (nothing_at K m)))
-  degrees_to (t ∷ a) k m n =
-      ⊎_elim (λ e. let d = ap O.degree e in omega arith)
-      (λ ne. degree_falls O L m t.at ((decreasing_leads K F' O L (t ∷ a) k.decreasing (λ e. cc)).greatest m n ne)) (equal_or_not m t.at)
-
   module _ {F : Type 0} (b : BasisState F E) (B : IsBasisOf P b) (a : Polynomial E) (ka : IsCanonical K O a) (words done : Polynomial E) (t : Term E) (w : Polynomial E) (h : IsSubducing P (values_of b.elements) a words done (t ∷ w)) where
     abbrev S : List (Polynomial E)
     S = values_of b.elements
@@ -76,7 +69,7 @@ module _ {E : Type 0} (P : Presented E) (H : IsPresentation P) where
     term_degree =
         let Q = up_to (degree_of O a) in
         up_to_le (degree_of O a) (O.degree t.at)
-        (at_right (λ m. Q (O.degree m) ≡ true) done (t ∷ w) (h.degrees Q (λ m n. up_to_true (degree_of O a) (O.degree m) (degrees_to a ka m n))).0).0
+        (at_right (λ m. Q (O.degree m) ≡ true) done (t ∷ w) (h.degrees Q (λ m n. up_to_true (degree_of O a) (O.degree m) (degrees_to P H a ka m n))).0).0
 
     pub work_canonical : IsCanonical K O (t ∷ w)
     work_canonical = canonical_right K O done (t ∷ w) h.canonical

@@ -4,9 +4,8 @@ use Rattle.std.specs.Prelude.{nat_eq}
 use Rattle.std.proofs.lemmas.Bool.{eqb-true, eq-eqb}
 use Rattle.word_field.specs.Field.{FieldOps, IsField}
 use Rattle.monomial_order.specs.Monomial.{Exponents}
-use Rattle.monomial_order.specs.MonomialOrder.{MonomialOrder, IsMonomialOrder}
-use Rattle.word_laws.specs.Words.{word_order_of, AreLetters, IsSWord}
-use Rattle.word_laws.specs.laws.Words.{word_laws}
+use Rattle.monomial_order.specs.MonomialOrder.{MonomialOrder}
+use Rattle.word_laws.specs.Words.{word_order_of, IsSWord}
 use Rattle.polynomials.specs.Polynomial.{Polynomial, coefficient, degree_of, minus, negated, AllAt, IsCanonical, IsPoly, IsSmall, Same}
 use Rattle.polynomials.specs.Ideal.{Congruent}
 use Rattle.polynomials.specs.Value.{value}
@@ -28,10 +27,10 @@ use Rattle.witness.specs.Tracking.{by_order, values_of, HasDegreesUpTo, IsGraded
 use Rattle.subduction.specs.Basis.{BasisState, IsBasisOf}
 use Rattle.subduction.specs.Steps.{IsIrreducibleWord, IsSubducing}
 use Rattle.subduction.specs.Subduced.{witness_sum, CanSubduce, IsSubduced}
-use Rattle.subduction.specs.laws.WitnessWords.{s_word_degree, s_word_monomial, witness_value}
-use Rattle.subduction.specs.laws.Elements.{leads_monomials}
+use Rattle.subduction.specs.laws.Degrees.{degrees_to, letters_laws, moved_degree, moved_degrees}
+use Rattle.subduction.specs.laws.WitnessWords.{s_word_monomial, witness_value}
 use Rattle.subduction.proofs.Lists.{at_left}
-use Rattle.subduction.proofs.Loop.{degrees_to, up_to, up_to_le, up_to_true}
+use Rattle.subduction.proofs.Loop.{up_to, up_to_le, up_to_true}
 use Rattle.subduction.proofs.Steps.{finished}
 
 small_at : {E : Type 0} (O : MonomialOrder) (d : ℕ) (p : Polynomial E) → d ≤ 65535 → AllAt (λ m. up_to d (O.degree m) ≡ true) p → IsSmall O p
@@ -62,23 +61,13 @@ module _ {F E : Type 0} (P : Presented E) (H : IsPresentation P) (b : BasisState
   abbrev M : MonomialOrder
   M = word_order_of (letters P S)
 
-  M_laws : IsMonomialOrder M
-  M_laws = word_laws (letters P S) (subst AreLetters B.letters B.words.letters)
-
-  moved_degree : (w : Exponents) → IsSWord (letters P S) w → W.degree (Rattle.subduction.specs.Subduced.witness_word O.places (Rattle.std.proofs.Common.length fs) w) ≡ M.degree w
-  moved_degree = s_word_degree P H S b.by_order B.by_order (leads_monomials P H b B)
-
   moved_poly : (e : Polynomial E) → IsPoly K M.places e → AllAt (IsSWord (letters P S)) e → IsPoly K W.places (witness_sum P e)
   moved_poly [] h s = tt
   moved_poly (t ∷ e) h s = (record { monomial = s_word_monomial P H S b.by_order B.by_order t.at s.0; value = h.0.value }, moved_poly e h.1 s.1)
 
   moved_small : (e : Polynomial E) → IsSmall M e → AllAt (IsSWord (letters P S)) e → IsSmall W (witness_sum P e)
   moved_small [] h s = tt
-  moved_small (t ∷ e) h s = (subst (λ n. n ≤ 65535) (sym (moved_degree t.at s.0)) h.0, moved_small e h.1 s.1)
-
-  moved_graded : (d : ℕ) (e : Polynomial E) → AllAt (λ w. M.degree w ≡ d) e → AllAt (IsSWord (letters P S)) e → AllAt (λ m. W.degree m ≡ d) (witness_sum P e)
-  moved_graded d [] h s = tt
-  moved_graded d (t ∷ e) h s = (moved_degree t.at s.0 ∙ h.0, moved_graded d e h.1 s.1)
+  moved_small (t ∷ e) h s = (subst (λ n. n ≤ 65535) (sym (moved_degree P H b B t.at s.0)) h.0, moved_small e h.1 s.1)
 
   module _ (t : Tracked F E) (can : CanSubduce P b t) (a : Polynomial E) (n : IsNormalForm P t.value a) where
     -- a normal form has the degree of what it is of
@@ -99,7 +88,7 @@ module _ {F E : Type 0} (P : Presented E) (H : IsPresentation P) (b : BasisState
       module _ (e : Polynomial E) (ke : IsCanonical K M e) (same : Same K e words) where
         s_words : AllAt (IsSWord (letters P S)) e
         s_words =
-            decreasing_all K F' M M_laws (IsSWord (letters P S)) e ke.decreasing
+            decreasing_all K F' M (letters_laws P H b B) (IsSWord (letters P S)) e ke.decreasing
             (λ w k. (all_found K F' O L (IsIrreducibleWord P S) words h.irreducible w (λ z. k (same w ∙ z))).word)
 
         pub moved_is_poly : IsPoly K W.places (witness_sum P e)
@@ -145,7 +134,8 @@ module _ {F E : Type 0} (P : Presented E) (H : IsPresentation P) (b : BasisState
           by_graded d g gb m k =
               ⊎_elim (gb m)
               (all_found K F' O L (λ m. W.degree m ≡ d) (witness_sum P e)
-              (moved_graded d e (decreasing_all K F' M M_laws (λ w. M.degree w ≡ d) e ke.decreasing (sum_graded d g)) s_words) m)
+              (moved_degrees P H b B (λ n. n ≡ d) e
+              (decreasing_all K F' M (letters_laws P H b B) (λ w. M.degree w ≡ d) e ke.decreasing (sum_graded d g)) s_words) m)
               (minus_nonzero K F' t.by (witness_sum P e) m (λ z. k (eq m ∙ z)))
 
           tracks : Tracks P S t → Congruent K O.places P.ideal done (value K by (fs ++ S))

@@ -1,3 +1,4 @@
 -- Lemmas that proofs here and in the crates above cite.
 pub mod Elements
 pub mod WitnessWords
+pub mod Degrees

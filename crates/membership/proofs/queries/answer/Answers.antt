@@ -41,7 +41,8 @@ returns-in-None-clause-unchanged g c =
 pub returns-in-None-clause-answer : goal.returns-in-None-clause-answer
 returns-in-None-clause-answer g c =
     before c.args.c.now c.degree_beyond.new.c c.in_ok-d.ensures.unchanged
-    (λ p n ts. IfOk c.answer_within.result (IsAnswer (presented g.F.Field.ops g.O.Order.order p) n (values_of ts) c.args.a.now))
+    (λ p n ts. IfOk c.answer_within.result (IsAnswer (presented g.F.Field.ops g.O.Order.order p) n
+        (values_of ts) c.args.a.now))
     c.answer_within.ensures.answer
 
 pub returns-in-None-clause-later : goal.returns-in-None-clause-later

@@ -8,12 +8,14 @@ use Rattle.membership.proofs.queries.degree_beyond.Goals as goal
 pub returns-in_default-clause-within : goal.returns-in_default-clause-within
 returns-in_default-clause-within g c =
     let P = presented g.F.Field.ops g.O.Order.order c.args.c.now.presentation in
-    inl (zero_low P c.requires.completion.presentation.presentation c.args.a.now (c.in_default.ensures.zero.0 refl) c.args.c.now.degree)
+    inl (zero_low P c.requires.completion.presentation.presentation c.args.a.now
+        (c.in_default.ensures.zero.0 refl) c.args.c.now.degree)
 
 pub returns-in_default-clause-reach : goal.returns-in_default-clause-reach
 returns-in_default-clause-reach g c =
     let P = presented g.F.Field.ops g.O.Order.order c.args.c.now.presentation in
-    inl (zero_low P c.requires.completion.presentation.presentation c.args.a.now (c.in_default.ensures.zero.0 refl) c.args.c.now.basis.words.degree)
+    inl (zero_low P c.requires.completion.presentation.presentation c.args.a.now
+        (c.in_default.ensures.zero.0 refl) c.args.c.now.basis.words.degree)
 
 pub returns-then-degree-closed_degree-clause-within : goal.returns-then-degree-closed_degree-clause-within
 returns-then-degree-closed_degree-clause-within g c =
@@ -47,7 +49,8 @@ returns-clause-beyond g c =
     record {
       degree = e;
       above = omega arith;
-      not_closed = c.later_is_open.ensures P (values_of c.args.c.now.basis.elements) c.args.c.now.degree (c.in_ok-is_complete.ensures.no c.if-branch.false);
+      not_closed = c.later_is_open.ensures P (values_of c.args.c.now.basis.elements) c.args.c.now.degree
+          (c.in_ok-is_complete.ensures.no c.if-branch.false);
     }
 
 pub returns-clause-later : goal.returns-clause-later

@@ -13,7 +13,8 @@ pub expand-requires-clause-order : goal.expand-requires-clause-order
 expand-requires-clause-order g c = rw (c.elements.ensures, c.by_order-order.ensures) c.requires.basis.by_order
 
 pub expand-requires-clause-elements : goal.expand-requires-clause-elements
-expand-requires-clause-elements g c = rw (c.elements.ensures, c.by_order-order.ensures) (λ j z l. (c.requires.basis.elements j z l).tracked)
+expand-requires-clause-elements g c = rw (c.elements.ensures, c.by_order-order.ensures)
+    (λ j z l. (c.requires.basis.elements j z l).tracked)
 
 pub expand-requires-clause-small : goal.expand-requires-clause-small
 expand-requires-clause-small g c =
@@ -26,8 +27,10 @@ expand-requires-clause-small g c =
 pub returns-clause-poly : goal.returns-clause-poly
 returns-clause-poly g c =
     let P = presented g.F.Field.ops g.O.Order.order c.args.p.now in
-    subst (λ n. IsPoly P.field n c.in_ok-expansion.expansion) (gen_places g.F.Field.ops g.O.Order.order c.args.p.now c.requires.presentation)
-    (IsDecreasing_IsPoly P.field (by_order c.args.p.now.gen_order) c.in_ok-expansion.expansion c.in_ok-expansion.ensures.canonical.decreasing)
+    subst (λ n. IsPoly P.field n c.in_ok-expansion.expansion)
+        (gen_places g.F.Field.ops g.O.Order.order c.args.p.now c.requires.presentation)
+    (IsDecreasing_IsPoly P.field
+        (by_order c.args.p.now.gen_order) c.in_ok-expansion.expansion c.in_ok-expansion.ensures.canonical.decreasing)
 
 pub returns-clause-value : goal.returns-clause-value
 returns-clause-value g c =
