@@ -6,11 +6,11 @@ use Rattle.polynomials.specs.Value.{value}
 use Rattle.polynomials.specs.Subalgebra.{Presented, InSubalgebra}
 use Rattle.subalgebra_laws.specs.Bases.{IsClosedAt}
 use Rattle.subalgebra_laws.specs.Words.{IsSubductionRemainder}
-use Rattle.membership.specs.declared.answer.Reply.{Reply}
-use Rattle.membership.specs.declared.answer.Reply.TheVariants.{Beyond, Member, No}
+use Rattle.membership.specs.declared.reply.Reply.{Reply}
+use Rattle.membership.specs.declared.reply.Reply.TheVariants.{Beyond, Member, No}
 
 -- S is the reduced basis to the degree c, and a the query.
-module _ {F E : Type 0} (P : Presented E) (c : ℕ) (S : List (Polynomial E)) (a : Polynomial E) where
+module _ {E : Type 0} (P : Presented E) (c : ℕ) (S : List (Polynomial E)) (a : Polynomial E) where
   -- the degree of a is at most c, or nothing new comes after c
   abbrev pub IsWithin : Type 0
   IsWithin = (degree_of P.order a ≤ c) ⊎ IsClosedAt P c S
@@ -34,7 +34,8 @@ module _ {F E : Type 0} (P : Presented E) (c : ℕ) (S : List (Polynomial E)) (a
     pub remainder : IsSubductionRemainder P a r
     pub nonzero : r ≢ []
 
-  abbrev pub IsAnswer : Reply F E → Type 0
-  IsAnswer (Beyond d) = IsBeyond d
-  IsAnswer (Member h) = HasWitness h
-  IsAnswer (No r) = HasRemainder r
+-- what is answered about a
+abbrev pub IsAnswer : {F E : Type 0} → Presented E → ℕ → List (Polynomial E) → Polynomial E → Reply F E → Type 0
+IsAnswer P c S a (Beyond d) = IsBeyond P c S a d
+IsAnswer P c S a (Member h) = HasWitness P c S a h
+IsAnswer P c S a (No r) = HasRemainder P c S a r

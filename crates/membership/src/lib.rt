@@ -1,6 +1,8 @@
 //! Whether polynomials are in a subalgebra.
 #![tactic(auto)]
 
-mod answer;
+mod queries;
+mod reply;
 
-pub use answer::{Reply, answer};
+pub use queries::answer;
+pub use reply::Reply;

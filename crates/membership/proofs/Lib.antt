@@ -1,0 +1,4 @@
+mod Remainders
+mod Expansions
+mod Reach
+mod Answering
