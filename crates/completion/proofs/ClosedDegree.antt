@@ -11,7 +11,7 @@ use Rattle.word_laws.specs.Words.{word_order_of, Letters, AreLetters}
 use Rattle.word_laws.specs.laws.Words.{word_laws}
 use Rattle.polynomials.specs.Polynomial.{Polynomial, coefficient, degree_of, lead_monomial, IsHomogeneous, IsPoly}
 use Rattle.polynomials.specs.Subalgebra.{Presented, IsPresentation, HasDegreesTo, IsDecidedTo, IsGenerated, IsReducedBasis}
-use Rattle.polynomials.specs.laws.ReducedBasis.{map_contains}
+use Rattle.monomial_order.specs.laws.Lists.{map_contains}
 use Rattle.quotient_gb.specs.Quotient.{QuotientState, IsQuotientOf}
 use Rattle.subalgebra_laws.specs.Bases.{AreMonicElements, AreStandardAfter, HasCombinationsAt, HaveLeadsFrom}
 use Rattle.subalgebra_laws.specs.Statements.{CongruentAreCombinations, ElementsAreCombinations, EndsCanBeExchanged, ForMonicElements, ForNewElements, ForNextElements, ForStandardElements, MinimalWordsStay, MultiplesAreCombinations, NextBasisIsReduced, ProductsSplit, SumsAreCombinations, SumsStay, ValuesStay}
@@ -28,7 +28,7 @@ use Rattle.completion.specs.declared.relations.Relation.{Relation}
 use Rattle.completion.specs.Candidates.{IsGeneratorAt}
 use Rattle.completion.specs.Closing.{relations_of, AreSides, CanRelate}
 use Rattle.completion.specs.Completion.{pending_of, CompletionState, AreKept, AreShortAbove, IsAtDegree, IsInDegree}
-use Rattle.completion.specs.Relations.{IsRightSide}
+use Rattle.tete_lift.specs.Lifting.{IsRightSide}
 use Rattle.completion.proofs.Combining.{exchanged}
 use Rattle.completion.proofs.LastElements.{checked, homogeneous, last_degree, next_to, standard_after, values_are}
 use Rattle.completion.proofs.LongerWords.{right_stays, same_degree}

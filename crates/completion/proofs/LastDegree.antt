@@ -8,7 +8,7 @@ use Rattle.monomial_order.specs.laws.Lists.{contains_at, contains_either, contai
 use Rattle.word_laws.specs.Words.{Letters}
 use Rattle.polynomials.specs.Polynomial.{Polynomial, degree_of, lead_monomial}
 use Rattle.polynomials.specs.Subalgebra.{Presented, IsPresentation}
-use Rattle.polynomials.specs.laws.ReducedBasis.{map_contains}
+use Rattle.monomial_order.specs.laws.Lists.{map_contains}
 use Rattle.witness.specs.declared.tracked.Tracked.{Tracked}
 use Rattle.witness.specs.Tracking.{values_of}
 use Rattle.word_values.specs.Values.{Table, AreHomogeneousElements, AreValues, AreWordsTo}

@@ -10,7 +10,7 @@ use Rattle.monomial_order.specs.laws.Lists.{contains_map, contains_right}
 use Rattle.word_laws.specs.Words.{Letters}
 use Rattle.polynomials.specs.Polynomial.{Polynomial, coefficient, degree_of, lead_monomial}
 use Rattle.polynomials.specs.Subalgebra.{Presented, IsPresentation, InSubalgebra, IsGenerated}
-use Rattle.polynomials.specs.laws.ReducedBasis.{map_contains}
+use Rattle.monomial_order.specs.laws.Lists.{map_contains}
 use Rattle.subalgebra_laws.specs.Bases.{AreAfter, AreMonicElements, AreNextTo, AreReducedByEachOther, AreStandardAfter, HaveLeadsFrom, IsCheckedElement}
 use Rattle.subalgebra_laws.specs.Statements.{ProductsSplit}
 use Rattle.witness.specs.declared.tracked.Tracked.{Tracked}

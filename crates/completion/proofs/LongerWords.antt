@@ -20,7 +20,7 @@ use Rattle.subalgebra_laws.specs.Words.{combination_value, letters, word_value}
 use Rattle.subalgebra_laws.specs.laws.Fronts.{decreasing_over}
 use Rattle.subalgebra_laws.specs.laws.Letters.{degree_stays, letter_degrees, word_grows}
 use Rattle.word_values.specs.Values.{word_degree}
-use Rattle.completion.specs.Relations.{IsRightSide}
+use Rattle.tete_lift.specs.Lifting.{IsRightSide}
 
 -- orders of words with more letters at the end
 module _ (xs ss es : List ℕ) where

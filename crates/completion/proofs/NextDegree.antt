@@ -17,7 +17,8 @@ use Rattle.completion.specs.declared.candidates.Candidate.TheVariants.{Generator
 use Rattle.completion.specs.declared.candidates.Found.{Found}
 use Rattle.completion.specs.Candidates.{AreCandidates, AreWordsAt, IsCandidate, IsGeneratorAt}
 use Rattle.completion.specs.Completion.{CompletionState, IsStanding}
-use Rattle.completion.specs.Relations.{AreRelations, IsRightSide}
+use Rattle.completion.specs.Relations.{AreRelations}
+use Rattle.tete_lift.specs.Lifting.{IsRightSide}
 use Rattle.completion.proofs.Kept.{parts_at_degree}
 
 range_has : (n j : ℕ) → j < n → Contains (range_with_len 0 n) j

@@ -11,14 +11,15 @@ use Rattle.monomial_order.specs.laws.Lists.{contains_either, contains_here, cont
 use Rattle.word_laws.specs.Words.{word_order_of, IsWord}
 use Rattle.polynomials.specs.Polynomial.{Polynomial}
 use Rattle.polynomials.specs.Subalgebra.{Presented, IsPresentation}
-use Rattle.polynomials.specs.laws.ReducedBasis.{map_contains}
+use Rattle.monomial_order.specs.laws.Lists.{map_contains}
 use Rattle.subalgebra_laws.specs.Bases.{AreStandardAfter}
 use Rattle.subalgebra_laws.specs.Statements.{ForNewElements, ForStandardElements, MinimalWordsStay, SumsStay, ValuesStay}
 use Rattle.subalgebra_laws.specs.Words.{letters, IsMinimalWord}
 use Rattle.word_values.specs.Values.{word_degree}
 use Rattle.completion.specs.declared.relations.Relation.{Relation}
 use Rattle.completion.specs.Candidates.{AreWordsAt}
-use Rattle.completion.specs.Relations.{AreRelations, IsRightSide}
+use Rattle.completion.specs.Relations.{AreRelations}
+use Rattle.tete_lift.specs.Lifting.{IsRightSide}
 use Rattle.completion.proofs.LongerWords.{right_stays, same_compare, same_degree}
 use Rattle.completion.proofs.Parts.{all_members}
 

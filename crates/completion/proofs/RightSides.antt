@@ -13,7 +13,8 @@ use Rattle.polynomials.specs.Ideal.{Congruent}
 use Rattle.polynomials.specs.Subalgebra.{Presented, IsPresentation}
 use Rattle.polynomials.specs.laws.Decreasing.{IsDecreasing_IsPoly}
 use Rattle.polynomials.specs.laws.Degrees.{all_found}
-use Rattle.polynomials.specs.laws.ReducedBasis.{degree_one, map_contains}
+use Rattle.monomial_order.specs.laws.Comparing.{degree_one}
+use Rattle.monomial_order.specs.laws.Lists.{map_contains}
 use Rattle.subalgebra_laws.specs.Statements.{SumsWithoutNewLettersStay, ValuesStay}
 use Rattle.subalgebra_laws.specs.Words.{combination_value, letters, word_value}
 use Rattle.subalgebra_laws.specs.laws.Letters.{degree_stays, places_letters, places_x}
@@ -23,7 +24,7 @@ use Rattle.witness.specs.Tracking.{values_of}
 use Rattle.word_values.specs.Values.{word_degree}
 use Rattle.subduction.specs.Basis.{BasisState, AreInParts, IsBasisOf}
 use Rattle.subduction.specs.laws.Elements.{homogeneous_elements, leads_monomials}
-use Rattle.completion.specs.Relations.{IsRightSide}
+use Rattle.tete_lift.specs.Lifting.{IsRightSide}
 use Rattle.completion.proofs.Inserting.{values_grown}
 
 -- what holds of as many members as there are holds of all

@@ -8,7 +8,7 @@ use Rattle.polynomials.specs.Subalgebra.{Presented}
 use Rattle.completion.specs.declared.candidates.Found.{Found}
 use Rattle.completion.specs.declared.relations.Relation.{Relation}
 use Rattle.completion.specs.Closing.{relations_of, AreSides}
-use Rattle.completion.specs.Relations.{IsRightSide}
+use Rattle.tete_lift.specs.Lifting.{IsRightSide}
 use Rattle.completion.proofs.Parts.{all_members}
 
 module _ {F E : Type 0} (P : Presented E) (S : List (Polynomial E)) where

@@ -12,7 +12,7 @@ use Rattle.monomial_order.specs.laws.Lists.{contains_at, contains_either, contai
 use Rattle.word_laws.specs.Words.{IsWord, Letters}
 use Rattle.polynomials.specs.Polynomial.{Polynomial, coefficient, degree_of, lead_monomial}
 use Rattle.polynomials.specs.Subalgebra.{Presented, IsPresentation, AllIn, IsGenerated}
-use Rattle.polynomials.specs.laws.ReducedBasis.{map_contains}
+use Rattle.monomial_order.specs.laws.Lists.{map_contains}
 use Rattle.quotient_gb.specs.Quotient.{closing_max, QuotientState}
 use Rattle.subalgebra_laws.specs.Bases.{AreMonicElements, AreStandardAfter}
 use Rattle.subalgebra_laws.specs.Statements.{ForStandardElements, MinimalWordsStay, ValuesStay}
@@ -29,7 +29,7 @@ use Rattle.completion.specs.declared.candidates.Candidate.TheVariants.{Generator
 use Rattle.completion.specs.declared.candidates.Found.{Found}
 use Rattle.completion.specs.Candidates.{IsCandidate, IsGeneratorAt}
 use Rattle.completion.specs.Completion.{elements_of, pending_of, AreKept, AreShortAbove, CompletionState, IsGrown, IsInDegree, IsStanding}
-use Rattle.completion.specs.Relations.{IsRightSide}
+use Rattle.tete_lift.specs.Lifting.{IsRightSide}
 use Rattle.completion.specs.Taking.{IsTreated}
 use Rattle.completion.proofs.Inserting.{values_grown}
 use Rattle.completion.proofs.WordDegrees.{word_value_graded, word_value_poly}

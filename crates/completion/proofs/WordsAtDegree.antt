@@ -14,7 +14,7 @@ use Rattle.word_laws.specs.Words.{Letters, word_order_of, AreLetters}
 use Rattle.word_laws.specs.laws.Words.{word_laws}
 use Rattle.polynomials.specs.Polynomial.{Polynomial}
 use Rattle.polynomials.specs.Subalgebra.{Presented, IsPresentation}
-use Rattle.polynomials.specs.laws.ReducedBasis.{map_contains}
+use Rattle.monomial_order.specs.laws.Lists.{map_contains}
 use Rattle.toric_ideal.specs.declared.rule.Rule.{Rule}
 use Rattle.toric_ideal.specs.Listing.{AreRules, IsListing, Listing}
 use Rattle.subalgebra_laws.specs.Statements.{ForMonicElements}
@@ -86,7 +86,7 @@ module _ (W : Listing) (I : IsListing W) where
   pub lower_before : (k i : ℕ) (r : Rule) → suc i ≡ k → k ≤ length W.rules → get_or W.rules i r ≡ r → IsLower W r → All (IsLower W) (take k W.rules)
   lower_before k i r e l s h j x m =
       let c : Contains (take (suc i) W.rules) (get_or (take k W.rules) j x) =
-          subst (λ n. Contains (take n W.rules) (get_or (take k W.rules) j x)) (sym e) (contains_at (take k W.rules) j x m) in
+      subst (λ n. Contains (take n W.rules) (get_or (take k W.rules) j x)) (sym e) (contains_at (take k W.rules) j x m) in
       let a = degrees_before O (λ (r : Rule). r.word) laws i W.rules r I.rules.increasing (omega arith) (get_or (take k W.rules) j x) c in
       let b : O.degree (get_or W.rules i r).word ≡ O.degree r.word = ap (λ (r : Rule). O.degree r.word) s in
       omega arith

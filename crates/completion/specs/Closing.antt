@@ -7,7 +7,7 @@ use Rattle.subalgebra_laws.specs.Words.{letters, word_value, IsCombination}
 use Rattle.word_values.specs.Values.{word_degree}
 use Rattle.completion.specs.declared.candidates.Found.{Found}
 use Rattle.completion.specs.declared.relations.Relation.{Relation}
-use Rattle.completion.specs.Relations.{IsRightSide}
+use Rattle.tete_lift.specs.Lifting.{IsRightSide}
 
 -- the relations of words with these right sides where they have none
 abbrev pub relations_of : {F E : Type 0} → List (Found F E) → List (Polynomial E) → List (Relation F E)

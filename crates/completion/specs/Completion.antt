@@ -20,7 +20,8 @@ use Rattle.completion.specs.declared.candidates.Candidate.TheVariants.{Generator
 use Rattle.completion.specs.declared.candidates.Found.{Found}
 use Rattle.completion.specs.declared.relations.Relation.{Relation}
 use Rattle.completion.specs.Candidates.{AreWordsAt, IsCandidate, IsGeneratorAt}
-use Rattle.completion.specs.Relations.{AreRelations, IsRightSide}
+use Rattle.completion.specs.Relations.{AreRelations}
+use Rattle.tete_lift.specs.Lifting.{IsRightSide}
 
 -- The presentation, the basis with the values of words that are kept, the relations, the closed degree, whether the next
 -- degree is begun, its candidates, and its words. Elements to the degree `read` came from outside. Kept words have a

@@ -6,7 +6,7 @@ ghost use Rattle.witness.specs.Tracking.{values_of};
 ghost use Rattle.word_values.specs.Values.{AreValues, AreWordsTo};
 ghost use Rattle.subduction.specs.Basis.{AreInParts, AreSettled, AreShortAt, IsBasisOf};
 ghost use Rattle.completion.specs.Closing.{relations_of, AreSides, CanRelate};
-ghost use Rattle.completion.specs.Relations.{IsRightSide};
+ghost use Rattle.tete_lift.specs.Lifting.{IsRightSide};
 
 use crate::completion::BOUND_MAX;
 use crate::{Found, Relation};

@@ -13,9 +13,9 @@ ghost use Rattle.completion.specs.Report.{IsReport};
 ghost use Rattle.completion.specs.Taking.{IsTreated};
 ghost use Rattle.subduction.specs.Subduced.{CanSubduce, IsSubduced};
 
-use crate::insertion::{insert_found, insert_generator};
-use crate::closing::{made_sides, push_relations, settle_last};
 use crate::candidates::{queue_candidates, words_at};
+use crate::closing::{made_sides, push_relations, settle_last};
+use crate::insertion::{insert_found, insert_generator};
 use crate::later::has_nothing_later;
 use crate::report::report_on;
 use crate::{Candidate, Found, Pick, Relation};

@@ -11,7 +11,7 @@ ghost use Rattle.word_values.specs.Values.{word_degree, AreValues, AreWordsTo, T
 ghost use Rattle.subduction.specs.Basis.{AreInParts, AreShortAt, IsBasisOf, IsNewElement};
 ghost use Rattle.completion.specs.Candidates.{IsGeneratorAt};
 ghost use Rattle.completion.specs.Completion.{IsGrown};
-ghost use Rattle.completion.specs.Relations.{IsRightSide};
+ghost use Rattle.tete_lift.specs.Lifting.{IsRightSide};
 
 use crate::Found;
 use crate::right_sides::lower_right_side;

@@ -1,8 +1,7 @@
 use Rattle.std.proofs.Common.{sym, ◌∙◌, subst, arith}
 use Rattle.poly_core.specs.Presentation.{presented}
 use Rattle.witness.specs.Tracking.{values_of}
-use Rattle.tete_lift.specs.Lifting.{IsLifted, IsRelation}
-use Rattle.completion.specs.Relations.{IsRightSide}
+use Rattle.tete_lift.specs.Lifting.{IsLifted, IsRightSide}
 use Rattle.completion.proofs.Sides.{side_made}
 use Rattle.completion.proofs.closing.made_side.Goals as goal
 
@@ -17,6 +16,6 @@ returns-clause-side g c =
     let P = presented g.F.Field.ops g.O.Order.order c.args.p.now in
     let b = c.args.basis.now in
     let u = c.args.f.now.word in
-    let R : IsRelation P b u c.in-Relation.side = subst (IsLifted P b u) c.in-Relation.is c.in_ok-side.ensures.lifted in
+    let R : IsRightSide P (values_of b.elements) u c.in-Relation.side = subst (IsLifted P b u) c.in-Relation.is c.in_ok-side.ensures.lifted in
     side_made (IsRightSide P (values_of b.elements) u) c.args.f.now.right c.in-Relation.side (sym c.is_some.ensures ∙ c.if-is_some.false)
-    (record { sum = R.sum; canonical = R.canonical; graded = R.graded; equal = R.equal })
+    R

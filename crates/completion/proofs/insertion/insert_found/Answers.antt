@@ -10,7 +10,7 @@ use Rattle.word_values.specs.Values.{word_degree, AreValues, AreWordsTo, Table}
 use Rattle.subduction.specs.Basis.{AreInParts, AreShortAt, IsBasisOf, IsNewElement}
 use Rattle.completion.specs.Candidates.{IsGeneratorAt}
 use Rattle.completion.specs.Completion.{IsGrown}
-use Rattle.completion.specs.Relations.{IsRightSide}
+use Rattle.tete_lift.specs.Lifting.{IsRightSide}
 use Rattle.completion.proofs.insertion.insert_found.Goals as goal
 
 -- src/insertion.rt:143:1
