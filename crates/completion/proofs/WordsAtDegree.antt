@@ -86,7 +86,7 @@ module _ (W : Listing) (I : IsListing W) where
   pub lower_before : (k i : ℕ) (r : Rule) → suc i ≡ k → k ≤ length W.rules → get_or W.rules i r ≡ r → IsLower W r → All (IsLower W) (take k W.rules)
   lower_before k i r e l s h j x m =
       let c : Contains (take (suc i) W.rules) (get_or (take k W.rules) j x) =
-          subst (λ n. Contains (take n W.rules) (get_or (take k W.rules) j x)) (sym e) (contains_at (take k W.rules) j x m) in
+      subst (λ n. Contains (take n W.rules) (get_or (take k W.rules) j x)) (sym e) (contains_at (take k W.rules) j x m) in
       let a = degrees_before O (λ (r : Rule). r.word) laws i W.rules r I.rules.increasing (omega arith) (get_or (take k W.rules) j x) c in
       let b : O.degree (get_or W.rules i r).word ≡ O.degree r.word = ap (λ (r : Rule). O.degree r.word) s in
       omega arith

@@ -75,11 +75,7 @@ fn count_x(words: &Words) -> usize
 }
 
 /// Copies of the words of rules that have none of the first letters, so many, without right sides.
-fn s_words<F: Field>(
-    alloc: Global,
-    count: usize,
-    rules: &[Rule],
-) -> Result<Vec<Found<F>>, Memory>
+fn s_words<F: Field>(alloc: Global, count: usize, rules: &[Rule]) -> Result<Vec<Found<F>>, Memory>
     ensures words { IfOk result (λ v. map (λ f. f.word) v.items
         ≡ map (λ r. r.word) (filter (λ r. nat_eq (sum (take count r.word)) 0) rules.now)) }
     ensures rights { IfOk result (λ v. All (λ f. f.right ≡ None) v.items) }

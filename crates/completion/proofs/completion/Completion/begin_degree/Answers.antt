@@ -129,9 +129,9 @@ returns-in_err-queue_candidates-clause-completion g c =
     let q1 : c.extend_to.new.self.quotient.degree ≡ max c.self.inside.basis.quotient.degree (c.self.inside.degree + 1) = c.in_ok-extend_to.ensures.quotient in
     let w1 : c.extend_to.new.self.words.degree ≡ max c.self.inside.basis.words.degree (c.self.inside.degree + 1) = c.in_ok-extend_to.ensures.words in
     let others : SameElsewhere (suc c.self.inside.degree) c.self.inside.queue c.queue_candidates.new.queue =
-        subst (λ n. SameElsewhere n c.self.inside.queue c.queue_candidates.new.queue) one c.queue_candidates.ensures.others in
+    subst (λ n. SameElsewhere n c.self.inside.queue c.queue_candidates.new.queue) one c.queue_candidates.ensures.others in
     let none : list_of c.queue_candidates.new.queue (suc c.self.inside.degree) ≡ [] =
-        subst (λ n. list_of c.queue_candidates.new.queue n ≡ []) one c.in_err-queue_candidates.ensures.none in
+    subst (λ n. list_of c.queue_candidates.new.queue n ≡ []) one c.in_err-queue_candidates.ensures.none in
     record {
       presentation = C.presentation;
       standing = further_standing P _ C.standing closed c.extend_to.new.self c.extend_to.ensures.basis c.extend_to.ensures.elements (omega arith)
@@ -154,7 +154,7 @@ returns-in_err-queue_candidates-clause-memory g c =
     let q0 : c.self.inside.basis.quotient.degree ≤ suc c.self.inside.degree = A.quotient in
     let w0 : c.self.inside.basis.words.degree ≤ suc c.self.inside.degree = A.words.1 in
     let none : list_of c.queue_candidates.new.queue (suc c.self.inside.degree) ≡ [] =
-        subst (λ n. list_of c.queue_candidates.new.queue n ≡ []) one c.in_err-queue_candidates.ensures.none in
+    subst (λ n. list_of c.queue_candidates.new.queue n ≡ []) one c.in_err-queue_candidates.ensures.none in
     on_err _ _ (unchanged_moved _ _ _ c.self.view_is (record {
       presentation = refl;
       degree = refl;
@@ -178,7 +178,7 @@ returns-clause-completion g c =
     let q1 : c.extend_to.new.self.quotient.degree ≡ max c.self.inside.basis.quotient.degree (c.self.inside.degree + 1) = c.in_ok-extend_to.ensures.quotient in
     let w1 : c.extend_to.new.self.words.degree ≡ max c.self.inside.basis.words.degree (c.self.inside.degree + 1) = c.in_ok-extend_to.ensures.words in
     let others : SameElsewhere (suc c.self.inside.degree) c.self.inside.queue c.queue_candidates.new.queue =
-        subst (λ n. SameElsewhere n c.self.inside.queue c.queue_candidates.new.queue) one c.queue_candidates.ensures.others in
+    subst (λ n. SameElsewhere n c.self.inside.queue c.queue_candidates.new.queue) one c.queue_candidates.ensures.others in
     let some = subst (λ n. AreCandidates P (c.self.inside.degree + 1) n (list_of c.queue_candidates.new.queue (c.self.inside.degree + 1))) (ap length c.as_slice-count.ensures.value) c.in_ok-queue_candidates.ensures.candidates in
     let all = subst (λ n. AreCandidates P n (length c.in_ok-found.found.items) (list_of c.queue_candidates.new.queue n)) one some in
     record {
@@ -194,7 +194,7 @@ returns-clause-candidates g c =
     let some = subst (λ n. AreCandidates P (c.self.inside.degree + 1) n (list_of c.queue_candidates.new.queue (c.self.inside.degree + 1))) (ap length c.as_slice-count.ensures.value) c.in_ok-queue_candidates.ensures.candidates in
     let all = subst (λ n. AreCandidates P n (length c.in_ok-found.found.items) (list_of c.queue_candidates.new.queue n)) one some in
     subst (λ s. AreCandidates (presented g.F.Field.ops g.O.Order.order s.presentation) (suc s.degree) (length c.in_ok-found.found.items)
-        (list_of c.queue_candidates.new.queue (suc c.self.inside.degree))) c.self.view_is all
+    (list_of c.queue_candidates.new.queue (suc c.self.inside.degree))) c.self.view_is all
 
 pub returns-clause-kept : goal.returns-clause-kept
 returns-clause-kept g c =
