@@ -1,5 +1,5 @@
 -- A degree that begins.
-use Rattle.std.proofs.Common.{◌≡◌, ℕ, suc, ◌+◌, ◌<◌, ◌≤◌, sym, ◌∙◌, ap, subst, List, [], ◌++◌, length, true, false, arith, inl, get_or}
+use Rattle.std.proofs.Common.{◌≡◌, ℕ, suc, ◌+◌, ◌<◌, ◌≤◌, sym, ◌∙◌, subst, List, [], length, true, false, arith, inl, get_or}
 use Rattle.std.specs.Prelude.{map, All, Contains, None, IfSome}
 use Rattle.std.specs.List.{range_with_len}
 use Rattle.std.proofs.lemmas.List.Elements.{All-append, All-map, All-weaker}

@@ -1,5 +1,5 @@
 -- Candidates in a queue.
-use Rattle.std.proofs.Common.{◌≡◌, ℕ, suc, ◌+◌, ◌<◌, ◌≤◌, refl, sym, ◌∙◌, ap, subst, List, [], ◌∷◌, ◌++◌, length, get_or, arith, append-nil, ◌⊎◌, ⊎_elim}
+use Rattle.std.proofs.Common.{◌≡◌, ℕ, ◌+◌, ◌<◌, sym, ◌∙◌, ap, subst, List, [], ◌∷◌, ◌++◌, length, get_or, arith, append-nil, ⊎_elim}
 use Rattle.std.specs.Prelude.{map, AllPairs, Contains, ◌↔◌}
 use Rattle.std.specs.List.{range_with_len}
 use Rattle.std.proofs.lemmas.List.{map-append}
@@ -7,7 +7,7 @@ use Rattle.std.proofs.lemmas.List.Elements.{Contains-push, Contains-push_cases}
 use Rattle.std.proofs.lemmas.List.Quantifiers.{all_pairs_push}
 use Rattle.monomial_order.specs.laws.Comparing.{numbers_or_not}
 use Rattle.monomial_order.specs.laws.Lists.{contains_at, contains_left, contains_none}
-use Rattle.word_field.specs.Field.{FieldOps, IsField}
+use Rattle.word_field.specs.Field.{FieldOps}
 use Rattle.monomial_order.specs.MonomialOrder.{MonomialOrder}
 use Rattle.polynomials.specs.Polynomial.{Polynomial, coefficient, IsDegree, IsHomogeneous}
 use Rattle.polynomials.specs.Subalgebra.{Presented}

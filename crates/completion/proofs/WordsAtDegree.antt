@@ -1,5 +1,5 @@
 -- The minimal reducible s-words of the degree of the words are at the end of the rules.
-use Rattle.std.proofs.Common.{◌≡◌, ℕ, zero, suc, ◌+◌, ◌<◌, ◌≤◌, ◌-◌, refl, sym, ◌∙◌, ap, subst, List, [], ◌∷◌, ◌++◌, length, take, drop, sum, Bool, true, false, cond, get_or, drop-cons, arith, ⊎_elim}
+use Rattle.std.proofs.Common.{◌≡◌, ℕ, zero, suc, ◌<◌, ◌≤◌, refl, sym, ◌∙◌, ap, subst, List, [], ◌∷◌, ◌++◌, length, take, drop, sum, Bool, true, false, cond, get_or, drop-cons, arith, ⊎_elim}
 use Rattle.std.specs.Prelude.{map, filter, nat_eq, Contains, All}
 use Rattle.std.proofs.lemmas.List.{take-append-drop}
 use Rattle.std.proofs.lemmas.Bool.{eq-eqb, eqb-true}

@@ -1,4 +1,4 @@
-use Rattle.std.proofs.Common.{◌≡◌, ◌∙◌, length, sym, ap, subst, refl, [], true, false}
+use Rattle.std.proofs.Common.{◌≡◌, length, sym, subst, refl, [], true, false}
 use Rattle.std.proofs.lemmas.Bool.{eq-eqb, eqb-true}
 use Rattle.std.proofs.lemmas.List.{get_or_read_under}
 use Rattle.polynomials.specs.Polynomial.{IsHomogeneous}

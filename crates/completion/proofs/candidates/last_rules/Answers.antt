@@ -1,5 +1,4 @@
-use Rattle.std.proofs.Common.{◌≡◌, ◌<◌, ◌≤◌, ◌-◌, suc, length, sym, ap, arith}
-use Rattle.word_laws.specs.Words.{word_order_of}
+use Rattle.std.proofs.Common.{◌≡◌, ◌<◌, ◌-◌, suc, length, ap, arith}
 use Rattle.completion.proofs.WordsAtDegree.{at_rule, is_rule, lower_before, one_more}
 use Rattle.completion.proofs.candidates.last_rules.Goals as goal
 

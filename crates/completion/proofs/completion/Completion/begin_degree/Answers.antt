@@ -1,4 +1,4 @@
-use Rattle.std.proofs.Common.{◌≡◌, ◌<◌, ◌≤◌, ◌+◌, ◌∙◌, ℕ, suc, max, length, refl, sym, ap, subst, [], false, arith, ⊎_elim}
+use Rattle.std.proofs.Common.{◌≡◌, ◌<◌, ◌≤◌, ◌+◌, ◌∙◌, suc, max, length, refl, sym, ap, subst, [], false, arith, ⊎_elim}
 use Rattle.degree_queue.specs.DegreeQueue.{list_of, SameElsewhere}
 use Rattle.poly_core.specs.Presentation.{presented}
 use Rattle.toric_ideal.specs.Listing.{Listing}

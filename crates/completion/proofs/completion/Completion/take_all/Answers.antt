@@ -1,5 +1,8 @@
-use Rattle.std.proofs.Common.{◌∙◌, refl, arith}
+use Rattle.std.proofs.Common.{◌≡◌, ◌+◌, ◌<◌, ◌∙◌, ℕ, length, ap, refl, arith}
+use Rattle.std.specs.Prelude.{remove}
+use Rattle.std.proofs.lemmas.List.Edits.{length-remove}
 use Rattle.poly_core.specs.Presentation.{presented}
+use Rattle.completion.specs.Completion.{pending_of}
 use Rattle.completion.proofs.Kept.{kept_after, kept_itself}
 use Rattle.completion.proofs.completion.Completion.take_all.Goals as goal
 
@@ -25,5 +28,10 @@ candidates-preserved g c = record {
       (let e = c.candidates.invariant.degree in omega arith) c.candidates.invariant.completion;
 }
 
+less : (a b r : ℕ) → r + 1 ≡ b → a ≡ r → a < b
+less a b r l e = omega arith
+
 pub candidates-smaller : goal.candidates-smaller
-candidates-smaller g c = ?
+candidates-smaller g c =
+    less (length (pending_of c.take.new.self)) (length (pending_of c.candidates.self)) (length (remove (pending_of c.candidates.self) c.index-k.result))
+    (length-remove (pending_of c.candidates.self) c.index-k.result (let i = c.index-k.ensures.inside in let p = c.pending-in-candidates.ensures in omega arith)) (ap length c.in_ok-take.ensures.rest)
