@@ -1,6 +1,6 @@
 -- Right sides without letters of the last degree.
 use Rattle.std.proofs.Common.{◌≡◌, ◌≢◌, ℕ, zero, suc, take, ◌+◌, ◌<◌, ◌≤◌, refl, sym, ◌∙◌, ap, subst, List, [], ◌∷◌, ◌++◌, length, arith}
-use Rattle.std.specs.Prelude.{map, All, Contains}
+use Rattle.std.specs.Prelude.{map, All, Contains, Option, Some, None, IfSome}
 use Rattle.std.proofs.lemmas.List.{length-map, map-append}
 use Rattle.std.proofs.lemmas.List.Elements.{All-cons, All-head, All-tail, All-map}
 use Rattle.monomial_order.specs.Limits.{exponent_max}
@@ -118,3 +118,15 @@ module _ {F E : Type 0} (P : Presented E) (H : IsPresentation P) (b : BasisState
         equal = subst (λ x. Congruent K O.places P.ideal x (combination_value P S e)) (values u word)
             (subst (λ x. Congruent K O.places P.ideal (word_value P (S ++ T) u) x) stays.1 whole.equal);
       }
+
+module _ {F E : Type 0} (P : Presented E) (H : IsPresentation P) (b : BasisState F E) (B : IsBasisOf P b) (lower last : List (Tracked F E)) (p : AreInParts P b.words.degree b.elements lower last)
+    (values : ValuesStay P (values_of lower) (values_of last)) (sums : SumsWithoutNewLettersStay P (values_of lower) (values_of last)) (u : Exponents) (word : IsWord (letters P (values_of lower)) u) (b' : BasisState F E) where
+  -- the right side that is kept
+  pub kept_right : (r right : Option (Polynomial E)) → IfSome r (λ e. right ≡ Some e) →
+      IfSome r (λ e. (lo la : List (Tracked F E)) → AreInParts P b'.words.degree b'.elements lo la → All (λ (t : Term E). length t.at ≤ P.order.places + length lo) e) →
+      IfSome right (λ e. (b' ≡ b) × IsRightSide P (values_of b.elements) u e) → IfSome r (IsRightSide P (values_of lower) u)
+  kept_right None right same short h = tt
+  kept_right (Some e) right same short h =
+      let k : (b' ≡ b) × IsRightSide P (values_of b.elements) u e = subst (λ x. IfSome x (λ e. (b' ≡ b) × IsRightSide P (values_of b.elements) u e)) same h in
+      lower_right P H b B lower last p values sums u word e k.1
+      (short lower last (subst (λ (x : BasisState F E). AreInParts P x.words.degree x.elements lower last) (sym k.0) p))

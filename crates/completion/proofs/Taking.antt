@@ -1,9 +1,9 @@
 -- A completion in a degree, after elements are added and after a candidate is taken.
 use Rattle.std.proofs.Common.{◌≡◌, ◌≢◌, ℕ, zero, suc, ◌+◌, ◌<◌, ◌≤◌, refl, sym, ◌∙◌, ap, subst, List, [], ◌∷◌, ◌++◌, append-nil, append_assoc, length, length-append, get_or, inl, inr, ◌⊎◌, ⊎_elim, arith, true, false, Bool}
-use Rattle.std.specs.Prelude.{map, remove, slice_get, All, AllPairs, Contains, Some, IfSome}
+use Rattle.std.specs.Prelude.{map, max, remove, slice_get, slice_set, All, AllPairs, Contains, Some, IfSome}
 use Rattle.std.proofs.lemmas.Grind.{in_remove}
 use Rattle.std.proofs.lemmas.List.{length-map, map-append, get_or-append-add, get_or-map}
-use Rattle.std.proofs.lemmas.List.Elements.{All-append, All-contains, All-drop, All-take}
+use Rattle.std.proofs.lemmas.List.Elements.{All-append, All-contains, All-drop, All-get_or, All-set, All-take}
 use Rattle.std.proofs.lemmas.Option.{get_or_from_slice_get, slice_get_within}
 use Rattle.degree_queue.specs.DegreeQueue.{list_of, SameElsewhere}
 use Rattle.monomial_order.specs.Monomial.{Exponents}
@@ -55,6 +55,13 @@ stays_or_at xs k x l h =
     same_or_not (suc i) zero = inr (λ e. absurd (omega arith))
     same_or_not (suc i) (suc j) = ⊎_elim (λ e. inl (omega arith)) (λ n. inr (λ e. n (omega arith))) (same_or_not i j)
 
+-- the words stay if one of them gets another right side
+set_words : {F E : Type 0} (fs : List (Found F E)) (j : ℕ) (old new : Found F E) → j < length fs → old ≡ get_or fs j old → new.word ≡ old.word →
+    map (λ (f : Found F E). f.word) (slice_set fs j new) ≡ map (λ (f : Found F E). f.word) fs
+set_words [] j old new l h e = absurd (omega arith)
+set_words {F} {E} (f ∷ fs) zero old new l h e = ap (λ w. w ∷ map (λ (x : Found F E). x.word) fs) (e ∙ ap (λ (x : Found F E). x.word) h)
+set_words {F} {E} (f ∷ fs) (suc j) old new l h e = ap (λ ws. f.word ∷ ws) (set_words fs j old new (omega arith) h e)
+
 module _ {F Q E : Type 0} (P : Presented E) (H : IsPresentation P) (s : CompletionState F Q E) (standing : IsStanding P s) (begun : s.begun ≡ true) where
   open P use {field as K, order as O}
 
@@ -86,6 +93,16 @@ module _ {F Q E : Type 0} (P : Presented E) (H : IsPresentation P) (s : Completi
   -- the words of the degree
   pub word_found : (j : ℕ) → j < length s.found → Contains (words_of s.found) (word_at j)
   word_found j l = contains_at (words_of s.found) j [] (let e = length-map s.found (λ (f : Found F E). f.word) in omega arith)
+
+  -- the values that are kept, to a degree that is not less than that of the words
+  pub kept_to : (n : ℕ) → n ≡ max s.kept (s.degree + 1) → (s.basis.words.degree ≤ n) × AreWordsTo P (elements_of s) n s.values
+  kept_to n e = (
+    let k = at.degree in omega arith,
+    λ w v h. let k = standing.kept w v h in omega arith,
+  )
+
+  pub word_is : (j : ℕ) (r : Found F E) → j < length s.found → r ≡ get_or s.found j r → word_at j ≡ r.word
+  word_is j r l h = get_or-map (λ (f : Found F E). f.word) s.found j r [] l ∙ ap (λ (f : Found F E). f.word) (sym h)
 
   -- the elements of the last degree come after the others
   lead_found : (x : Polynomial E) → Contains (elements_of s) x → coefficient K x (lead_monomial x) ≢ K.zero
@@ -152,6 +169,20 @@ module _ {F Q E : Type 0} (P : Presented E) (H : IsPresentation P) (s : Completi
     word_minimal =
         subst (λ S. IsMinimalWord P S u) (sym values_parts)
         ((minimal P (values_of lower) (values_of last) d H after_lower u (let e = degree_over in omega arith)).1 here.0)
+
+  -- one of the words gets another right side
+  module _ (j : ℕ) (old new : Found F E) (l : j < length s.found) (h : old ≡ get_or s.found j old) (e : new.word ≡ old.word) where
+    pub words_stay : words_of (slice_set s.found j new) ≡ words_of s.found
+    words_stay = set_words s.found j old new l h e
+
+    abbrev HasRight : Found F E → Type 0
+    HasRight f = IfSome f.right (IsRightSide P (values_of lower) f.word)
+
+    pub rights_stay : (HasRight old → HasRight new) → All HasRight (slice_set s.found j new)
+    rights_stay k = All-set HasRight s.found j new (k (subst HasRight (sym h) (All-get_or HasRight s.found j old l at.rights))) at.rights
+
+  pub parts_at : AreInParts P s.basis.words.degree s.basis.elements lower last
+  parts_at = subst (λ n. AreInParts P n s.basis.elements lower last) (sym at.degree) at.parts
 
   module _ (b : BasisState F E) (v : Table E) (n : ℕ) (found : List (Found F E)) (B : IsBasisOf P b) (V : AreValues P (values_of b.elements) v) (W : AreWordsTo P (values_of b.elements) n v)
       (by_degree : IsGrown P s.basis.words.degree s.basis.elements b.elements)
@@ -261,6 +292,15 @@ module _ {F Q E : Type 0} (P : Presented E) (H : IsPresentation P) (s : Completi
       relations = ([], sym (append-nil s.relations));
     }
 
+    pub added_word : ForStandardElements E MinimalWordsStay → ((T : List (Polynomial E)) → ValuesStay P (elements_of s) T) → (j : ℕ) (r : Found F E) → j < length s.found → r ≡ get_or s.found j r →
+        IsCombination P (values_of b.elements) (word_value P (elements_of s) r.word) → IsTreated P added (Word j)
+    added_word minimal stays j r l h c =
+        let w = word_at j in
+        let is : IsWord (letters P (elements_of s)) w = ((word_minimal minimal j l).0).word in
+        let same : word_value P (values_of b.elements) w ≡ word_value P (elements_of s) w = ap (λ S. word_value P S w) values_more ∙ stays (values_of more) w is in
+        subst (λ us. IsCombination P (values_of b.elements) (word_value P (values_of b.elements) (get_or us j []))) (sym words)
+        (subst (IsCombination P (values_of b.elements)) (sym same) (subst (λ x. IsCombination P (values_of b.elements) (word_value P (elements_of s) x)) (sym (word_is j r l h)) c))
+
   -- the candidate at an index that is a combination is taken out of the queue
   module _ (stays : ValuesStay P (values_of lower) (values_of last)) (k : ℕ) (x : Candidate) (here : slice_get (pending_of s) k ≡ Some x) (treated : IsTreated P s x)
       (queue : List (List Candidate)) (rest : list_of queue d ≡ remove (pending_of s) k) (others : SameElsewhere d s.queue queue) where
@@ -320,3 +360,18 @@ module _ {F Q E : Type 0} (P : Presented E) (H : IsPresentation P) (s : Completi
       at_degree = λ e. absurd (let f : true ≡ false = sym begun ∙ e in cc);
       in_degree = λ e. popped_degree;
     }
+
+  -- the candidate is found in a queue with the same items
+  module _ (n : ℕ) (before queue : List (List Candidate)) (degree : n ≡ suc s.degree) (same : s.queue ≡ before) (stays : ValuesStay P (values_of lower) (values_of last)) (k : ℕ) (x : Candidate)
+      (here : slice_get (list_of before n) k ≡ Some x) (treated : IsTreated P s x) (rest : list_of queue n ≡ remove (list_of s.queue n) k) (others : SameElsewhere n s.queue queue) where
+    is_here : slice_get (pending_of s) k ≡ Some x
+    is_here = subst (λ i. slice_get (list_of s.queue i) k ≡ Some x) degree (subst (λ q. slice_get (list_of q n) k ≡ Some x) (sym same) here)
+
+    is_rest : list_of queue d ≡ remove (pending_of s) k
+    is_rest = subst (λ i. list_of queue i ≡ remove (list_of s.queue i) k) degree rest
+
+    is_other : SameElsewhere d s.queue queue
+    is_other = subst (λ i. SameElsewhere i s.queue queue) degree others
+
+    pub taken_stands : IsStanding P (popped stays k x is_here treated queue is_rest is_other)
+    taken_stands = popped_stands stays k x is_here treated queue is_rest is_other
