@@ -62,6 +62,35 @@ set_words [] j old new l h e = absurd (omega arith)
 set_words {F} {E} (f ∷ fs) zero old new l h e = ap (λ w. w ∷ map (λ (x : Found F E). x.word) fs) (e ∙ ap (λ (x : Found F E). x.word) h)
 set_words {F} {E} (f ∷ fs) (suc j) old new l h e = ap (λ ws. f.word ∷ ws) (set_words fs j old new (omega arith) h e)
 
+-- the completion with other elements, values and right sides, or with another queue
+abbrev pub with_elements : {F Q E : Type 0} → CompletionState F Q E → BasisState F E → Table E → ℕ → List (Found F E) → CompletionState F Q E
+with_elements s b v n found = record {
+  presentation = s.presentation;
+  basis = b;
+  values = v;
+  kept = n;
+  relations = s.relations;
+  degree = s.degree;
+  read = s.read;
+  begun = s.begun;
+  queue = s.queue;
+  found = found;
+}
+
+abbrev pub with_queue : {F Q E : Type 0} → CompletionState F Q E → List (List Candidate) → CompletionState F Q E
+with_queue s queue = record {
+  presentation = s.presentation;
+  basis = s.basis;
+  values = s.values;
+  kept = s.kept;
+  relations = s.relations;
+  degree = s.degree;
+  read = s.read;
+  begun = s.begun;
+  queue = queue;
+  found = s.found;
+}
+
 module _ {F Q E : Type 0} (P : Presented E) (H : IsPresentation P) (s : CompletionState F Q E) (standing : IsStanding P s) (begun : s.begun ≡ true) where
   open P use {field as K, order as O}
 
@@ -189,20 +218,8 @@ module _ {F Q E : Type 0} (P : Presented E) (H : IsPresentation P) (s : Completi
       (short : let n = s.basis.words.degree in AreShortAt P n s.basis.elements → AreShortAt P n b.elements)
       (degree : b.words.degree ≡ s.basis.words.degree) (quotient : b.quotient ≡ s.basis.quotient)
       (words : words_of found ≡ words_of s.found) (rights : All (λ f. IfSome f.right (IsRightSide P (values_of lower) f.word)) found) where
-    -- the completion with more elements
-    abbrev pub added : CompletionState F Q E
-    added = record {
-      presentation = s.presentation;
-      basis = b;
-      values = v;
-      kept = n;
-      relations = s.relations;
-      degree = s.degree;
-      read = s.read;
-      begun = s.begun;
-      queue = s.queue;
-      found = found;
-    }
+    abbrev added : CompletionState F Q E
+    added = with_elements s b v n found
 
     grown : IsGrown P d s.basis.elements b.elements
     grown = subst (λ n. IsGrown P n s.basis.elements b.elements) at.degree by_degree
@@ -272,7 +289,7 @@ module _ {F Q E : Type 0} (P : Presented E) (H : IsPresentation P) (s : Completi
           (at.word_values j (let e = same_number in omega arith));
     }
 
-    pub added_stands : IsStanding P added
+    pub added_stands : IsStanding P (with_elements s b v n found)
     added_stands = record {
       basis = B;
       small = let l = standing.small in subst (λ (q : QuotientState E). q.degree ≤ closing_max) (sym quotient) l;
@@ -284,7 +301,7 @@ module _ {F Q E : Type 0} (P : Presented E) (H : IsPresentation P) (s : Completi
       in_degree = λ e. in_degree;
     }
 
-    pub added_kept : AreKept P s added
+    pub added_kept : AreKept P s (with_elements s b v n found)
     added_kept = record {
       presentation = refl;
       read = refl;
@@ -293,7 +310,7 @@ module _ {F Q E : Type 0} (P : Presented E) (H : IsPresentation P) (s : Completi
     }
 
     pub added_word : ForStandardElements E MinimalWordsStay → ((T : List (Polynomial E)) → ValuesStay P (elements_of s) T) → (j : ℕ) (r : Found F E) → j < length s.found → r ≡ get_or s.found j r →
-        IsCombination P (values_of b.elements) (word_value P (elements_of s) r.word) → IsTreated P added (Word j)
+        IsCombination P (values_of b.elements) (word_value P (elements_of s) r.word) → IsTreated P (with_elements s b v n found) (Word j)
     added_word minimal stays j r l h c =
         let w = word_at j in
         let is : IsWord (letters P (elements_of s)) w = ((word_minimal minimal j l).0).word in
@@ -301,22 +318,45 @@ module _ {F Q E : Type 0} (P : Presented E) (H : IsPresentation P) (s : Completi
         subst (λ us. IsCombination P (values_of b.elements) (word_value P (values_of b.elements) (get_or us j []))) (sym words)
         (subst (IsCombination P (values_of b.elements)) (sym same) (subst (λ x. IsCombination P (values_of b.elements) (word_value P (elements_of s) x)) (sym (word_is j r l h)) c))
 
+  -- a word is treated, and has another right side
+  module _ (minimal : ForStandardElements E MinimalWordsStay) (j : ℕ) (old new : Found F E) (l : j < length s.found) (h : old ≡ get_or s.found j old) (same : new.word ≡ old.word)
+      (b : BasisState F E) (v : Table E) (n : ℕ) (to : n ≡ max s.kept (s.degree + 1)) (B : IsBasisOf P b) (V : AreValues P (values_of b.elements) v)
+      (W : (m : ℕ) → s.basis.words.degree ≤ m → AreWordsTo P (elements_of s) m s.values → AreWordsTo P (values_of b.elements) m v)
+      (by_degree : IsGrown P s.basis.words.degree s.basis.elements b.elements)
+      (short : let m = s.basis.words.degree in AreShortAt P m s.basis.elements → AreShortAt P m b.elements)
+      (degree : b.words.degree ≡ s.basis.words.degree) (quotient : b.quotient ≡ s.basis.quotient)
+      (right : (lo la : List (Tracked F E)) → AreInParts P s.basis.words.degree s.basis.elements lo la → IsWord (letters P (values_of lo)) old.word →
+      IfSome old.right (IsRightSide P (values_of lo) old.word) → IfSome new.right (IsRightSide P (values_of lo) new.word)) where
+    abbrev list : List (Found F E)
+    list = slice_set s.found j new
+
+    words : words_of list ≡ words_of s.found
+    words = words_stay j old new l h same
+
+    over : IsWord (letters P (values_of lower)) old.word
+    over = subst (IsWord (letters P (values_of lower))) (word_is j old l h) (word_over_lower minimal j l)
+
+    rights : All (λ (f : Found F E). IfSome f.right (IsRightSide P (values_of lower) f.word)) list
+    rights = rights_stay j old new l h same (right lower last parts_at over)
+
+    kept_words : AreWordsTo P (values_of b.elements) n v
+    kept_words = let k = kept_to n to in W n k.0 k.1
+
+    pub word_stands : IsStanding P (with_elements s b v n (slice_set s.found j new))
+    word_stands = added_stands b v n list B V kept_words by_degree short degree quotient words rights
+
+    pub word_kept : AreKept P s (with_elements s b v n (slice_set s.found j new))
+    word_kept = added_kept b v n list B V kept_words by_degree short degree quotient words rights
+
+    pub word_treated : ((T : List (Polynomial E)) → ValuesStay P (elements_of s) T) → IsCombination P (values_of b.elements) (word_value P (elements_of s) old.word) →
+        IsTreated P (with_elements s b v n (slice_set s.found j new)) (Word j)
+    word_treated stays = added_word b v n list B V kept_words by_degree short degree quotient words rights minimal stays j old l h
+
   -- the candidate at an index that is a combination is taken out of the queue
   module _ (stays : ValuesStay P (values_of lower) (values_of last)) (k : ℕ) (x : Candidate) (here : slice_get (pending_of s) k ≡ Some x) (treated : IsTreated P s x)
       (queue : List (List Candidate)) (rest : list_of queue d ≡ remove (pending_of s) k) (others : SameElsewhere d s.queue queue) where
-    abbrev pub popped : CompletionState F Q E
-    popped = record {
-      presentation = s.presentation;
-      basis = s.basis;
-      values = s.values;
-      kept = s.kept;
-      relations = s.relations;
-      degree = s.degree;
-      read = s.read;
-      begun = s.begun;
-      queue = queue;
-      found = s.found;
-    }
+    abbrev popped : CompletionState F Q E
+    popped = with_queue s queue
 
     inside : k < length (pending_of s)
     inside = slice_get_within (pending_of s) k x here
@@ -349,7 +389,7 @@ module _ {F Q E : Type 0} (P : Presented E) (H : IsPresentation P) (s : Completi
           (at.word_values j l);
     }
 
-    pub popped_stands : IsStanding P popped
+    pub popped_stands : IsStanding P (with_queue s queue)
     popped_stands = record {
       basis = standing.basis;
       small = standing.small;
@@ -373,5 +413,5 @@ module _ {F Q E : Type 0} (P : Presented E) (H : IsPresentation P) (s : Completi
     is_other : SameElsewhere d s.queue queue
     is_other = subst (λ i. SameElsewhere i s.queue queue) degree others
 
-    pub taken_stands : IsStanding P (popped stays k x is_here treated queue is_rest is_other)
+    pub taken_stands : IsStanding P (with_queue s queue)
     taken_stands = popped_stands stays k x is_here treated queue is_rest is_other

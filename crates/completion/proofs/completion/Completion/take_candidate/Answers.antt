@@ -1,8 +1,7 @@
 use Rattle.std.proofs.Common.{◌≡◌, ◌<◌, suc, refl, sym, ◌∙◌, ap, subst, length, arith}
 use Rattle.std.specs.Prelude.{slice_set}
 use Rattle.poly_core.specs.Presentation.{presented}
-use Rattle.subalgebra_laws.specs.Words.{letters, IsMinimalWord}
-use Rattle.word_laws.specs.Words.{IsWord}
+use Rattle.subalgebra_laws.specs.Words.{IsMinimalWord}
 use Rattle.witness.specs.Tracking.{values_of}
 use Rattle.word_values.specs.Values.{word_degree}
 use Rattle.subduction.specs.Basis.{BasisState}
@@ -11,7 +10,7 @@ use Rattle.completion.specs.Completion.{elements_of}
 use Rattle.completion.specs.declared.candidates.Candidate.TheVariants.{Generator, Word}
 use Rattle.completion.specs.Taking.{IsTreated}
 use Rattle.completion.proofs.Inserting.{on_ok}
-use Rattle.completion.proofs.Taking.{added_kept, added_stands, added_word, kept_to, lower, parts_at, rights_stay, word_degree_is, word_is, word_minimal, word_over_lower, words_stay}
+use Rattle.completion.proofs.Taking.{added_kept, added_stands, kept_to, word_degree_is, word_is, word_kept, word_minimal, word_stands, word_treated}
 use Rattle.completion.proofs.completion.Completion.take_candidate.Goals as goal
 
 pub insert_generator-requires-clause-values : goal.insert_generator-requires-clause-values
@@ -94,17 +93,11 @@ returns-in-Word-clause-completion g c =
     let l : c.in-Word.j < length c.self.inside.found.items = subst (IsCandidate P (suc c.self.inside.degree) (length c.self.inside.found.items)) c.in-Word.is candidate in
     let r = c.index_mut.result.now in
     let h = c.index_mut.ensures.value in
-    let n = kept_to P H _ C.standing begun c.max-self-inside.result c.max-self-inside.ensures in
     let e = c.insert_found.ensures in
-    let new = c.insert_found.new.found in
-    let over = subst (IsWord (letters P (values_of (lower P H _ C.standing begun)))) (word_is P H _ C.standing begun c.in-Word.j r l h)
-    (word_over_lower P H _ C.standing begun c.growing.ensures.minimal c.in-Word.j l) in
-    let words = words_stay P H _ C.standing begun c.in-Word.j r new l h e.word in
-    let rights = rights_stay P H _ C.standing begun c.in-Word.j r new l h e.word (e.right _ _ (parts_at P H _ C.standing begun) over) in
     record {
       presentation = C.presentation;
-      standing = added_stands P H _ C.standing begun c.insert_found.new.basis c.insert_found.new.values c.max-self-inside.result (slice_set c.self.inside.found.items c.in-Word.j new)
-    e.basis e.values (e.kept c.max-self-inside.result n.0 n.1) e.grown e.short e.degree e.quotient words rights;
+      standing = word_stands P H _ C.standing begun c.growing.ensures.minimal c.in-Word.j r c.insert_found.new.found l h e.word c.insert_found.new.basis c.insert_found.new.values c.max-self-inside.result c.max-self-inside.ensures
+    e.basis e.values e.kept e.grown e.short e.degree e.quotient e.right;
     }
 
 pub returns-in-Word-clause-treated : goal.returns-in-Word-clause-treated
@@ -117,18 +110,12 @@ returns-in-Word-clause-treated g c =
     let l : c.in-Word.j < length c.self.inside.found.items = subst (IsCandidate P (suc c.self.inside.degree) (length c.self.inside.found.items)) c.in-Word.is candidate in
     let r = c.index_mut.result.now in
     let h = c.index_mut.ensures.value in
-    let n = kept_to P H _ C.standing begun c.max-self-inside.result c.max-self-inside.ensures in
     let e = c.insert_found.ensures in
-    let new = c.insert_found.new.found in
-    let over = subst (IsWord (letters P (values_of (lower P H _ C.standing begun)))) (word_is P H _ C.standing begun c.in-Word.j r l h)
-    (word_over_lower P H _ C.standing begun c.growing.ensures.minimal c.in-Word.j l) in
-    let words = words_stay P H _ C.standing begun c.in-Word.j r new l h e.word in
-    let rights = rights_stay P H _ C.standing begun c.in-Word.j r new l h e.word (e.right _ _ (parts_at P H _ C.standing begun) over) in
     rw (sym c.self.view_is, c.in-Word.is)
     (on_ok c.insert_found.result _ _
-    (added_word P H _ C.standing begun c.insert_found.new.basis c.insert_found.new.values c.max-self-inside.result (slice_set c.self.inside.found.items c.in-Word.j new)
-    e.basis e.values (e.kept c.max-self-inside.result n.0 n.1) e.grown e.short e.degree e.quotient words rights
-    c.growing.ensures.minimal (c.growing.ensures.values P (values_of c.self.inside.basis.elements)) c.in-Word.j r l h) e.combination)
+    (word_treated P H _ C.standing begun c.growing.ensures.minimal c.in-Word.j r c.insert_found.new.found l h e.word c.insert_found.new.basis c.insert_found.new.values c.max-self-inside.result c.max-self-inside.ensures
+    e.basis e.values e.kept e.grown e.short e.degree e.quotient e.right
+    (c.growing.ensures.values P (values_of c.self.inside.basis.elements))) e.combination)
 
 pub returns-in-Word-clause-kept : goal.returns-in-Word-clause-kept
 returns-in-Word-clause-kept g c =
@@ -140,13 +127,7 @@ returns-in-Word-clause-kept g c =
     let l : c.in-Word.j < length c.self.inside.found.items = subst (IsCandidate P (suc c.self.inside.degree) (length c.self.inside.found.items)) c.in-Word.is candidate in
     let r = c.index_mut.result.now in
     let h = c.index_mut.ensures.value in
-    let n = kept_to P H _ C.standing begun c.max-self-inside.result c.max-self-inside.ensures in
     let e = c.insert_found.ensures in
-    let new = c.insert_found.new.found in
-    let over = subst (IsWord (letters P (values_of (lower P H _ C.standing begun)))) (word_is P H _ C.standing begun c.in-Word.j r l h)
-    (word_over_lower P H _ C.standing begun c.growing.ensures.minimal c.in-Word.j l) in
-    let words = words_stay P H _ C.standing begun c.in-Word.j r new l h e.word in
-    let rights = rights_stay P H _ C.standing begun c.in-Word.j r new l h e.word (e.right _ _ (parts_at P H _ C.standing begun) over) in
     rw (sym c.self.view_is)
-    (added_kept P H _ C.standing begun c.insert_found.new.basis c.insert_found.new.values c.max-self-inside.result (slice_set c.self.inside.found.items c.in-Word.j new)
-    e.basis e.values (e.kept c.max-self-inside.result n.0 n.1) e.grown e.short e.degree e.quotient words rights)
+    (word_kept P H _ C.standing begun c.growing.ensures.minimal c.in-Word.j r c.insert_found.new.found l h e.word c.insert_found.new.basis c.insert_found.new.values c.max-self-inside.result c.max-self-inside.ensures
+    e.basis e.values e.kept e.grown e.short e.degree e.quotient e.right)
