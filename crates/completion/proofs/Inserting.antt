@@ -27,6 +27,11 @@ use Rattle.subduction.specs.Basis.{AreShortAt, BasisState, IsBasisOf, IsNewEleme
 use Rattle.subduction.specs.laws.Elements.{monic_elements}
 use Rattle.completion.specs.Completion.{IsGrown}
 
+-- to the degree of b, what differs from r by a combination of its elements is one of those of c
+abbrev pub Combinations : {F E : Type 0} → Presented E → BasisState F E → Polynomial E → BasisState F E → Type 0
+Combinations {F} {E} P b r c = (a : Polynomial E) → IsPoly P.field P.order.places a → HasDegreesTo P b.words.degree a →
+    IsCombination P (values_of b.elements) (minus P.field a r) → IsCombination P (values_of c.elements) a
+
 -- what follows from the fact of an answer
 pub on_ok : {A B : Type 0} (r : Result A B) (X Y : Type 0) → (X → Y) → OnOk r X → OnOk r Y
 on_ok (Ok a) X Y f h = f h

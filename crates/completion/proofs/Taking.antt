@@ -353,7 +353,7 @@ module _ {F Q E : Type 0} (P : Presented E) (H : IsPresentation P) (s : Completi
     word_treated stays = added_word b v n list B V kept_words by_degree short degree quotient words rights minimal stays j old l h
 
   -- the candidate at an index that is a combination is taken out of the queue
-  module _ (stays : ValuesStay P (values_of lower) (values_of last)) (k : ℕ) (x : Candidate) (here : slice_get (pending_of s) k ≡ Some x) (treated : IsTreated P s x)
+  module _ (stays : (S T : List (Polynomial E)) → ValuesStay P S T) (k : ℕ) (x : Candidate) (here : slice_get (pending_of s) k ≡ Some x) (treated : IsTreated P s x)
       (queue : List (List Candidate)) (rest : list_of queue d ≡ remove (pending_of s) k) (others : SameElsewhere d s.queue queue) where
     abbrev popped : CompletionState F Q E
     popped = with_queue s queue
@@ -367,7 +367,7 @@ module _ {F Q E : Type 0} (P : Presented E) (H : IsPresentation P) (s : Completi
 
     word_over : (j : ℕ) → j < length s.found → word_value P (elements_of s) (word_at j) ≡ word_value P (values_of lower) (word_at j)
     word_over j l =
-        ap (λ S. word_value P S (word_at j)) values_parts ∙ stays (word_at j) (((at.words).exactly (word_at j)).0 (word_found j l)).0.0.word
+        ap (λ S. word_value P S (word_at j)) values_parts ∙ stays (values_of lower) (values_of last) (word_at j) (((at.words).exactly (word_at j)).0 (word_found j l)).0.0.word
 
     popped_degree : IsInDegree P popped
     popped_degree = record {
@@ -402,7 +402,7 @@ module _ {F Q E : Type 0} (P : Presented E) (H : IsPresentation P) (s : Completi
     }
 
   -- the candidate is found in a queue with the same items
-  module _ (n : ℕ) (before queue : List (List Candidate)) (degree : n ≡ suc s.degree) (same : s.queue ≡ before) (stays : ValuesStay P (values_of lower) (values_of last)) (k : ℕ) (x : Candidate)
+  module _ (n : ℕ) (before queue : List (List Candidate)) (degree : n ≡ suc s.degree) (same : s.queue ≡ before) (stays : (S T : List (Polynomial E)) → ValuesStay P S T) (k : ℕ) (x : Candidate)
       (here : slice_get (list_of before n) k ≡ Some x) (treated : IsTreated P s x) (rest : list_of queue n ≡ remove (list_of s.queue n) k) (others : SameElsewhere n s.queue queue) where
     is_here : slice_get (pending_of s) k ≡ Some x
     is_here = subst (λ i. slice_get (list_of s.queue i) k ≡ Some x) degree (subst (λ q. slice_get (list_of q n) k ≡ Some x) (sym same) here)

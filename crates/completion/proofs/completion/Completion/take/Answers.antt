@@ -18,7 +18,7 @@ returns-clause-completion g c =
     let is_treated = rw (sym c.self-2.view_is) at treated in
     record {
       presentation = C.presentation;
-      standing = taken_stands P H _ C.standing begun (c.self.inside.degree + 1) c.self.inside.queue c.pop_at-candidate.new.self at queue (c.growing.ensures.values P _ _) c.args.k x
+      standing = taken_stands P H _ C.standing begun (c.self.inside.degree + 1) c.self.inside.queue c.pop_at-candidate.new.self at queue (c.growing.ensures.values P) c.args.k x
           c.get-candidate.ensures is_treated c.pop_at-candidate.ensures.rest c.pop_at-candidate.ensures.others;
     }
 
