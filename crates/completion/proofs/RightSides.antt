@@ -1,26 +1,24 @@
 -- Right sides without letters of the last degree.
-use Rattle.std.proofs.Common.{◌≡◌, ◌≢◌, ℕ, zero, suc, take, ◌+◌, ◌<◌, ◌≤◌, refl, sym, ◌∙◌, ap, subst, List, [], ◌∷◌, ◌++◌, length, arith}
+use Rattle.std.proofs.Common.{◌≡◌, ◌≢◌, ℕ, zero, suc, take, ◌+◌, ◌<◌, ◌≤◌, sym, ◌∙◌, ap, subst, List, [], ◌∷◌, ◌++◌, length, arith}
 use Rattle.std.specs.Prelude.{map, All, Contains, Option, Some, None, IfSome}
 use Rattle.std.proofs.lemmas.List.{length-map, map-append}
 use Rattle.std.proofs.lemmas.List.Elements.{All-cons, All-head, All-tail, All-map}
 use Rattle.monomial_order.specs.Limits.{exponent_max}
 use Rattle.monomial_order.specs.Monomial.{Exponents}
-use Rattle.monomial_order.specs.MonomialOrder.{MonomialOrder}
 use Rattle.monomial_order.specs.declared.terms.Term.{Term}
 use Rattle.word_laws.specs.Words.{word_order_of, IsWord, Letters}
-use Rattle.polynomials.specs.Polynomial.{Polynomial, coefficient, degree_of, lead_monomial, AllAt, IsCanonical, IsPoly, IsSmall}
+use Rattle.polynomials.specs.Polynomial.{Polynomial, coefficient, degree_of, lead_monomial, AllAt, IsPoly, IsSmall}
 use Rattle.polynomials.specs.Ideal.{Congruent}
 use Rattle.polynomials.specs.Subalgebra.{Presented, IsPresentation}
 use Rattle.polynomials.specs.laws.Decreasing.{IsDecreasing_IsPoly}
 use Rattle.polynomials.specs.laws.Degrees.{all_found}
 use Rattle.polynomials.specs.laws.ReducedBasis.{degree_one, map_contains}
 use Rattle.subalgebra_laws.specs.Statements.{SumsWithoutNewLettersStay, ValuesStay}
-use Rattle.subalgebra_laws.specs.Words.{combination_value, letters, word_value}
+use Rattle.subalgebra_laws.specs.Words.{combination_value, letters, word_value, IsIrreducibleSum}
 use Rattle.subalgebra_laws.specs.laws.Letters.{degree_stays, places_letters, places_x}
 use Rattle.toric_ideal.specs.Increasing.{AreComparable, IsComparable}
 use Rattle.witness.specs.declared.tracked.Tracked.{Tracked}
 use Rattle.witness.specs.Tracking.{values_of}
-use Rattle.word_values.specs.Values.{word_degree}
 use Rattle.subduction.specs.Basis.{BasisState, AreInParts, IsBasisOf}
 use Rattle.subduction.specs.laws.Elements.{homogeneous_elements, leads_monomials}
 use Rattle.completion.specs.Relations.{IsRightSide}
@@ -106,7 +104,7 @@ module _ {F E : Type 0} (P : Presented E) (H : IsPresentation P) (b : BasisState
       small [] a h = tt
       small (t ∷ p) a h = (let x = degree_stays P S T t.at (let w = a.0 in w.within) in let y = h.0 in omega arith, small p a.1 h.1)
 
-      stays : Rattle.subalgebra_laws.specs.Words.IsIrreducibleSum P S e × (combination_value P (S ++ T) e ≡ combination_value P S e)
+      stays : IsIrreducibleSum P S e × (combination_value P (S ++ T) e ≡ combination_value P S e)
       stays = sums e whole.sum over
 
       -- it is one over the elements of smaller degree

@@ -1,5 +1,5 @@
 -- A completion in a degree, after elements are added and after a candidate is taken.
-use Rattle.std.proofs.Common.{◌≡◌, ◌≢◌, ℕ, zero, suc, ◌+◌, ◌<◌, ◌≤◌, refl, sym, ◌∙◌, ap, subst, List, [], ◌∷◌, ◌++◌, append-nil, append_assoc, length, length-append, get_or, inl, inr, ◌⊎◌, ⊎_elim, arith, true, false, Bool}
+use Rattle.std.proofs.Common.{◌≡◌, ◌≢◌, ℕ, zero, suc, ◌+◌, ◌<◌, ◌≤◌, refl, sym, ◌∙◌, ap, subst, List, [], ◌∷◌, ◌++◌, append-nil, append_assoc, length, length-append, get_or, take, drop, inl, inr, ◌⊎◌, ⊎_elim, arith, true, false, Bool}
 use Rattle.std.specs.Prelude.{map, max, remove, slice_get, slice_set, All, AllPairs, Contains, Some, IfSome}
 use Rattle.std.proofs.lemmas.Grind.{in_remove}
 use Rattle.std.proofs.lemmas.List.{length-map, map-append, get_or-append-add, get_or-map}
@@ -7,11 +7,11 @@ use Rattle.std.proofs.lemmas.List.Elements.{All-append, All-contains, All-drop, 
 use Rattle.std.proofs.lemmas.Option.{get_or_from_slice_get, slice_get_within}
 use Rattle.degree_queue.specs.DegreeQueue.{list_of, SameElsewhere}
 use Rattle.monomial_order.specs.Monomial.{Exponents}
-use Rattle.monomial_order.specs.laws.Comparing.{equal_or_not, le_or_not}
+use Rattle.monomial_order.specs.laws.Comparing.{le_or_not}
 use Rattle.monomial_order.specs.laws.Lists.{contains_at, contains_either, contains_left, contains_right}
 use Rattle.word_laws.specs.Words.{IsWord, Letters}
-use Rattle.polynomials.specs.Polynomial.{Polynomial, coefficient, degree_of, lead_monomial}
-use Rattle.polynomials.specs.Subalgebra.{Presented, IsPresentation, AllIn, IsGenerated}
+use Rattle.polynomials.specs.Polynomial.{Polynomial, coefficient, degree_of, lead_monomial, IsPoly}
+use Rattle.polynomials.specs.Subalgebra.{Presented, IsPresentation, AllIn, HasDegreesTo, IsGenerated}
 use Rattle.polynomials.specs.laws.ReducedBasis.{map_contains}
 use Rattle.quotient_gb.specs.Quotient.{closing_max, QuotientState}
 use Rattle.subalgebra_laws.specs.Bases.{AreMonicElements, AreStandardAfter}
@@ -20,14 +20,14 @@ use Rattle.subalgebra_laws.specs.Words.{letters, word_value, IsCombination, IsMi
 use Rattle.subalgebra_laws.specs.laws.Letters.{degree_stays}
 use Rattle.subalgebra_laws.specs.laws.Members.{generator_poly}
 use Rattle.witness.specs.declared.tracked.Tracked.{Tracked}
-use Rattle.witness.specs.Tracking.{values_of, IsShort}
+use Rattle.witness.specs.Tracking.{values_of}
 use Rattle.word_values.specs.Values.{word_degree, Table, AreHomogeneousElements, AreValues, AreWordsTo}
 use Rattle.subduction.specs.Basis.{BasisState, AreInParts, AreShortAt, IsBasisOf}
 use Rattle.subduction.specs.laws.Elements.{homogeneous_elements, monic_elements}
 use Rattle.completion.specs.declared.candidates.Candidate.{Candidate}
 use Rattle.completion.specs.declared.candidates.Candidate.TheVariants.{Generator, Word}
 use Rattle.completion.specs.declared.candidates.Found.{Found}
-use Rattle.completion.specs.Candidates.{IsCandidate, IsGeneratorAt}
+use Rattle.completion.specs.Candidates.{AreWordsAt, IsCandidate, IsGeneratorAt}
 use Rattle.completion.specs.Completion.{elements_of, pending_of, AreKept, AreShortAbove, CompletionState, IsGrown, IsInDegree, IsStanding}
 use Rattle.completion.specs.Relations.{IsRightSide}
 use Rattle.completion.specs.Taking.{IsTreated}
@@ -259,7 +259,7 @@ module _ {F Q E : Type 0} (P : Presented E) (H : IsPresentation P) (s : Completi
     same_number : length found ≡ length s.found
     same_number = let a = length-map found (λ (f : Found F E). f.word) in let c = length-map s.found (λ (f : Found F E). f.word) in let e = ap length words in omega arith
 
-    stay : (a : Polynomial E) → Rattle.polynomials.specs.Polynomial.IsPoly K O.places a → Rattle.polynomials.specs.Subalgebra.HasDegreesTo P d a → IsCombination P (elements_of s) a → IsCombination P (values_of b.elements) a
+    stay : (a : Polynomial E) → IsPoly K O.places a → HasDegreesTo P d a → IsCombination P (elements_of s) a → IsCombination P (values_of b.elements) a
     stay a p l c = subst (λ S. IsCombination P S a) (sym values_more) (grown.stay a p l c)
 
     generator_stays : (i : ℕ) → IsGeneratorAt P d i → IsCombination P (elements_of s) (get_or P.generators i []) → IsCombination P (values_of b.elements) (get_or P.generators i [])
@@ -281,7 +281,7 @@ module _ {F Q E : Type 0} (P : Presented E) (H : IsPresentation P) (s : Completi
       relations = at.relations;
       degree = degree ∙ at.degree;
       quotient = subst (λ (q : QuotientState E). q.degree ≤ suc s.degree) (sym quotient) at.quotient;
-      words = subst (Rattle.completion.specs.Candidates.AreWordsAt P (values_of lower) d) (sym words) at.words;
+      words = subst (AreWordsAt P (values_of lower) d) (sym words) at.words;
       rights = rights;
       pending = subst (λ n. All (IsCandidate P d n) (pending_of s)) (sym same_number) at.pending;
       generators = λ i g. ⊎_elim inl (λ c. inr (generator_stays i g c)) (at.generators i g);
@@ -382,7 +382,7 @@ module _ {F Q E : Type 0} (P : Presented E) (H : IsPresentation P) (s : Completi
       words = at.words;
       rights = at.rights;
       pending = subst (All (IsCandidate P d (length s.found))) (sym rest)
-          (All-append (IsCandidate P d (length s.found)) (Rattle.std.proofs.Common.take k (pending_of s)) (Rattle.std.proofs.Common.drop (suc k) (pending_of s))
+          (All-append (IsCandidate P d (length s.found)) (take k (pending_of s)) (drop (suc k) (pending_of s))
           (All-take (IsCandidate P d (length s.found)) k (pending_of s) at.pending) (All-drop (IsCandidate P d (length s.found)) (suc k) (pending_of s) at.pending));
       generators = λ i g. ⊎_elim (λ h. ⊎_elim inl (λ e. let t : IsTreated P s (Generator i) = subst (IsTreated P s) e treated in inr t) (waits_or_is (Generator i) h)) inr (at.generators i g);
       word_values = λ j l. ⊎_elim (λ h. ⊎_elim inl (λ e. let t : IsTreated P s (Word j) = subst (IsTreated P s) e treated in inr (subst (IsCombination P (elements_of s)) (word_over j l) t)) (waits_or_is (Word j) h)) inr

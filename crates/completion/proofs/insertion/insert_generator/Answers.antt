@@ -1,4 +1,4 @@
-use Rattle.std.proofs.Common.{◌≡◌, ◌+◌, ◌-◌, ◌≤◌, refl, sym, ◌∙◌, ap, subst, not, true, false, get_or, [], arith}
+use Rattle.std.proofs.Common.{◌≡◌, ◌+◌, ◌-◌, refl, sym, ◌∙◌, ap, subst, not, true, false, get_or, [], arith}
 use Rattle.poly_core.specs.Presentation.{generator_degree, presented}
 use Rattle.witness.specs.Tracking.{by_order, letter_poly, values_of, IsGradedPair}
 use Rattle.completion.proofs.Generators.{can_subduce, degree_is, difference, graded, has_places, low, new_element, poly, short_rest, zero_rest}

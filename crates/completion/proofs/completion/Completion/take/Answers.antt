@@ -1,4 +1,4 @@
-use Rattle.std.proofs.Common.{◌≡◌, ◌+◌, suc, sym, ◌∙◌, ap, subst, arith}
+use Rattle.std.proofs.Common.{◌≡◌, ◌+◌, suc, sym, subst, arith}
 use Rattle.poly_core.specs.Presentation.{presented}
 use Rattle.completion.specs.Taking.{IsTreated}
 use Rattle.completion.proofs.Taking.{taken_stands}

@@ -1,14 +1,9 @@
-use Rattle.std.proofs.Common.{◌≡◌, ◌<◌, suc, refl, sym, ◌∙◌, ap, subst, length, arith}
-use Rattle.std.specs.Prelude.{slice_set}
+use Rattle.std.proofs.Common.{◌≡◌, ◌<◌, suc, refl, sym, subst, length}
 use Rattle.poly_core.specs.Presentation.{presented}
 use Rattle.subalgebra_laws.specs.Words.{IsMinimalWord}
 use Rattle.witness.specs.Tracking.{values_of}
 use Rattle.word_values.specs.Values.{word_degree}
-use Rattle.subduction.specs.Basis.{BasisState}
 use Rattle.completion.specs.Candidates.{IsCandidate}
-use Rattle.completion.specs.Completion.{elements_of}
-use Rattle.completion.specs.declared.candidates.Candidate.TheVariants.{Generator, Word}
-use Rattle.completion.specs.Taking.{IsTreated}
 use Rattle.completion.proofs.Inserting.{on_ok}
 use Rattle.completion.proofs.Taking.{added_kept, added_stands, kept_to, word_degree_is, word_is, word_kept, word_minimal, word_stands, word_treated}
 use Rattle.completion.proofs.completion.Completion.take_candidate.Goals as goal
@@ -67,7 +62,7 @@ returns-in-Generator-clause-completion g c =
     record {
       presentation = C.presentation;
       standing = added_stands P H _ C.standing begun c.insert_generator.new.basis c.insert_generator.new.values c.max-self-inside.result c.self.inside.found.items
-    e.basis e.values (e.kept c.max-self-inside.result n.0 n.1) e.grown e.short e.degree e.quotient refl rights.rights;
+          e.basis e.values (e.kept c.max-self-inside.result n.0 n.1) e.grown e.short e.degree e.quotient refl rights.rights;
     }
 
 pub returns-in-Generator-clause-kept : goal.returns-in-Generator-clause-kept
@@ -97,7 +92,7 @@ returns-in-Word-clause-completion g c =
     record {
       presentation = C.presentation;
       standing = word_stands P H _ C.standing begun c.growing.ensures.minimal c.in-Word.j r c.insert_found.new.found l h e.word c.insert_found.new.basis c.insert_found.new.values c.max-self-inside.result c.max-self-inside.ensures
-    e.basis e.values e.kept e.grown e.short e.degree e.quotient e.right;
+          e.basis e.values e.kept e.grown e.short e.degree e.quotient e.right;
     }
 
 pub returns-in-Word-clause-treated : goal.returns-in-Word-clause-treated
