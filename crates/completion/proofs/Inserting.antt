@@ -1,6 +1,6 @@
 -- An element is added at the end of a basis: what differs from a multiple of it by a combination is one.
-use Rattle.std.proofs.Common.{◌≡◌, ◌≢◌, ℕ, zero, suc, ◌<◌, ◌≤◌, refl, sym, ◌∙◌, ap, subst, List, [], ◌∷◌, ◌++◌, append-nil, length, get_or, ⊎_elim, arith}
-use Rattle.std.specs.Prelude.{map, All, Contains, Result, Ok, Err, OnOk}
+use Rattle.std.proofs.Common.{◌≡◌, ◌≢◌, ℕ, ◌≤◌, refl, sym, ◌∙◌, ap, subst, List, [], ◌∷◌, ◌++◌, append-nil, ⊎_elim, arith}
+use Rattle.std.specs.Prelude.{map, Contains, Result, Ok, Err, OnOk}
 use Rattle.std.proofs.lemmas.List.{map-append}
 use Rattle.std.proofs.lemmas.List.Elements.{All-cons, All-nil}
 use Rattle.word_field.specs.Field.{FieldOps, IsValue}
@@ -9,9 +9,8 @@ use Rattle.monomial_order.specs.Monomial.{Exponents}
 use Rattle.monomial_order.specs.MonomialOrder.{MonomialOrder}
 use Rattle.monomial_order.specs.laws.Lists.{contains_cases, contains_here, contains_none, contains_right}
 use Rattle.polynomials.specs.Polynomial.{Polynomial, coefficient, constant, degree_of, first_coefficient, lead_monomial, minus, times, IsDecreasing, IsPoly, Same}
-use Rattle.polynomials.specs.Ideal.{Congruent}
 use Rattle.polynomials.specs.Subalgebra.{Presented, IsPresentation, HasDegreesTo, IsGenerated, IsStandard}
-use Rattle.polynomials.specs.laws.Coefficients.{decreasing_leads, minus_back, minus_nonzero, minus_poly, monic_some}
+use Rattle.polynomials.specs.laws.Coefficients.{minus_back, minus_nonzero, minus_poly}
 use Rattle.polynomials.specs.laws.Congruence.{congruent_same}
 use Rattle.polynomials.specs.laws.Decreasing.{IsDecreasing_IsPoly}
 use Rattle.polynomials.specs.laws.Ring.{coefficient_value}
@@ -26,6 +25,11 @@ use Rattle.word_values.specs.Values.{AreValues, AreWordsTo, Table}
 use Rattle.subduction.specs.Basis.{AreShortAt, BasisState, IsBasisOf, IsNewElement}
 use Rattle.subduction.specs.laws.Elements.{monic_elements}
 use Rattle.completion.specs.Completion.{IsGrown}
+
+-- to the degree of b, what differs from r by a combination of its elements is one of those of c
+abbrev pub Combinations : {F E : Type 0} → Presented E → BasisState F E → Polynomial E → BasisState F E → Type 0
+Combinations {F} {E} P b r c = (a : Polynomial E) → IsPoly P.field P.order.places a → HasDegreesTo P b.words.degree a →
+    IsCombination P (values_of b.elements) (minus P.field a r) → IsCombination P (values_of c.elements) a
 
 -- what follows from the fact of an answer
 pub on_ok : {A B : Type 0} (r : Result A B) (X Y : Type 0) → (X → Y) → OnOk r X → OnOk r Y

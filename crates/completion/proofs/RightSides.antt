@@ -1,14 +1,13 @@
 -- Right sides without letters of the last degree.
-use Rattle.std.proofs.Common.{◌≡◌, ◌≢◌, ℕ, zero, suc, take, ◌+◌, ◌<◌, ◌≤◌, refl, sym, ◌∙◌, ap, subst, List, [], ◌∷◌, ◌++◌, length, arith}
-use Rattle.std.specs.Prelude.{map, All, Contains}
+use Rattle.std.proofs.Common.{◌≡◌, ◌≢◌, ℕ, zero, suc, take, ◌+◌, ◌<◌, ◌≤◌, sym, ◌∙◌, ap, subst, List, [], ◌∷◌, ◌++◌, length, arith}
+use Rattle.std.specs.Prelude.{map, All, Contains, Option, Some, None, IfSome}
 use Rattle.std.proofs.lemmas.List.{length-map, map-append}
 use Rattle.std.proofs.lemmas.List.Elements.{All-cons, All-head, All-tail, All-map}
 use Rattle.monomial_order.specs.Limits.{exponent_max}
 use Rattle.monomial_order.specs.Monomial.{Exponents}
-use Rattle.monomial_order.specs.MonomialOrder.{MonomialOrder}
 use Rattle.monomial_order.specs.declared.terms.Term.{Term}
 use Rattle.word_laws.specs.Words.{word_order_of, IsWord, Letters}
-use Rattle.polynomials.specs.Polynomial.{Polynomial, coefficient, degree_of, lead_monomial, AllAt, IsCanonical, IsPoly, IsSmall}
+use Rattle.polynomials.specs.Polynomial.{Polynomial, coefficient, degree_of, lead_monomial, AllAt, IsPoly, IsSmall}
 use Rattle.polynomials.specs.Ideal.{Congruent}
 use Rattle.polynomials.specs.Subalgebra.{Presented, IsPresentation}
 use Rattle.polynomials.specs.laws.Decreasing.{IsDecreasing_IsPoly}
@@ -16,12 +15,11 @@ use Rattle.polynomials.specs.laws.Degrees.{all_found}
 use Rattle.monomial_order.specs.laws.Comparing.{degree_one}
 use Rattle.monomial_order.specs.laws.Lists.{map_contains}
 use Rattle.subalgebra_laws.specs.Statements.{SumsWithoutNewLettersStay, ValuesStay}
-use Rattle.subalgebra_laws.specs.Words.{combination_value, letters, word_value}
+use Rattle.subalgebra_laws.specs.Words.{combination_value, letters, word_value, IsIrreducibleSum}
 use Rattle.subalgebra_laws.specs.laws.Letters.{degree_stays, places_letters, places_x}
 use Rattle.toric_ideal.specs.Increasing.{AreComparable, IsComparable}
 use Rattle.witness.specs.declared.tracked.Tracked.{Tracked}
 use Rattle.witness.specs.Tracking.{values_of}
-use Rattle.word_values.specs.Values.{word_degree}
 use Rattle.subduction.specs.Basis.{BasisState, AreInParts, IsBasisOf}
 use Rattle.subduction.specs.laws.Elements.{homogeneous_elements, leads_monomials}
 use Rattle.tete_lift.specs.Lifting.{IsRightSide}
@@ -107,7 +105,7 @@ module _ {F E : Type 0} (P : Presented E) (H : IsPresentation P) (b : BasisState
       small [] a h = tt
       small (t ∷ p) a h = (let x = degree_stays P S T t.at (let w = a.0 in w.within) in let y = h.0 in omega arith, small p a.1 h.1)
 
-      stays : Rattle.subalgebra_laws.specs.Words.IsIrreducibleSum P S e × (combination_value P (S ++ T) e ≡ combination_value P S e)
+      stays : IsIrreducibleSum P S e × (combination_value P (S ++ T) e ≡ combination_value P S e)
       stays = sums e whole.sum over
 
       -- it is one over the elements of smaller degree
@@ -119,3 +117,15 @@ module _ {F E : Type 0} (P : Presented E) (H : IsPresentation P) (b : BasisState
         equal = subst (λ x. Congruent K O.places P.ideal x (combination_value P S e)) (values u word)
             (subst (λ x. Congruent K O.places P.ideal (word_value P (S ++ T) u) x) stays.1 whole.equal);
       }
+
+module _ {F E : Type 0} (P : Presented E) (H : IsPresentation P) (b : BasisState F E) (B : IsBasisOf P b) (lower last : List (Tracked F E)) (p : AreInParts P b.words.degree b.elements lower last)
+    (values : ValuesStay P (values_of lower) (values_of last)) (sums : SumsWithoutNewLettersStay P (values_of lower) (values_of last)) (u : Exponents) (word : IsWord (letters P (values_of lower)) u) (b' : BasisState F E) where
+  -- the right side that is kept
+  pub kept_right : (r right : Option (Polynomial E)) → IfSome r (λ e. right ≡ Some e) →
+      IfSome r (λ e. (lo la : List (Tracked F E)) → AreInParts P b'.words.degree b'.elements lo la → All (λ (t : Term E). length t.at ≤ P.order.places + length lo) e) →
+      IfSome right (λ e. (b' ≡ b) × IsRightSide P (values_of b.elements) u e) → IfSome r (IsRightSide P (values_of lower) u)
+  kept_right None right same short h = tt
+  kept_right (Some e) right same short h =
+      let k : (b' ≡ b) × IsRightSide P (values_of b.elements) u e = subst (λ x. IfSome x (λ e. (b' ≡ b) × IsRightSide P (values_of b.elements) u e)) same h in
+      lower_right P H b B lower last p values sums u word e k.1
+      (short lower last (subst (λ (x : BasisState F E). AreInParts P x.words.degree x.elements lower last) (sym k.0) p))

@@ -1,17 +1,17 @@
 -- A completion in a degree, after elements are added and after a candidate is taken.
-use Rattle.std.proofs.Common.{◌≡◌, ◌≢◌, ℕ, zero, suc, ◌+◌, ◌<◌, ◌≤◌, refl, sym, ◌∙◌, ap, subst, List, [], ◌∷◌, ◌++◌, append-nil, append_assoc, length, length-append, get_or, inl, inr, ◌⊎◌, ⊎_elim, arith, true, false, Bool}
-use Rattle.std.specs.Prelude.{map, remove, slice_get, All, AllPairs, Contains, Some, IfSome}
+use Rattle.std.proofs.Common.{◌≡◌, ◌≢◌, ℕ, zero, suc, ◌+◌, ◌<◌, ◌≤◌, refl, sym, ◌∙◌, ap, subst, List, [], ◌∷◌, ◌++◌, append-nil, append_assoc, length, length-append, get_or, take, drop, inl, inr, ◌⊎◌, ⊎_elim, arith, true, false, Bool}
+use Rattle.std.specs.Prelude.{map, max, remove, slice_get, slice_set, All, AllPairs, Contains, Some, IfSome}
 use Rattle.std.proofs.lemmas.Grind.{in_remove}
 use Rattle.std.proofs.lemmas.List.{length-map, map-append, get_or-append-add, get_or-map}
-use Rattle.std.proofs.lemmas.List.Elements.{All-append, All-contains, All-drop, All-take}
+use Rattle.std.proofs.lemmas.List.Elements.{All-append, All-contains, All-drop, All-get_or, All-set, All-take}
 use Rattle.std.proofs.lemmas.Option.{get_or_from_slice_get, slice_get_within}
 use Rattle.degree_queue.specs.DegreeQueue.{list_of, SameElsewhere}
 use Rattle.monomial_order.specs.Monomial.{Exponents}
-use Rattle.monomial_order.specs.laws.Comparing.{equal_or_not, le_or_not}
+use Rattle.monomial_order.specs.laws.Comparing.{le_or_not}
 use Rattle.monomial_order.specs.laws.Lists.{contains_at, contains_either, contains_left, contains_right}
 use Rattle.word_laws.specs.Words.{IsWord, Letters}
-use Rattle.polynomials.specs.Polynomial.{Polynomial, coefficient, degree_of, lead_monomial}
-use Rattle.polynomials.specs.Subalgebra.{Presented, IsPresentation, AllIn, IsGenerated}
+use Rattle.polynomials.specs.Polynomial.{Polynomial, coefficient, degree_of, lead_monomial, IsPoly}
+use Rattle.polynomials.specs.Subalgebra.{Presented, IsPresentation, AllIn, HasDegreesTo, IsGenerated}
 use Rattle.monomial_order.specs.laws.Lists.{map_contains}
 use Rattle.quotient_gb.specs.Quotient.{closing_max, QuotientState}
 use Rattle.subalgebra_laws.specs.Bases.{AreMonicElements, AreStandardAfter}
@@ -20,14 +20,14 @@ use Rattle.subalgebra_laws.specs.Words.{letters, word_value, IsCombination, IsMi
 use Rattle.subalgebra_laws.specs.laws.Letters.{degree_stays}
 use Rattle.subalgebra_laws.specs.laws.Members.{generator_poly}
 use Rattle.witness.specs.declared.tracked.Tracked.{Tracked}
-use Rattle.witness.specs.Tracking.{values_of, IsShort}
+use Rattle.witness.specs.Tracking.{values_of}
 use Rattle.word_values.specs.Values.{word_degree, Table, AreHomogeneousElements, AreValues, AreWordsTo}
 use Rattle.subduction.specs.Basis.{BasisState, AreInParts, AreShortAt, IsBasisOf}
 use Rattle.subduction.specs.laws.Elements.{homogeneous_elements, monic_elements}
 use Rattle.completion.specs.declared.candidates.Candidate.{Candidate}
 use Rattle.completion.specs.declared.candidates.Candidate.TheVariants.{Generator, Word}
 use Rattle.completion.specs.declared.candidates.Found.{Found}
-use Rattle.completion.specs.Candidates.{IsCandidate, IsGeneratorAt}
+use Rattle.completion.specs.Candidates.{AreWordsAt, IsCandidate, IsGeneratorAt}
 use Rattle.completion.specs.Completion.{elements_of, pending_of, AreKept, AreShortAbove, CompletionState, IsGrown, IsInDegree, IsStanding}
 use Rattle.tete_lift.specs.Lifting.{IsRightSide}
 use Rattle.completion.specs.Taking.{IsTreated}
@@ -54,6 +54,42 @@ stays_or_at xs k x l h =
     same_or_not zero (suc j) = inr (λ e. absurd (omega arith))
     same_or_not (suc i) zero = inr (λ e. absurd (omega arith))
     same_or_not (suc i) (suc j) = ⊎_elim (λ e. inl (omega arith)) (λ n. inr (λ e. n (omega arith))) (same_or_not i j)
+
+-- the words stay if one of them gets another right side
+set_words : {F E : Type 0} (fs : List (Found F E)) (j : ℕ) (old new : Found F E) → j < length fs → old ≡ get_or fs j old → new.word ≡ old.word →
+    map (λ (f : Found F E). f.word) (slice_set fs j new) ≡ map (λ (f : Found F E). f.word) fs
+set_words [] j old new l h e = absurd (omega arith)
+set_words {F} {E} (f ∷ fs) zero old new l h e = ap (λ w. w ∷ map (λ (x : Found F E). x.word) fs) (e ∙ ap (λ (x : Found F E). x.word) h)
+set_words {F} {E} (f ∷ fs) (suc j) old new l h e = ap (λ ws. f.word ∷ ws) (set_words fs j old new (omega arith) h e)
+
+-- the completion with other elements, values and right sides, or with another queue
+abbrev pub with_elements : {F Q E : Type 0} → CompletionState F Q E → BasisState F E → Table E → ℕ → List (Found F E) → CompletionState F Q E
+with_elements s b v n found = record {
+  presentation = s.presentation;
+  basis = b;
+  values = v;
+  kept = n;
+  relations = s.relations;
+  degree = s.degree;
+  read = s.read;
+  begun = s.begun;
+  queue = s.queue;
+  found = found;
+}
+
+abbrev pub with_queue : {F Q E : Type 0} → CompletionState F Q E → List (List Candidate) → CompletionState F Q E
+with_queue s queue = record {
+  presentation = s.presentation;
+  basis = s.basis;
+  values = s.values;
+  kept = s.kept;
+  relations = s.relations;
+  degree = s.degree;
+  read = s.read;
+  begun = s.begun;
+  queue = queue;
+  found = s.found;
+}
 
 module _ {F Q E : Type 0} (P : Presented E) (H : IsPresentation P) (s : CompletionState F Q E) (standing : IsStanding P s) (begun : s.begun ≡ true) where
   open P use {field as K, order as O}
@@ -86,6 +122,16 @@ module _ {F Q E : Type 0} (P : Presented E) (H : IsPresentation P) (s : Completi
   -- the words of the degree
   pub word_found : (j : ℕ) → j < length s.found → Contains (words_of s.found) (word_at j)
   word_found j l = contains_at (words_of s.found) j [] (let e = length-map s.found (λ (f : Found F E). f.word) in omega arith)
+
+  -- the values that are kept, to a degree that is not less than that of the words
+  pub kept_to : (n : ℕ) → n ≡ max s.kept (s.degree + 1) → (s.basis.words.degree ≤ n) × AreWordsTo P (elements_of s) n s.values
+  kept_to n e = (
+    let k = at.degree in omega arith,
+    λ w v h. let k = standing.kept w v h in omega arith,
+  )
+
+  pub word_is : (j : ℕ) (r : Found F E) → j < length s.found → r ≡ get_or s.found j r → word_at j ≡ r.word
+  word_is j r l h = get_or-map (λ (f : Found F E). f.word) s.found j r [] l ∙ ap (λ (f : Found F E). f.word) (sym h)
 
   -- the elements of the last degree come after the others
   lead_found : (x : Polynomial E) → Contains (elements_of s) x → coefficient K x (lead_monomial x) ≢ K.zero
@@ -153,25 +199,27 @@ module _ {F Q E : Type 0} (P : Presented E) (H : IsPresentation P) (s : Completi
         subst (λ S. IsMinimalWord P S u) (sym values_parts)
         ((minimal P (values_of lower) (values_of last) d H after_lower u (let e = degree_over in omega arith)).1 here.0)
 
+  -- one of the words gets another right side
+  module _ (j : ℕ) (old new : Found F E) (l : j < length s.found) (h : old ≡ get_or s.found j old) (e : new.word ≡ old.word) where
+    pub words_stay : words_of (slice_set s.found j new) ≡ words_of s.found
+    words_stay = set_words s.found j old new l h e
+
+    abbrev HasRight : Found F E → Type 0
+    HasRight f = IfSome f.right (IsRightSide P (values_of lower) f.word)
+
+    pub rights_stay : (HasRight old → HasRight new) → All HasRight (slice_set s.found j new)
+    rights_stay k = All-set HasRight s.found j new (k (subst HasRight (sym h) (All-get_or HasRight s.found j old l at.rights))) at.rights
+
+  pub parts_at : AreInParts P s.basis.words.degree s.basis.elements lower last
+  parts_at = subst (λ n. AreInParts P n s.basis.elements lower last) (sym at.degree) at.parts
+
   module _ (b : BasisState F E) (v : Table E) (n : ℕ) (found : List (Found F E)) (B : IsBasisOf P b) (V : AreValues P (values_of b.elements) v) (W : AreWordsTo P (values_of b.elements) n v)
       (by_degree : IsGrown P s.basis.words.degree s.basis.elements b.elements)
       (short : let n = s.basis.words.degree in AreShortAt P n s.basis.elements → AreShortAt P n b.elements)
       (degree : b.words.degree ≡ s.basis.words.degree) (quotient : b.quotient ≡ s.basis.quotient)
       (words : words_of found ≡ words_of s.found) (rights : All (λ f. IfSome f.right (IsRightSide P (values_of lower) f.word)) found) where
-    -- the completion with more elements
-    abbrev pub added : CompletionState F Q E
-    added = record {
-      presentation = s.presentation;
-      basis = b;
-      values = v;
-      kept = n;
-      relations = s.relations;
-      degree = s.degree;
-      read = s.read;
-      begun = s.begun;
-      queue = s.queue;
-      found = found;
-    }
+    abbrev added : CompletionState F Q E
+    added = with_elements s b v n found
 
     grown : IsGrown P d s.basis.elements b.elements
     grown = subst (λ n. IsGrown P n s.basis.elements b.elements) at.degree by_degree
@@ -211,7 +259,7 @@ module _ {F Q E : Type 0} (P : Presented E) (H : IsPresentation P) (s : Completi
     same_number : length found ≡ length s.found
     same_number = let a = length-map found (λ (f : Found F E). f.word) in let c = length-map s.found (λ (f : Found F E). f.word) in let e = ap length words in omega arith
 
-    stay : (a : Polynomial E) → Rattle.polynomials.specs.Polynomial.IsPoly K O.places a → Rattle.polynomials.specs.Subalgebra.HasDegreesTo P d a → IsCombination P (elements_of s) a → IsCombination P (values_of b.elements) a
+    stay : (a : Polynomial E) → IsPoly K O.places a → HasDegreesTo P d a → IsCombination P (elements_of s) a → IsCombination P (values_of b.elements) a
     stay a p l c = subst (λ S. IsCombination P S a) (sym values_more) (grown.stay a p l c)
 
     generator_stays : (i : ℕ) → IsGeneratorAt P d i → IsCombination P (elements_of s) (get_or P.generators i []) → IsCombination P (values_of b.elements) (get_or P.generators i [])
@@ -233,7 +281,7 @@ module _ {F Q E : Type 0} (P : Presented E) (H : IsPresentation P) (s : Completi
       relations = at.relations;
       degree = degree ∙ at.degree;
       quotient = subst (λ (q : QuotientState E). q.degree ≤ suc s.degree) (sym quotient) at.quotient;
-      words = subst (Rattle.completion.specs.Candidates.AreWordsAt P (values_of lower) d) (sym words) at.words;
+      words = subst (AreWordsAt P (values_of lower) d) (sym words) at.words;
       rights = rights;
       pending = subst (λ n. All (IsCandidate P d n) (pending_of s)) (sym same_number) at.pending;
       generators = λ i g. ⊎_elim inl (λ c. inr (generator_stays i g c)) (at.generators i g);
@@ -241,7 +289,7 @@ module _ {F Q E : Type 0} (P : Presented E) (H : IsPresentation P) (s : Completi
           (at.word_values j (let e = same_number in omega arith));
     }
 
-    pub added_stands : IsStanding P added
+    pub added_stands : IsStanding P (with_elements s b v n found)
     added_stands = record {
       basis = B;
       small = let l = standing.small in subst (λ (q : QuotientState E). q.degree ≤ closing_max) (sym quotient) l;
@@ -253,7 +301,7 @@ module _ {F Q E : Type 0} (P : Presented E) (H : IsPresentation P) (s : Completi
       in_degree = λ e. in_degree;
     }
 
-    pub added_kept : AreKept P s added
+    pub added_kept : AreKept P s (with_elements s b v n found)
     added_kept = record {
       presentation = refl;
       read = refl;
@@ -261,22 +309,54 @@ module _ {F Q E : Type 0} (P : Presented E) (H : IsPresentation P) (s : Completi
       relations = ([], sym (append-nil s.relations));
     }
 
+    pub added_word : ForStandardElements E MinimalWordsStay → ((T : List (Polynomial E)) → ValuesStay P (elements_of s) T) → (j : ℕ) (r : Found F E) → j < length s.found → r ≡ get_or s.found j r →
+        IsCombination P (values_of b.elements) (word_value P (elements_of s) r.word) → IsTreated P (with_elements s b v n found) (Word j)
+    added_word minimal stays j r l h c =
+        let w = word_at j in
+        let is : IsWord (letters P (elements_of s)) w = ((word_minimal minimal j l).0).word in
+        let same : word_value P (values_of b.elements) w ≡ word_value P (elements_of s) w = ap (λ S. word_value P S w) values_more ∙ stays (values_of more) w is in
+        subst (λ us. IsCombination P (values_of b.elements) (word_value P (values_of b.elements) (get_or us j []))) (sym words)
+        (subst (IsCombination P (values_of b.elements)) (sym same) (subst (λ x. IsCombination P (values_of b.elements) (word_value P (elements_of s) x)) (sym (word_is j r l h)) c))
+
+  -- a word is treated, and has another right side
+  module _ (minimal : ForStandardElements E MinimalWordsStay) (j : ℕ) (old new : Found F E) (l : j < length s.found) (h : old ≡ get_or s.found j old) (same : new.word ≡ old.word)
+      (b : BasisState F E) (v : Table E) (n : ℕ) (to : n ≡ max s.kept (s.degree + 1)) (B : IsBasisOf P b) (V : AreValues P (values_of b.elements) v)
+      (W : (m : ℕ) → s.basis.words.degree ≤ m → AreWordsTo P (elements_of s) m s.values → AreWordsTo P (values_of b.elements) m v)
+      (by_degree : IsGrown P s.basis.words.degree s.basis.elements b.elements)
+      (short : let m = s.basis.words.degree in AreShortAt P m s.basis.elements → AreShortAt P m b.elements)
+      (degree : b.words.degree ≡ s.basis.words.degree) (quotient : b.quotient ≡ s.basis.quotient)
+      (right : (lo la : List (Tracked F E)) → AreInParts P s.basis.words.degree s.basis.elements lo la → IsWord (letters P (values_of lo)) old.word →
+      IfSome old.right (IsRightSide P (values_of lo) old.word) → IfSome new.right (IsRightSide P (values_of lo) new.word)) where
+    abbrev list : List (Found F E)
+    list = slice_set s.found j new
+
+    words : words_of list ≡ words_of s.found
+    words = words_stay j old new l h same
+
+    over : IsWord (letters P (values_of lower)) old.word
+    over = subst (IsWord (letters P (values_of lower))) (word_is j old l h) (word_over_lower minimal j l)
+
+    rights : All (λ (f : Found F E). IfSome f.right (IsRightSide P (values_of lower) f.word)) list
+    rights = rights_stay j old new l h same (right lower last parts_at over)
+
+    kept_words : AreWordsTo P (values_of b.elements) n v
+    kept_words = let k = kept_to n to in W n k.0 k.1
+
+    pub word_stands : IsStanding P (with_elements s b v n (slice_set s.found j new))
+    word_stands = added_stands b v n list B V kept_words by_degree short degree quotient words rights
+
+    pub word_kept : AreKept P s (with_elements s b v n (slice_set s.found j new))
+    word_kept = added_kept b v n list B V kept_words by_degree short degree quotient words rights
+
+    pub word_treated : ((T : List (Polynomial E)) → ValuesStay P (elements_of s) T) → IsCombination P (values_of b.elements) (word_value P (elements_of s) old.word) →
+        IsTreated P (with_elements s b v n (slice_set s.found j new)) (Word j)
+    word_treated stays = added_word b v n list B V kept_words by_degree short degree quotient words rights minimal stays j old l h
+
   -- the candidate at an index that is a combination is taken out of the queue
-  module _ (stays : ValuesStay P (values_of lower) (values_of last)) (k : ℕ) (x : Candidate) (here : slice_get (pending_of s) k ≡ Some x) (treated : IsTreated P s x)
+  module _ (stays : (S T : List (Polynomial E)) → ValuesStay P S T) (k : ℕ) (x : Candidate) (here : slice_get (pending_of s) k ≡ Some x) (treated : IsTreated P s x)
       (queue : List (List Candidate)) (rest : list_of queue d ≡ remove (pending_of s) k) (others : SameElsewhere d s.queue queue) where
-    abbrev pub popped : CompletionState F Q E
-    popped = record {
-      presentation = s.presentation;
-      basis = s.basis;
-      values = s.values;
-      kept = s.kept;
-      relations = s.relations;
-      degree = s.degree;
-      read = s.read;
-      begun = s.begun;
-      queue = queue;
-      found = s.found;
-    }
+    abbrev popped : CompletionState F Q E
+    popped = with_queue s queue
 
     inside : k < length (pending_of s)
     inside = slice_get_within (pending_of s) k x here
@@ -287,7 +367,7 @@ module _ {F Q E : Type 0} (P : Presented E) (H : IsPresentation P) (s : Completi
 
     word_over : (j : ℕ) → j < length s.found → word_value P (elements_of s) (word_at j) ≡ word_value P (values_of lower) (word_at j)
     word_over j l =
-        ap (λ S. word_value P S (word_at j)) values_parts ∙ stays (word_at j) (((at.words).exactly (word_at j)).0 (word_found j l)).0.0.word
+        ap (λ S. word_value P S (word_at j)) values_parts ∙ stays (values_of lower) (values_of last) (word_at j) (((at.words).exactly (word_at j)).0 (word_found j l)).0.0.word
 
     popped_degree : IsInDegree P popped
     popped_degree = record {
@@ -302,14 +382,14 @@ module _ {F Q E : Type 0} (P : Presented E) (H : IsPresentation P) (s : Completi
       words = at.words;
       rights = at.rights;
       pending = subst (All (IsCandidate P d (length s.found))) (sym rest)
-          (All-append (IsCandidate P d (length s.found)) (Rattle.std.proofs.Common.take k (pending_of s)) (Rattle.std.proofs.Common.drop (suc k) (pending_of s))
+          (All-append (IsCandidate P d (length s.found)) (take k (pending_of s)) (drop (suc k) (pending_of s))
           (All-take (IsCandidate P d (length s.found)) k (pending_of s) at.pending) (All-drop (IsCandidate P d (length s.found)) (suc k) (pending_of s) at.pending));
       generators = λ i g. ⊎_elim (λ h. ⊎_elim inl (λ e. let t : IsTreated P s (Generator i) = subst (IsTreated P s) e treated in inr t) (waits_or_is (Generator i) h)) inr (at.generators i g);
       word_values = λ j l. ⊎_elim (λ h. ⊎_elim inl (λ e. let t : IsTreated P s (Word j) = subst (IsTreated P s) e treated in inr (subst (IsCombination P (elements_of s)) (word_over j l) t)) (waits_or_is (Word j) h)) inr
           (at.word_values j l);
     }
 
-    pub popped_stands : IsStanding P popped
+    pub popped_stands : IsStanding P (with_queue s queue)
     popped_stands = record {
       basis = standing.basis;
       small = standing.small;
@@ -320,3 +400,18 @@ module _ {F Q E : Type 0} (P : Presented E) (H : IsPresentation P) (s : Completi
       at_degree = λ e. absurd (let f : true ≡ false = sym begun ∙ e in cc);
       in_degree = λ e. popped_degree;
     }
+
+  -- the candidate is found in a queue with the same items
+  module _ (n : ℕ) (before queue : List (List Candidate)) (degree : n ≡ suc s.degree) (same : s.queue ≡ before) (stays : (S T : List (Polynomial E)) → ValuesStay P S T) (k : ℕ) (x : Candidate)
+      (here : slice_get (list_of before n) k ≡ Some x) (treated : IsTreated P s x) (rest : list_of queue n ≡ remove (list_of s.queue n) k) (others : SameElsewhere n s.queue queue) where
+    is_here : slice_get (pending_of s) k ≡ Some x
+    is_here = subst (λ i. slice_get (list_of s.queue i) k ≡ Some x) degree (subst (λ q. slice_get (list_of q n) k ≡ Some x) (sym same) here)
+
+    is_rest : list_of queue d ≡ remove (pending_of s) k
+    is_rest = subst (λ i. list_of queue i ≡ remove (list_of s.queue i) k) degree rest
+
+    is_other : SameElsewhere d s.queue queue
+    is_other = subst (λ i. SameElsewhere i s.queue queue) degree others
+
+    pub taken_stands : IsStanding P (with_queue s queue)
+    taken_stands = popped_stands stays k x is_here treated queue is_rest is_other

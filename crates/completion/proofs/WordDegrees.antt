@@ -1,6 +1,6 @@
 -- The values of words over homogeneous elements are homogeneous of the degrees of the words, or zero.
-use Rattle.std.proofs.Common.{◌≡◌, ◌≢◌, ℕ, zero, suc, ◌+◌, ◌≤◌, sym, ◌∙◌, ap, subst, List, [], ◌∷◌, ◌++◌, length, length-append, arith}
-use Rattle.std.specs.Prelude.{map, Contains}
+use Rattle.std.proofs.Common.{◌≡◌, ◌≢◌, ℕ, zero, suc, ◌+◌, ◌≤◌, refl, sym, ◌∙◌, ap, subst, List, [], ◌∷◌, ◌++◌, length, length-append, arith}
+use Rattle.std.specs.Prelude.{map}
 use Rattle.std.proofs.lemmas.List.{length-map}
 use Rattle.monomial_order.specs.Monomial.{Exponents, variable, weighted_degree}
 use Rattle.monomial_order.specs.laws.Lists.{contains_here, contains_there}
@@ -41,7 +41,7 @@ module _ {E : Type 0} (P : Presented E) (H : IsPresentation P) (S : List (Polyno
   letters_graded i zero l ds fs h = h
   letters_graded i (suc k) l ds fs h = (
     (record { monomial = variable_monomial O.places i (omega arith); value = F.one_value }, tt),
-    λ m n. subst (λ w. O.degree w ≡ O.degree (variable i)) (single_term K F (variable i) K.one m n) Rattle.std.proofs.Common.refl,
+    λ m n. subst (λ w. O.degree w ≡ O.degree (variable i)) (single_term K F (variable i) K.one m n) refl,
     letters_graded (suc i) k (omega arith) ds fs h,
   )
 

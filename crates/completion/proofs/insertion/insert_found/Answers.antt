@@ -1,18 +1,20 @@
-use Rattle.std.proofs.Common.{rules, ◌≡◌, ℕ, List, [], ◌≤◌, ◌<◌, length, get_or, OnOk, OnErr, IfOk, IfSome, ◌+◌, ◌-◌, ◌*◌, ◌/◌, ◌%◌, Bool, true, false, nat_eq, nat_lt, ◌∷◌, ◌++◌, slice_set, bit_and, bit_or, Fits, w8, w32, w64, Bor, MutBor}
-use Rattle.word_laws.specs.Words.{IsWord}
-use Rattle.poly_core.specs.Presentation.{presented, IsValid}
-use Rattle.polynomials.specs.Polynomial.{Polynomial, minus, IsPoly}
-use Rattle.polynomials.specs.Subalgebra.{HasDegreesTo}
-use Rattle.subalgebra_laws.specs.Words.{letters, word_value, IsCombination, IsMinimalWord}
-use Rattle.witness.specs.declared.tracked.Tracked.{Tracked}
-use Rattle.witness.specs.Tracking.{values_of, IsShort}
-use Rattle.word_values.specs.Values.{word_degree, AreValues, AreWordsTo, Table}
-use Rattle.subduction.specs.Basis.{AreInParts, AreShortAt, IsBasisOf, IsNewElement}
-use Rattle.completion.specs.Candidates.{IsGeneratorAt}
-use Rattle.completion.specs.Completion.{IsGrown}
-use Rattle.tete_lift.specs.Lifting.{IsRightSide}
+use Rattle.poly_core.specs.Presentation.{presented}
+use Rattle.std.proofs.Common.{subst, ◌++◌}
+use Rattle.subalgebra_laws.specs.Bases.{AreMonicElements}
+use Rattle.witness.specs.Tracking.{values_of}
+use Rattle.subduction.specs.laws.Elements.{monic_elements}
+use Rattle.completion.proofs.Inserting.{values_grown}
+use Rattle.completion.proofs.RightSides.{kept_right}
 use Rattle.completion.proofs.insertion.insert_found.Goals as goal
 
--- src/insertion.rt:143:1
 pub returns-clause-right : goal.returns-clause-right
-returns-clause-right g c = ?
+returns-clause-right g c lower last parts word _ =
+    let P = presented g.F.Field.ops g.O.Order.order c.args.p.now in
+    let H = c.requires.presentation.presentation in
+    let b = c.args.basis.now in
+    let B = c.requires.basis in
+    let S = values_of lower in
+    let T = values_of last in
+    let monic : AreMonicElements P (S ++ T) = subst (AreMonicElements P) (values_grown lower b.elements last parts.whole) (monic_elements P H b B) in
+    kept_right P H b B lower last parts (c.growing.ensures.values P S T) (c.growing.ensures.old_sums P S T H monic) c.args.found.now.word word c.insert_word.new.basis
+    c.lower_right_side.result c.in_ok-right.right c.lower_right_side.ensures.same c.lower_right_side.ensures.lower c.in_ok-right.ensures.right

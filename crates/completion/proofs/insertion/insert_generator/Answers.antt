@@ -1,8 +1,9 @@
-use Rattle.std.proofs.Common.{◌≡◌, ◌+◌, ◌-◌, ◌≤◌, refl, sym, ◌∙◌, ap, subst, not, true, false, get_or, [], arith}
+use Rattle.std.proofs.Common.{◌≡◌, ◌+◌, ◌-◌, refl, sym, ◌∙◌, ap, subst, not, true, false, get_or, [], arith}
 use Rattle.poly_core.specs.Presentation.{generator_degree, presented}
 use Rattle.witness.specs.Tracking.{by_order, letter_poly, values_of, IsGradedPair}
 use Rattle.completion.proofs.Generators.{can_subduce, degree_is, difference, graded, has_places, low, new_element, poly, short_rest, zero_rest}
-use Rattle.completion.proofs.Inserting.{not_grown, on_ok}
+use Rattle.subalgebra_laws.specs.Words.{IsCombination}
+use Rattle.completion.proofs.Inserting.{not_grown, on_ok, Combinations}
 use Rattle.completion.proofs.insertion.insert_generator.Goals as goal
 
 pub returns-in_err-t-clause-grown : goal.returns-in_err-t-clause-grown
@@ -148,7 +149,7 @@ returns-clause-combination g c =
     let can = c.in_ok-t.ensures.canonical b.by_order c.requires.presentation (has_places P H b B i h.0) in
     let r = c.in_ok-rest.field-0 in
     let q = c.in_ok-rest.ensures.subduced in
-    on_ok c.push_rest.result _ _ (λ k. k f (poly P H b B f h.1 t is can) (low P H b B f h.1 t is can) (difference P H b B f h.1 t is can r q)) c.push_rest.ensures.combinations
+    on_ok c.push_rest.result (Combinations P b r.rest.value c.push_rest.new.basis) (IsCombination P (values_of c.push_rest.new.basis.elements) f) (λ k. k f (poly P H b B f h.1 t is can) (low P H b B f h.1 t is can) (difference P H b B f h.1 t is can r q)) c.push_rest.ensures.combinations
 
 pub returns-clause-short : goal.returns-clause-short
 returns-clause-short g c =

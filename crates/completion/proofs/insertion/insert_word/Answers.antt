@@ -1,4 +1,4 @@
-use Rattle.std.proofs.Common.{◌≡◌, ◌≤◌, refl, subst, arith}
+use Rattle.std.proofs.Common.{refl, subst, arith}
 use Rattle.poly_core.specs.Presentation.{presented}
 use Rattle.subalgebra_laws.specs.Words.{word_value}
 use Rattle.witness.specs.Tracking.{values_of}

@@ -1,5 +1,3 @@
-use Rattle.std.proofs.Common.{subst, ◌+◌, ◌≤◌, length, refl}
-use Rattle.std.specs.Prelude.{All}
 use Rattle.poly_core.specs.Presentation.{presented}
 use Rattle.completion.proofs.RightSides.{comparable, count_is}
 use Rattle.completion.proofs.right_sides.lower_right_side.Goals as goal
