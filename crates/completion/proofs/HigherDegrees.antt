@@ -1,13 +1,14 @@
 -- Generators of a list that have a degree above c.
-use Rattle.std.proofs.Common.{◌≡◌, ℕ, ◌<◌, ◌≤◌, sym, ◌∙◌, ap, subst, List, [], ◌∷◌, length, get_or, ⊎_elim, arith}
-use Rattle.std.specs.Prelude.{Contains}
+use Rattle.std.proofs.Common.{◌≡◌, ℕ, ◌<◌, ◌≤◌, refl, sym, ◌∙◌, ap, subst, List, [], ◌∷◌, length, get_or, ⊎_elim, arith, Option, Some, None}
+use Rattle.std.specs.Prelude.{unwrap_or, Contains, IfSome, IsNone}
 use Rattle.word_field.specs.Field.{FieldOps}
 use Rattle.monomial_order.specs.MonomialOrder.{MonomialOrder}
+use Rattle.monomial_order.specs.laws.Comparing.{degree_one}
 use Rattle.monomial_order.specs.laws.Lists.{contains_cases, contains_none}
 use Rattle.poly_core.specs.Presentation.{AreCanonicalGenerators, IsCanonicalGenerator}
-use Rattle.polynomials.specs.Polynomial.{Polynomial, coefficient, IsDegree, IsHomogeneous}
-use Rattle.polynomials.specs.Subalgebra.{Presented, HasDegreesTo}
-use Rattle.polynomials.specs.laws.Coefficients.{nothing_at}
+use Rattle.polynomials.specs.Polynomial.{Polynomial, coefficient, degree_of, lead_monomial, IsDecreasing, IsDegree, IsHomogeneous}
+use Rattle.polynomials.specs.Subalgebra.{Presented, HasDegreesTo, IsPresentation}
+use Rattle.polynomials.specs.laws.Coefficients.{decreasing_leads, nothing_at}
 
 pub member_generator : {E : Type 0} (K : FieldOps E) (O : MonomialOrder) (fs : List (Polynomial E)) → AreCanonicalGenerators K O fs →
     (x : Polynomial E) → Contains fs x → IsCanonicalGenerator K O x
@@ -28,3 +29,18 @@ module _ {E : Type 0} (P : Presented E) (f : Polynomial E) (c : ℕ) where
     degree_above g l = ⊎_elim
         (λ z. absurd (h.some.1 (ap (λ p. coefficient P.field p h.some.0) z ∙ sym (nothing_at P.field h.some.0))))
         (λ (e, low, top, k). let a = k.each h.some.0 h.some.1 in let b = h.some.2 in let q : c < e = omega arith in (e, k, q)) g.homogeneous
+
+-- the degree of a polynomial from that of its monomials
+pub degree_found : {E : Type 0} (P : Presented E) (H : IsPresentation P) (p : Polynomial E) → IsDecreasing P.field P.order p →
+    (o : Option ℕ) → (IsNone o → p ≡ []) → IfSome o (λ d. IsDegree P.field P.order d p) → degree_of P.order p ≤ unwrap_or o 0
+degree_found P H p f None z h =
+    let e : degree_of P.order p ≡ P.order.degree [] = ap (degree_of P.order) (z refl) in
+    let one = degree_one P.order H.order in omega arith
+degree_found P H p f (Some d) z h =
+    h.greatest (lead_monomial p)
+    (decreasing_leads P.field H.field P.order H.order p f
+    (λ e. h.some.1 (ap (λ q. coefficient P.field q h.some.0) e ∙ sym (nothing_at P.field h.some.0)))).nonzero
+
+pub if_some : {T : Type 0} (A B : T → Type 0) → ((v : T) → A v → B v) → (o : Option T) → IfSome o A → IfSome o B
+if_some A B h None k = tt
+if_some A B h (Some v) k = h v k
