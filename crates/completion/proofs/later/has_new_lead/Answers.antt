@@ -1,4 +1,4 @@
-use Rattle.std.proofs.Common.{◌≤◌, ◌-◌, sym, subst, ap, length, arith}
+use Rattle.std.proofs.Common.{◌-◌, sym, subst, length, arith}
 use Rattle.std.specs.Prelude.{Contains}
 use Rattle.std.proofs.lemmas.Bool.{ltb-false, ltb-true}
 use Rattle.poly_core.specs.Presentation.{presented}

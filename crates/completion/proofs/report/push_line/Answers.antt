@@ -1,6 +1,5 @@
 use Rattle.std.proofs.Common.{refl, sym, subst}
 use Rattle.std.specs.Prelude.{IsNone}
-use Rattle.monomial_order.specs.Monomial.{IsMonomial}
 use Rattle.poly_core.specs.Presentation.{presented}
 use Rattle.poly_core.specs.laws.Text.{decreasing_named, decreasing_values, names_monomials}
 use Rattle.polynomials.specs.Polynomial.{IsDecreasing}

@@ -1,4 +1,4 @@
-use Rattle.std.proofs.Common.{◌≡◌, sym, subst, List, ℕ}
+use Rattle.std.proofs.Common.{◌≡◌, sym, subst}
 use Rattle.poly_core.specs.Presentation.{presented}
 use Rattle.subduction.specs.laws.Elements.{homogeneous_elements}
 use Rattle.witness.specs.Tracking.{values_of}
