@@ -23,7 +23,8 @@ module _ {F E : Type 0} (P : Presented E) (H : IsPresentation P) (b : BasisState
 
   -- a rest that is not zero shows that the query is no member
   pub has_remainder : ((t : Tracked F E) (r : Subduced F E) → IsCanonical K O t.value →
-          IsWithin P c (values_of b.elements) t.value → IsSubduced P b t r → IsSubductionRemainder P t.value r.rest.value) →
+      IsWithin P c (values_of b.elements) t.value →
+      IsSubduced P b t r → IsSubductionRemainder P t.value r.rest.value) →
       ForPresentations E RemaindersDecideMembership → IsWithin P c (values_of b.elements) a → r.rest.value ≢ [] →
       HasRemainder P c (values_of b.elements) a r.rest.value
   has_remainder remainder decide within some =

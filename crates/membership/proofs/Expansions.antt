@@ -52,7 +52,7 @@ module _ {E : Type 0} (P : Presented E) (H : IsPresentation P) where
   expands_same S r h x s expands =
       congruent_trans K H.field O.places P.ideal (value K h (fs ++ S)) (value K r (fs ++ S)) (value K x fs)
       (congruent_same K H.field O.places P.ideal (value K h (fs ++ S)) (value K r (fs ++ S))
-          (λ m. sym (value_same K H.field r h (fs ++ S) s m)))
+      (λ m. sym (value_same K H.field r h (fs ++ S) s m)))
       expands
 
 module _ {F E : Type 0} (P : Presented E) (H : IsPresentation P) (b : BasisState F E) (B : IsBasisOf P b)
@@ -93,7 +93,7 @@ module _ {F E : Type 0} (P : Presented E) (H : IsPresentation P) (b : BasisState
       let words = subst (λ N. HasDegreesUpTo K (word_order_of N) d e) B.letters (h.degrees d g).1 in
       all_found K F' O L (λ x. W.degree x ≤ d) (witness_sum P e)
       (moved_degrees P H b B (λ x. x ≤ d) e (decreasing_all K F' M (letters_laws P H b B)
-          (λ w. M.degree w ≤ d) e h.parts.sum.decreasing words) s_words) m
+      (λ w. M.degree w ≤ d) e h.parts.sum.decreasing words) s_words) m
       (λ z. n (by_words m ∙ (ap K.negate z ∙ negate-zero K F')))
 
   -- if nothing is left, what it is expanded to has the value
@@ -103,9 +103,9 @@ module _ {F E : Type 0} (P : Presented E) (H : IsPresentation P) (b : BasisState
       let V = combination_value P S e in
       congruent_trans K F' O.places P.ideal t.value V (value K x fs)
       (subst (Congruent K O.places P.ideal t.value) (append-nil V)
-          (subst (λ p. Congruent K O.places P.ideal t.value (V ++ p)) zero h.parts.equal))
+      (subst (λ p. Congruent K O.places P.ideal t.value (V ++ p)) zero h.parts.equal))
       (congruent_trans K F' O.places P.ideal V (value K (negated K r.rest.by) (fs ++ S)) (value K x fs)
       (congruent_same K F' O.places P.ideal V (value K (negated K r.rest.by) (fs ++ S))
       (λ m. sym (value_same K F' (negated K r.rest.by) (witness_sum P e) (fs ++ S) back m ∙
-          witness_value P H S e s_words m)))
+      witness_value P H S e s_words m)))
       expands)

@@ -16,9 +16,9 @@ degree_is P H a k d h =
     let high = degrees_to P H a k h.some.0 h.some.1 in
     let e = h.some.2 in
     let some : a ≢ [] = λ z. h.some.1 (ap (λ p. coefficient P.field p h.some.0) z ∙
-        sym (nothing_at P.field h.some.0)) in
+    sym (nothing_at P.field h.some.0)) in
     let low = h.greatest (lead_monomial a)
-        (decreasing_leads P.field H.field P.order H.order a k.decreasing some).nonzero in
+    (decreasing_leads P.field H.field P.order H.order a k.decreasing some).nonzero in
     omega arith
 
 -- zero has the degree 0

@@ -36,7 +36,14 @@ QuotientsDecide E = (P : Presented E) → IsPresentation P → (q : QuotientStat
 
 less_end : {E : Type 0} (K : FieldOps E) (F : IsField K) (p q : Polynomial E) → Same K (minus K (p ++ q) q) p
 less_end K F p q m =
-    simp (coefficient-append K F, coefficient-negated K F, F.plus_assoc, F.plus_negate, F.plus_zero, coefficient_value K F)
+    simp (
+      coefficient-append K F,
+      coefficient-negated K F,
+      F.plus_assoc,
+      F.plus_negate,
+      F.plus_zero,
+      coefficient_value K F,
+    )
 
 module _ {F E : Type 0} (P : Presented E) (H : IsPresentation P) (b : BasisState F E) (B : IsBasisOf P b) (c : ℕ)
     (R : IsReducedBasis P c (values_of b.elements)) (low : c ≤ b.words.degree) where
@@ -60,10 +67,10 @@ module _ {F E : Type 0} (P : Presented E) (H : IsPresentation P) (b : BasisState
         let e = r.rest.value in
         sub_congruent P H V (minus K t.value e)
         (law P S H (monic_elements P H b B) members r.word_sum
-            (IsDecreasing_IsPoly K (word_order_of (letters P S)) r.word_sum h.parts.sum.decreasing) h.parts.sum.words)
+        (IsDecreasing_IsPoly K (word_order_of (letters P S)) r.word_sum h.parts.sum.decreasing) h.parts.sum.words)
         (congruent_trans K F' O.places P.ideal (minus K t.value e) (minus K (V ++ e) e) V
         (congruent_plus K F' O.places P.ideal t.value (V ++ e) (negated K e) (negated K e) h.parts.equal
-            (congruent_refl K F' O.places P.ideal (negated K e)))
+        (congruent_refl K F' O.places P.ideal (negated K e)))
         (congruent_same K F' O.places P.ideal (minus K (V ++ e) e) V (less_end K F' V e)))
 
     -- what is left leads no member

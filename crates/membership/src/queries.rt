@@ -85,8 +85,9 @@ fn degree_beyond<F: Field, O: Order>(
 /// What is left of a polynomial within reach is its remainder, and zero exactly for members.
 fn rests_are_remainders<F: Field>()
     ensures remainder { (P : Presented F.Elem) (b : BasisState F F.Elem) (c : ℕ) → IsPresentation P → IsBasisOf P b →
-        IsReducedBasis P c (values_of b.elements) → c ≤ b.words.degree → (t : Tracked F F.Elem) (r : Subduced F F.Elem) →
-        IsCanonical P.field P.order t.value → IsWithin P c (values_of b.elements) t.value → IsSubduced P b t r →
+        IsReducedBasis P c (values_of b.elements) → c ≤ b.words.degree →
+        (t : Tracked F F.Elem) (r : Subduced F F.Elem) → IsCanonical P.field P.order t.value →
+        IsWithin P c (values_of b.elements) t.value → IsSubduced P b t r →
         IsSubductionRemainder P t.value r.rest.value }
     ensures member { ForPresentations F.Elem RemaindersDecideMembership }
 {

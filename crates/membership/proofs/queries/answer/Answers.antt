@@ -36,13 +36,14 @@ answer_within-requires-clause-reach g c =
 
 pub returns-in-None-clause-unchanged : goal.returns-in-None-clause-unchanged
 returns-in-None-clause-unchanged g c =
-    unchanged_twice c.args.c.now c.degree_beyond.new.c c.answer_within.new.c c.in_ok-d.ensures.unchanged c.answer_within.ensures.unchanged
+    unchanged_twice c.args.c.now c.degree_beyond.new.c c.answer_within.new.c
+    c.in_ok-d.ensures.unchanged c.answer_within.ensures.unchanged
 
 pub returns-in-None-clause-answer : goal.returns-in-None-clause-answer
 returns-in-None-clause-answer g c =
     before c.args.c.now c.degree_beyond.new.c c.in_ok-d.ensures.unchanged
     (λ p n ts. IfOk c.answer_within.result (IsAnswer (presented g.F.Field.ops g.O.Order.order p) n
-        (values_of ts) c.args.a.now))
+    (values_of ts) c.args.a.now))
     c.answer_within.ensures.answer
 
 pub returns-in-None-clause-later : goal.returns-in-None-clause-later

@@ -9,13 +9,13 @@ pub returns-in_default-clause-within : goal.returns-in_default-clause-within
 returns-in_default-clause-within g c =
     let P = presented g.F.Field.ops g.O.Order.order c.args.c.now.presentation in
     inl (zero_low P c.requires.completion.presentation.presentation c.args.a.now
-        (c.in_default.ensures.zero.0 refl) c.args.c.now.degree)
+    (c.in_default.ensures.zero.0 refl) c.args.c.now.degree)
 
 pub returns-in_default-clause-reach : goal.returns-in_default-clause-reach
 returns-in_default-clause-reach g c =
     let P = presented g.F.Field.ops g.O.Order.order c.args.c.now.presentation in
     inl (zero_low P c.requires.completion.presentation.presentation c.args.a.now
-        (c.in_default.ensures.zero.0 refl) c.args.c.now.basis.words.degree)
+    (c.in_default.ensures.zero.0 refl) c.args.c.now.basis.words.degree)
 
 pub returns-then-degree-closed_degree-clause-within : goal.returns-then-degree-closed_degree-clause-within
 returns-then-degree-closed_degree-clause-within g c =

@@ -22,15 +22,16 @@ expand-requires-clause-small g c =
     let H = c.requires.presentation.presentation in
     rw c.by_order-order.ensures
     (negated_degrees P H (by_order c.args.basis.now.by_order) c.in_ok-negative.negative c.args.by.now
-    (less_same P H c.in_ok-negative.negative c.zero.result c.args.by.now c.zero.ensures c.in_ok-negative.ensures.difference) 30000 c.requires.small)
+    (less_same P H c.in_ok-negative.negative c.zero.result c.args.by.now
+    c.zero.ensures c.in_ok-negative.ensures.difference) 30000 c.requires.small)
 
 pub returns-clause-poly : goal.returns-clause-poly
 returns-clause-poly g c =
     let P = presented g.F.Field.ops g.O.Order.order c.args.p.now in
     subst (λ n. IsPoly P.field n c.in_ok-expansion.expansion)
-        (gen_places g.F.Field.ops g.O.Order.order c.args.p.now c.requires.presentation)
+    (gen_places g.F.Field.ops g.O.Order.order c.args.p.now c.requires.presentation)
     (IsDecreasing_IsPoly P.field
-        (by_order c.args.p.now.gen_order) c.in_ok-expansion.expansion c.in_ok-expansion.ensures.canonical.decreasing)
+    (by_order c.args.p.now.gen_order) c.in_ok-expansion.expansion c.in_ok-expansion.ensures.canonical.decreasing)
 
 pub returns-clause-value : goal.returns-clause-value
 returns-clause-value g c =
@@ -39,5 +40,6 @@ returns-clause-value g c =
     let K = P.field in
     expands_same P H (values_of c.args.basis.now.elements) c.in_ok-negative.negative
     (Rattle.polynomials.specs.Polynomial.negated K c.args.by.now) c.in_ok-expansion.expansion
-    (less_same P H c.in_ok-negative.negative c.zero.result c.args.by.now c.zero.ensures c.in_ok-negative.ensures.difference)
+    (less_same P H c.in_ok-negative.negative c.zero.result c.args.by.now
+    c.zero.ensures c.in_ok-negative.ensures.difference)
     (rw c.elements.ensures at c.in_ok-expansion.ensures.value)
