@@ -34,6 +34,7 @@ module _ {F O E : Type 0} (P : Presented E) (s : CompletionState F O E) (st : Is
           none_pending = a.none_pending;
         };
     in_degree = λ e. not_begun e;
+    none_later = st.none_later;
   }
 
   -- with other values of words
@@ -49,4 +50,5 @@ module _ {F O E : Type 0} (P : Presented E) (s : CompletionState F O E) (st : Is
         let a = st.at_degree e in
         record { reduced = a.reduced; relations = a.relations; words = a.words; quotient = a.quotient; none_pending = a.none_pending };
     in_degree = λ e. not_begun e;
+    none_later = st.none_later;
   }

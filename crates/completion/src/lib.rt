@@ -17,6 +17,6 @@ mod right_sides;
 mod running;
 
 pub use candidates::{Candidate, Found};
-pub use completion::Completion;
+pub use completion::{BOUND_MAX, Completion};
 pub use pick::Pick;
 pub use relations::Relation;
