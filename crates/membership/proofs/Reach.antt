@@ -4,7 +4,7 @@ use Rattle.poly_core.specs.declared.presentations.Presentation.{Presentation}
 use Rattle.polynomials.specs.Polynomial.{Polynomial, coefficient, degree_of, lead_monomial, IsCanonical, IsDegree}
 use Rattle.polynomials.specs.Subalgebra.{Presented, IsPresentation}
 use Rattle.polynomials.specs.laws.Coefficients.{decreasing_leads, nothing_at}
-use Rattle.polynomials.specs.laws.ReducedBasis.{degree_one}
+use Rattle.monomial_order.specs.laws.Comparing.{degree_one}
 use Rattle.witness.specs.declared.tracked.Tracked.{Tracked}
 use Rattle.completion.specs.Completion.{CompletionState, IsUnchanged}
 use Rattle.subduction.specs.laws.Degrees.{degrees_to}
