@@ -74,6 +74,7 @@ impl<F: Field, O: Order> Completion<F, O> {
         ensures presentation { IfOk result (λ c. c.presentation ≡ p) }
         ensures degree { IfOk result (λ c. c.degree ≡ 0) }
         ensures begun { IfOk result (λ c. c.begun ≡ false) }
+        ensures read { IfOk result (λ c. c.read ≡ 0) }
     {
         subalgebra_laws::laws::lower_bases::<F>();
         let basis = Basis::new(alloc, &p)?;
@@ -239,7 +240,8 @@ impl<F: Field, O: Order> Completion<F, O> {
         Ok(())
     }
 
-    /// Ends the degree that is begun, whatever d is, and then closes all degrees up to d.
+    /// Ends the degree that is begun, whatever d is, and then closes all degrees up to d. Values of words that no degree
+    /// up to d can need are not kept.
     pub fn run_to(&mut self, alloc: Global, d: u32, pick: Pick) -> Result<(), Memory>
         requires completion { IsCompletion F.ops O.order self.old }
         requires small { d ≤ BOUND_MAX }
@@ -250,8 +252,10 @@ impl<F: Field, O: Order> Completion<F, O> {
         ensures kept { AreKept (presented F.ops O.order self.old.presentation) self.old self.new }
         ensures memory { OnErr result (self.old.degree ≤ self.new.degree) }
     {
+        self.values.set_limit(d);
         self.end_begun(alloc, pick)?;
         self.close_to(alloc, d, pick)?;
+        self.values.set_limit(BOUND_MAX);
         Ok(())
     }
 

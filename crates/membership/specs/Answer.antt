@@ -1,6 +1,8 @@
 -- What is answered to the question whether a polynomial is in the subalgebra.
 use Rattle.std.specs.Prelude.{◌≡◌, ◌≢◌, ◌⊎◌, ℕ, ◌<◌, ◌≤◌, List, [], length}
-use Rattle.polynomials.specs.Polynomial.{Polynomial, degree_of, IsPoly}
+use Rattle.word_field.specs.Field.{FieldOps}
+use Rattle.monomial_order.specs.MonomialOrder.{MonomialOrder}
+use Rattle.polynomials.specs.Polynomial.{Polynomial, degree_of, IsCanonical, IsPoly}
 use Rattle.polynomials.specs.Ideal.{Congruent}
 use Rattle.polynomials.specs.Value.{value}
 use Rattle.polynomials.specs.Subalgebra.{Presented, InSubalgebra}
@@ -39,3 +41,9 @@ abbrev pub IsAnswer : {F E : Type 0} → Presented E → ℕ → List (Polynomia
 IsAnswer P c S a (Beyond d) = IsBeyond P c S a d
 IsAnswer P c S a (Member h) = HasWitness P c S a h
 IsAnswer P c S a (No r) = HasRemainder P c S a r
+
+-- the polynomial of an answer is canonical: a member's in the order of the generators, a remainder in that of the ring
+abbrev pub IsCanonicalReply : {F E : Type 0} → FieldOps E → MonomialOrder → MonomialOrder → Reply F E → Type 0
+IsCanonicalReply K order by (Beyond d) = Unit {0}
+IsCanonicalReply K order by (Member h) = IsCanonical K by h
+IsCanonicalReply K order by (No r) = IsCanonical K order r

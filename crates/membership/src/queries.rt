@@ -13,7 +13,7 @@ ghost use Rattle.subduction.specs.declared.subduction.Subduced.{Subduced};
 ghost use Rattle.subduction.specs.Subduced.{IsInReach, IsSubduced};
 ghost use Rattle.completion.specs.Closed.{HasLater};
 ghost use Rattle.completion.specs.Completion.{elements_of, IsCompletion, IsUnchanged};
-ghost use Rattle.membership.specs.Answer.{IsAnswer, IsBeyond, IsWithin};
+ghost use Rattle.membership.specs.Answer.{IsAnswer, IsBeyond, IsCanonicalReply, IsWithin};
 
 use crate::Reply;
 use completion::Completion;
@@ -41,6 +41,8 @@ pub fn answer<F: Field, O: Order>(
         IfOk result (IsAnswer P c.old.degree (elements_of c.old) a.now) }
     ensures later { let P = presented F.ops O.order c.old.presentation in IfOk result (λ r.
         (d : ℕ) → r ≡ Reply.Beyond d → HasLater P c.old.degree (elements_of c.old)) }
+    ensures canonical { let P = presented F.ops O.order c.old.presentation in
+        IfOk result (IsCanonicalReply P.field P.order (by_order c.old.presentation.gen_order)) }
 {
     match degree_beyond(alloc, c, a)? {
         Some(d) => Ok(Reply::Beyond(d)),
@@ -114,6 +116,8 @@ fn answer_within<F: Field, O: Order>(
     ensures unchanged { IsUnchanged c.old c.new }
     ensures answer { let P = presented F.ops O.order c.old.presentation in
         IfOk result (IsAnswer P c.old.degree (elements_of c.old) a.now) }
+    ensures canonical { let P = presented F.ops O.order c.old.presentation in
+        IfOk result (IsCanonicalReply P.field P.order (by_order c.old.presentation.gen_order)) }
     ensures not_beyond { IfOk result (λ r. (d : ℕ) → r ≢ Reply.Beyond d) }
 {
     rests_are_remainders::<F>();
@@ -143,6 +147,7 @@ fn expanded<F: Field, O: Order>(
     ensures poly { let P = presented F.ops O.order p.now in IfOk result (IsPoly P.field (length P.generators)) }
     ensures value { let P = presented F.ops O.order p.now in
         IfOk result (Expands P (values_of basis.now.elements) (negated P.field by.now)) }
+    ensures canonical { IfOk result (IsCanonical (F.ops p.now.field) (by_order p.now.gen_order)) }
 {
     let order = basis.by_order();
     let negative = Poly::sub(alloc, &p.field, order, &Poly::zero(alloc), by)?;

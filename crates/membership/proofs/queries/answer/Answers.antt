@@ -1,10 +1,10 @@
 use Rattle.std.proofs.Common.{◌≡◌, ◌≢◌, ℕ, ◌≤◌, ◌∙◌, IfOk}
 use Rattle.poly_core.specs.Presentation.{presented}
 use Rattle.polynomials.specs.Polynomial.{degree_of, IsCanonical}
-use Rattle.witness.specs.Tracking.{values_of}
+use Rattle.witness.specs.Tracking.{by_order, values_of}
 use Rattle.subduction.specs.Subduced.{IsInReach}
 use Rattle.completion.specs.Closed.{HasLater}
-use Rattle.membership.specs.Answer.{IsAnswer, IsWithin}
+use Rattle.membership.specs.Answer.{IsAnswer, IsCanonicalReply, IsWithin}
 use Rattle.membership.specs.declared.reply.Reply.TheVariants.{Beyond}
 use Rattle.membership.proofs.Reach.{after, before, ok_map, unchanged_twice}
 use Rattle.membership.proofs.queries.answer.Goals as goal
@@ -52,3 +52,10 @@ returns-in-None-clause-later g c =
     ok_map c.answer_within.result (λ r. (d : ℕ) → r ≢ Beyond d)
     (λ r. (d : ℕ) → r ≡ Beyond d → HasLater P c.args.c.now.degree (values_of c.args.c.now.basis.elements))
     (λ r k d e. absurd (k d e)) c.answer_within.ensures.not_beyond
+
+pub returns-in-None-clause-canonical : goal.returns-in-None-clause-canonical
+returns-in-None-clause-canonical g c =
+    before c.args.c.now c.degree_beyond.new.c c.in_ok-d.ensures.unchanged
+    (λ p n ts. IfOk c.answer_within.result (IsCanonicalReply (g.F.Field.ops p.field) (g.O.Order.order p.order)
+    (by_order p.gen_order)))
+    c.answer_within.ensures.canonical

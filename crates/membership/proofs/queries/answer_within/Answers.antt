@@ -55,3 +55,10 @@ returns-clause-answer g c =
       c.lower.ensures.value ∙
           c.in_ok-left.ensures.basis,
     ) at c.in_ok-h.ensures.value)
+
+pub returns-then-is_some-clause-canonical : goal.returns-then-is_some-clause-canonical
+returns-then-is_some-clause-canonical g c = c.in_ok-left.ensures.subduced.canonical.value
+
+pub returns-clause-canonical : goal.returns-clause-canonical
+returns-clause-canonical g c =
+    rw (c.presentation.ensures ∙ c.in_ok-left.ensures.unchanged.presentation) at c.in_ok-h.ensures.canonical
