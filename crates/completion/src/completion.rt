@@ -252,11 +252,18 @@ impl<F: Field, O: Order> Completion<F, O> {
         ensures kept { AreKept (presented F.ops O.order self.old.presentation) self.old self.new }
         ensures memory { OnErr result (self.old.degree ≤ self.new.degree) }
     {
-        self.values.set_limit(d);
+        self.limit_values(d);
         self.end_begun(alloc, pick)?;
         self.close_to(alloc, d, pick)?;
-        self.values.set_limit(BOUND_MAX);
+        self.limit_values(BOUND_MAX);
         Ok(())
+    }
+
+    /// From now on values of words are kept if degrees up to the limit can need them.
+    fn limit_values(&mut self, limit: u32)
+        ensures { self.new ≡ self.old }
+    {
+        self.values.set_limit(limit);
     }
 
     /// The degree to which the basis is closed.
