@@ -20,7 +20,7 @@ use Rattle.completion.specs.declared.candidates.Candidate.{Candidate}
 use Rattle.completion.specs.declared.candidates.Candidate.TheVariants.{Generator, Word}
 use Rattle.completion.specs.declared.candidates.Found.{Found}
 use Rattle.completion.specs.Candidates.{AreCandidates, AreWordsAt, IsCandidate, IsGeneratorAt}
-use Rattle.completion.specs.Completion.{AreKept, CompletionState, IsAtDegree, IsCompletion, IsStanding, IsUnchanged}
+use Rattle.completion.specs.Completion.{AreKept, CompletionState, IsAtDegree, IsCompletion, IsInDegree, IsStanding, IsUnchanged}
 use Rattle.completion.specs.Relations.{AreRelations}
 use Rattle.tete_lift.specs.Lifting.{IsRightSide}
 use Rattle.completion.proofs.Kept.{kept_moved, kept_same, on_err, parts_at_degree, unchanged_moved}
@@ -61,27 +61,34 @@ module _ {F O E : Type 0} (P : Presented E) (s : CompletionState F O E) (S : IsS
   none_later : (d : ℕ) → suc s.degree < d → list_of queue d ≡ []
   none_later d l = others d (λ e. absurd (omega arith)) ∙ S.none_later d l
 
+  -- what does not depend on whether the degree is begun
+  next_standing : (flag : Bool) → (flag ≡ false → IsAtDegree P (record s { basis = b; begun = flag; queue = queue; found = found })) →
+      (flag ≡ true → IsInDegree P (record s { basis = b; begun = flag; queue = queue; found = found })) → IsStanding P (record s { basis = b; begun = flag; queue = queue; found = found })
+  next_standing flag at_degree in_degree = record {
+    basis = B;
+    small = small;
+    values = at_elements (λ ts. AreValues P (values_of ts) s.values) S.values;
+    kept = at_elements (λ ts. AreWordsTo P (values_of ts) s.kept s.values) S.kept;
+    short = λ t k. S.short t (subst (λ ts. Contains ts t) same k);
+    none_later = none_later;
+    at_degree = at_degree;
+    in_degree = in_degree;
+  }
+
   -- the quotient and the words may go one degree further
   further_standing : (s.degree ≤ b.words.degree) × (b.words.degree ≤ suc s.degree) → b.quotient.degree ≤ suc s.degree → list_of queue (suc s.degree) ≡ [] →
       IsStanding P (record s { basis = b; queue = queue; found = found })
   further_standing words quotient none =
       let a = S.at_degree closed in
-      record {
-        basis = B;
-        small = small;
-        values = at_elements (λ ts. AreValues P (values_of ts) s.values) S.values;
-        kept = at_elements (λ ts. AreWordsTo P (values_of ts) s.kept s.values) S.kept;
-        short = λ t k. S.short t (subst (λ ts. Contains ts t) same k);
-        none_later = none_later;
-        at_degree = λ _. record {
-          reduced = at_elements (λ ts. IsReducedBasis P s.degree (values_of ts)) a.reduced;
-          relations = at_elements (λ ts. AreRelations P (values_of ts) s.degree s.relations) a.relations;
-          words = words;
-          quotient = quotient;
-          none_pending = none;
-        };
-        in_degree = λ e. cc;
-      }
+      next_standing s.begun
+      (λ _. record {
+        reduced = at_elements (λ ts. IsReducedBasis P s.degree (values_of ts)) a.reduced;
+        relations = at_elements (λ ts. AreRelations P (values_of ts) s.degree s.relations) a.relations;
+        words = words;
+        quotient = quotient;
+        none_pending = none;
+      })
+      (λ e. cc)
 
   -- all candidates of the next degree wait
   begun_standing : b.words.degree ≡ suc s.degree → b.quotient.degree ≤ suc s.degree → AreWordsAt P (values_of b.elements) b.words.degree (map (λ f. f.word) found) → All (λ f. f.right ≡ None) found →
@@ -89,31 +96,23 @@ module _ {F O E : Type 0} (P : Presented E) (s : CompletionState F O E) (S : IsS
       IsStanding P (record s { basis = b; begun = true; queue = queue; found = found })
   begun_standing degree quotient words rights candidates =
       let a = S.at_degree closed in
-      record {
-        basis = B;
-        small = small;
-        values = at_elements (λ ts. AreValues P (values_of ts) s.values) S.values;
-        kept = at_elements (λ ts. AreWordsTo P (values_of ts) s.kept s.values) S.kept;
-        short = λ t k. S.short t (subst (λ ts. Contains ts t) same k);
-        none_later = none_later;
-        at_degree = λ e. cc;
-        in_degree = λ _. record {
-          lower = b.elements;
-          last = [];
-          parts = at_elements (λ ts. AreInParts P (suc s.degree) ts ts []) (parts_at_degree P s a);
-          reduced = at_elements (λ ts. IsReducedBasis P s.degree (values_of ts)) a.reduced;
-          fresh = λ t k. absurd (contains_none t k);
-          relations = at_elements (λ ts. AreRelations P (values_of ts) s.degree s.relations) a.relations;
-          degree = degree;
-          quotient = quotient;
-          words = subst (λ d. AreWordsAt P (values_of b.elements) d (map (λ f. f.word) found)) degree words;
-          rights = All-weaker (λ (f : Found F E). f.right ≡ None) (λ (f : Found F E). IfSome f.right (IsRightSide P (values_of b.elements) f.word))
-              (λ f e. subst (λ r. IfSome r (IsRightSide P (values_of b.elements) f.word)) (sym e) tt) found rights;
-          pending = all_candidates P (suc s.degree) (length found) (list_of queue (suc s.degree)) candidates;
-          generators = λ i g. inl (has_generator P (suc s.degree) (length found) (list_of queue (suc s.degree)) candidates i g);
-          word_values = λ j l. inl (has_word P (suc s.degree) (length found) (list_of queue (suc s.degree)) candidates j l);
-        };
-      }
+      next_standing true (λ e. cc)
+      (λ _. record {
+        lower = b.elements;
+        last = [];
+        parts = at_elements (λ ts. AreInParts P (suc s.degree) ts ts []) (parts_at_degree P s a);
+        reduced = at_elements (λ ts. IsReducedBasis P s.degree (values_of ts)) a.reduced;
+        fresh = λ t k. absurd (contains_none t k);
+        relations = at_elements (λ ts. AreRelations P (values_of ts) s.degree s.relations) a.relations;
+        degree = degree;
+        quotient = quotient;
+        words = subst (λ d. AreWordsAt P (values_of b.elements) d (map (λ f. f.word) found)) degree words;
+        rights = All-weaker (λ (f : Found F E). f.right ≡ None) (λ (f : Found F E). IfSome f.right (IsRightSide P (values_of b.elements) f.word))
+            (λ f e. subst (λ r. IfSome r (IsRightSide P (values_of b.elements) f.word)) (sym e) tt) found rights;
+        pending = all_candidates P (suc s.degree) (length found) (list_of queue (suc s.degree)) candidates;
+        generators = λ i g. inl (has_generator P (suc s.degree) (length found) (list_of queue (suc s.degree)) candidates i g);
+        word_values = λ j l. inl (has_word P (suc s.degree) (length found) (list_of queue (suc s.degree)) candidates j l);
+      })
 
 -- A completion at a closed degree whose state is also called t: what beginning the next degree asks for and gives.
 module _ {F O E : Type 0} (ops : F → FieldOps E) (order : O → MonomialOrder) (s t : CompletionState F O E) (state : s ≡ t) (completion : IsCompletion ops order t) (not_begun : t.begun ≡ false) where
