@@ -1,5 +1,5 @@
 -- A degree whose last elements were settled, and its end.
-use Rattle.std.proofs.Common.{◌≡◌, ◌≢◌, ℕ, suc, ◌<◌, ◌≤◌, refl, sym, ◌∙◌, ap, subst, List, [], ◌++◌, ◌⊎◌, inl, inr, length, get_or, ⊎_elim, arith}
+use Rattle.std.proofs.Common.{◌≡◌, ◌≢◌, ℕ, suc, ◌<◌, ◌≤◌, refl, sym, ◌∙◌, ap, subst, List, [], ◌++◌, inl, inr, length, get_or, ⊎_elim, arith}
 use Rattle.std.specs.Prelude.{All, Contains, map, false, Option, Some, None, IfSome}
 use Rattle.std.proofs.lemmas.List.{get_or_default, get_or-map, length-map}
 use Rattle.std.proofs.lemmas.List.Elements.{All-contains}

@@ -1,6 +1,6 @@
 -- Words over a list of elements are words over a longer list, in the same order, and right sides stay right sides.
 use Rattle.std.proofs.Common.{◌≡◌, ℕ, ◌≤◌, sym, ◌∙◌, ap, subst, List, [], ◌∷◌, ◌++◌, arith}
-use Rattle.std.specs.Prelude.{map, sum}
+use Rattle.std.specs.Prelude.{map}
 use Rattle.std.proofs.lemmas.List.{map-append}
 use Rattle.word_field.specs.Field.{FieldOps}
 use Rattle.monomial_order.specs.Monomial.{Exponents, IsMonomial, weighted_degree}
