@@ -17,6 +17,9 @@ use word_field::WordField;
 use worked_rows::rings::{Ring, degree, polynomial};
 use worked_rows::rows::ensure;
 
+/// The greatest degree of a query.
+const DEGREE_MAX: u32 = 30_000;
+
 /// The closed degree and the elements.
 pub(crate) fn basis(alloc: Global, c: &RingCompletion) -> Result<String, Fail>
     requires { IsAtRest c.now }
@@ -37,7 +40,8 @@ pub(crate) fn relations(alloc: Global, c: &RingCompletion) -> Result<String, Fai
 fn has_degree(c: &RingCompletion) -> Result<(), Fail>
     ensures { IfOk result (λ _. 1 ≤ c.now.degree) }
 {
-    ensure(c.closed_degree() >= 1, "no degree is closed")
+    ensure(c.closed_degree() >= 1, "no degree is closed")?;
+    Ok(())
 }
 
 /// The lines of the report.
@@ -47,7 +51,8 @@ pub(crate) fn report(alloc: Global, c: &mut RingCompletion) -> Result<String, Fa
 {
     has_degree(c)?;
     let text = c.report(alloc)?;
-    on_one_line(alloc, text)
+    let line = on_one_line(alloc, text)?;
+    Ok(line)
 }
 
 /// Whether nothing new comes later.
@@ -60,14 +65,16 @@ pub(crate) fn is_complete(alloc: Global, c: &mut RingCompletion) -> Result<Strin
     Ok(format!(in alloc; "{complete}")?)
 }
 
-/// The polynomial of a text, if it is of no great degree.
-fn query(alloc: Global, p: &Ring, text: &str) -> Result<Poly<WordField>, Fail>
+/// The polynomial of a text, if its degree is at most the bound.
+fn query(alloc: Global, p: &Ring, text: &str, bound: u32) -> Result<Poly<WordField>, Fail>
     requires { IsRing p.now }
     ensures canonical { IfOk result (IsIn p.now) }
+    ensures within { IfOk result (λ a. degree_of (weight_order_of p.now.order) a ≤ bound) }
     ensures small { IfOk result (λ a. degree_of (weight_order_of p.now.order) a ≤ degree_max) }
 {
     let a = polynomial(alloc, p, text)?;
-    ensure(degree(p, &a) <= 30_000, "a great degree")?;
+    let d = degree(p, &a);
+    ensure(d <= bound && d <= DEGREE_MAX, "a great degree")?;
     Ok(a)
 }
 
@@ -77,9 +84,10 @@ pub(crate) fn answered(alloc: Global, c: &mut RingCompletion, text: &str) -> Res
     ensures { IfOk result (λ _. IsAtRest c.new) }
 {
     has_degree(c)?;
-    let a = query(alloc, c.presentation(), text)?;
+    let a = query(alloc, c.presentation(), text, DEGREE_MAX)?;
     let reply = answer(alloc, c, &a)?;
-    reply_text(alloc, c.presentation(), &reply)
+    let line = reply_text(alloc, c.presentation(), &reply)?;
+    Ok(line)
 }
 
 /// The sum of words and the rest.
@@ -87,15 +95,9 @@ pub(crate) fn subduced(alloc: Global, c: &mut RingCompletion, text: &str) -> Res
     requires { IsAtRest c.old }
     ensures { IfOk result (λ _. IsAtRest c.new) }
 {
-    let value = query(alloc, c.presentation(), text)?;
-    ensure(
-        degree(c.presentation(), &value) <= c.closed_degree(),
-        "out of reach",
-    )?;
-    let t = Tracked {
-        value,
-        by: Poly::zero(alloc),
-    };
-    let s = c.subduce(alloc, &t)?;
-    subduced_text(alloc, c.presentation(), &s)
+    let value = query(alloc, c.presentation(), text, c.closed_degree())?;
+    let by = Poly::zero(alloc);
+    let s = c.subduce(alloc, &Tracked { value, by })?;
+    let line = subduced_text(alloc, c.presentation(), &s)?;
+    Ok(line)
 }

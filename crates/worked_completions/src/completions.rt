@@ -39,7 +39,8 @@ fn closed_text(alloc: Global, d: u32) -> Result<String, Fail> {
 fn has_next(c: &RingCompletion) -> Result<(), Fail>
     ensures { IfOk result (λ _. c.now.degree < BOUND_MAX) }
 {
-    ensure(c.closed_degree() < BOUND_MAX, "a bound out of reach")
+    ensure(c.closed_degree() < BOUND_MAX, "a bound out of reach")?;
+    Ok(())
 }
 
 /// Runs to a degree. The answer is the closed degree.
@@ -54,7 +55,8 @@ pub(crate) fn run(
 {
     let d = bound(text)?;
     c.run_to(alloc, d, pick)?;
-    closed_text(alloc, c.closed_degree())
+    let closed = closed_text(alloc, c.closed_degree())?;
+    Ok(closed)
 }
 
 /// Begins the next degree and then runs. The answer is the closed degree.
@@ -71,7 +73,8 @@ pub(crate) fn begin_and_run(
     has_next(c)?;
     c.begin_degree(alloc)?;
     c.run_to(alloc, d, pick)?;
-    closed_text(alloc, c.closed_degree())
+    let closed = closed_text(alloc, c.closed_degree())?;
+    Ok(closed)
 }
 
 /// Indexes, with blanks between them.
@@ -91,7 +94,8 @@ pub(crate) fn close_with(alloc: Global, c: &mut RingCompletion, picks: &str) -> 
     let picks = indexes(alloc, picks)?;
     has_next(c)?;
     c.close_with(alloc, picks.as_slice())?;
-    closed_text(alloc, c.closed_degree())
+    let closed = closed_text(alloc, c.closed_degree())?;
+    Ok(closed)
 }
 
 /// Takes the candidate at an index.

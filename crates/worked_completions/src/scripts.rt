@@ -9,19 +9,31 @@ use std::alloc::Global;
 use std::test::Fail;
 use worked_rows::rows::{judge, part};
 
-/// The answer of a call that looks at the completion.
-fn looked(alloc: Global, c: &mut RingCompletion, call: &str, argument: &str) -> Result<String, Fail>
-    requires { IsAtRest c.old }
-    ensures { IfOk result (λ _. IsAtRest c.new) }
+/// The answer of a call that reads a completion.
+fn read(alloc: Global, c: &RingCompletion, call: &str) -> Result<String, Fail>
+    requires { IsAtRest c.now }
 {
     match call {
         "basis" => basis(alloc, c),
         "relations" => relations(alloc, c),
+        _ => Err(Fail::new("no such call")),
+    }
+}
+
+/// The answer of a call that asks a completion.
+fn asked(alloc: Global, c: &mut RingCompletion, call: &str, argument: &str) -> Result<String, Fail>
+    requires { IsAtRest c.old }
+    ensures { IfOk result (λ _. IsAtRest c.new) }
+{
+    match call {
         "report" => report(alloc, c),
         "complete" => is_complete(alloc, c),
         "subduce" => subduced(alloc, c, argument),
         "answer" => answered(alloc, c, argument),
-        _ => Err(Fail::new("no such call")),
+        _ => {
+            let answer = read(alloc, c, call)?;
+            Ok(answer)
+        }
     }
 }
 
@@ -36,7 +48,7 @@ fn called(alloc: Global, c: &mut RingCompletion, pick: Pick, line: &str) -> Resu
         "begin and run" => begin_and_run(alloc, c, pick, argument),
         "close" => close_with(alloc, c, argument),
         "take" => close_by_hand(alloc, c, argument),
-        call => looked(alloc, c, call, argument),
+        call => asked(alloc, c, call, argument),
     }
 }
 
