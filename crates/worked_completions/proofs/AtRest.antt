@@ -22,7 +22,7 @@ use Rattle.worked_rows.specs.Rings.{IsIn, IsRing}
 use Rattle.worked_completions.specs.Completions.{IsAtRest, IsOfRing}
 
 module _ (c : CompletionState WordField WeightOrder ℕ) (h : IsAtRest c) where
-  of_ring : Presented ℕ
+  abbrev pub of_ring : Presented ℕ
   of_ring = presented (λ f. residues f.modulus) weight_order_of c.presentation
 
   pub ring : IsRing c.presentation
