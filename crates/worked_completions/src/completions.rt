@@ -121,8 +121,8 @@ fn take_each(alloc: Global, c: &mut RingCompletion, indexes: &[usize]) -> Result
     Ok(counts)
 }
 
-/// Begins the next degree, takes its candidates at indexes and ends it. The answer is how many candidates wait, at first
-/// and after each that is taken.
+/// Begins the next degree, takes its candidates at indexes and ends it. The answer is how many candidates wait, at
+/// first and after each that is taken.
 pub(crate) fn close_by_hand(
     alloc: Global,
     c: &mut RingCompletion,

@@ -9,8 +9,8 @@ use std::alloc::Global;
 use std::test::Fail;
 use worked_rows::rows::{judge, part};
 
-/// The answer of a call that reads a completion.
-fn read(alloc: Global, c: &RingCompletion, call: &str) -> Result<String, Fail>
+/// The answer of a call that shows what a completion has.
+fn shown(alloc: Global, c: &RingCompletion, call: &str) -> Result<String, Fail>
     requires { IsAtRest c.now }
 {
     match call {
@@ -31,7 +31,7 @@ fn asked(alloc: Global, c: &mut RingCompletion, call: &str, argument: &str) -> R
         "subduce" => subduced(alloc, c, argument),
         "answer" => answered(alloc, c, argument),
         _ => {
-            let answer = read(alloc, c, call)?;
+            let answer = shown(alloc, c, call)?;
             Ok(answer)
         }
     }

@@ -1,4 +1,4 @@
-use Rattle.std.proofs.Common.{◌≡◌, ◌≤◌, ◌∙◌, sym, subst, arith}
+use Rattle.std.proofs.Common.{◌≤◌, ◌∙◌, sym, subst, arith}
 use Rattle.word_field.specs.Residues.{residues}
 use Rattle.word_laws.specs.Words.{word_order_of}
 use Rattle.poly_core.specs.Presentation.{weight_order_of}

@@ -1,5 +1,4 @@
 use Rattle.word_field.specs.Residues.{residues}
-use Rattle.poly_core.specs.Presentation.{weight_order_of}
 use Rattle.poly_core.specs.laws.Text.{decreasing_values}
 use Rattle.witness.specs.Tracking.{by_order}
 use Rattle.worked_completions.proofs.texts.reply_text.Goals as goal
