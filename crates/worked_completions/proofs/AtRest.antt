@@ -41,7 +41,8 @@ module _ (c : CompletionState WordField WeightOrder ℕ) (h : IsAtRest c) where
   -- a polynomial with no witness, in reach
   pub can_subduce : (a none : Polynomial ℕ) → none ≡ [] → IsIn c.presentation a →
       degree_of (weight_order_of c.presentation.order) a ≤ c.degree →
-      degree_of (weight_order_of c.presentation.order) a ≤ 30000 → CanSubduce of_ring c.basis (record { value = a; by = none })
+      degree_of (weight_order_of c.presentation.order) a ≤ 30000 →
+      CanSubduce of_ring c.basis (record { value = a; by = none })
   can_subduce a none e k r l = record {
     canonical = record {
       value = k;

@@ -19,9 +19,12 @@ answer-requires-clause-small c =
     subst (λ p. degree_of (weight_order_of p.order) c.in_ok-a.a ≤ 30000) c.presentation.ensures c.in_ok-a.ensures.small
 
 pub reply_text-requires-clause-valid : goal.reply_text-requires-clause-valid
-reply_text-requires-clause-valid c = subst IsRing (sym c.presentation-2.ensures) c.in_ok-reply.ensures.completion.presentation
+reply_text-requires-clause-valid c =
+    subst IsRing (sym c.presentation-2.ensures) c.in_ok-reply.ensures.completion.presentation
 
 pub reply_text-requires-clause-canonical : goal.reply_text-requires-clause-canonical
 reply_text-requires-clause-canonical c =
-    subst (λ p. IsCanonicalReply (residues p.field.modulus) (weight_order_of p.order) (by_order p.gen_order) c.in_ok-reply.reply)
+    subst
+    (λ p. IsCanonicalReply (residues p.field.modulus) (weight_order_of p.order) (by_order p.gen_order)
+    c.in_ok-reply.reply)
     (sym (c.presentation-2.ensures ∙ c.in_ok-reply.ensures.unchanged.presentation)) c.in_ok-reply.ensures.canonical

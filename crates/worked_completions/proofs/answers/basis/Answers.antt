@@ -10,4 +10,5 @@ elements_text-requires-clause-valid c = subst IsRing (sym c.presentation.ensures
 pub elements_text-requires-clause-canonical : goal.elements_text-requires-clause-canonical
 elements_text-requires-clause-canonical c =
     subst (λ p. All (λ t. IsIn p t.value) c.basis.result.now) (sym c.presentation.ensures)
-    (subst (All (λ t. IsIn c.args.c.now.presentation t.value)) (sym c.basis.ensures.value) (elements_in c.args.c.now c.requires))
+    (subst (All (λ t. IsIn c.args.c.now.presentation t.value)) (sym c.basis.ensures.value)
+    (elements_in c.args.c.now c.requires))
