@@ -1,0 +1,6 @@
+pub mod Powers
+pub mod SumForms
+pub mod Ranges
+pub mod VariableNames
+pub mod UnitWeights
+pub mod WholeSums
