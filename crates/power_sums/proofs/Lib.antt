@@ -2,5 +2,4 @@ pub mod Powers
 pub mod SumForms
 pub mod Ranges
 pub mod VariableNames
-pub mod UnitWeights
 pub mod WholeSums

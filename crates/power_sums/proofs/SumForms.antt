@@ -56,10 +56,15 @@ module _ {E : Type 0} (K : FieldOps E) (F : IsField K) where
       let first = coefficient_first K F (unit_order (suc m)) (unit_laws (suc m)) (term_of (power 0 d) K.one) (terms d 1 m) falls.0 in
       record {
         canonical = record { decreasing = falls; small = small (suc m) d some 0 (suc m) few (omega arith) };
-        homogeneous = inr (d, some, few, record {
-          some = (power 0 d, λ z. F.one_not_zero (sym first ∙ z));
-          each = all_found K F (unit_order (suc m)) (unit_laws (suc m)) (λ k. (unit_order (suc m)).degree k ≡ d) (power_sum K (suc m) d) (degrees (suc m) d some 0 (suc m) (omega arith));
-        });
+        homogeneous = inr (
+          d,
+          some,
+          few,
+          record {
+            some = (power 0 d, λ z. F.one_not_zero (sym first ∙ z));
+            each = all_found K F (unit_order (suc m)) (unit_laws (suc m)) (λ k. (unit_order (suc m)).degree k ≡ d) (power_sum K (suc m) d) (degrees (suc m) d some 0 (suc m) (omega arith));
+          },
+        );
       }
 
   generators_from : (m a n : ℕ) → 1 ≤ a → a + n ≤ suc degree_max → AreCanonicalGenerators K (unit_order (suc m)) (map (power_sum K (suc m)) (range_with_len a n))
