@@ -1,5 +1,5 @@
 -- Powers of the variables are monomials, and those of a later variable are smaller.
-use Rattle.std.proofs.Common.{◌≡◌, ℕ, zero, suc, ◌<◌, ◌≤◌, List, [], ◌∷◌, length, true, refl, sym, ap, ◌∙◌, arith}
+use Rattle.std.proofs.Common.{◌≡◌, ℕ, zero, suc, ◌<◌, ◌≤◌, [], length, true, refl, sym, ap, ◌∙◌, arith}
 use Rattle.std.specs.Prelude.{replicate}
 use Rattle.std.proofs.Math.ListN.{length-replicate}
 use Rattle.std.proofs.lemmas.Bool.Decides.{nat_tests}
@@ -19,6 +19,7 @@ power_trimmed zero d h = λ e. absurd (omega arith)
 power_trimmed (suc zero) d h = λ e. absurd (omega arith)
 power_trimmed (suc (suc i)) d h = power_trimmed (suc i) d h
 
+-- its place is the last
 power_length : (i d : ℕ) → length (power i d) ≡ suc i
 power_length zero d = refl
 power_length (suc i) d = ap suc (power_length i d)
@@ -26,7 +27,7 @@ power_length (suc i) d = ap suc (power_length i d)
 pub power_monomial : (m i d : ℕ) → i < m → 1 ≤ d → IsMonomial (unit_order m).places (power i d)
 power_monomial m i d l h = record { trimmed = power_trimmed i d h; within = omega (arith, power_length i d, length-replicate {A = ℕ} m 1) }
 
-pub unit_weights : (m : ℕ) → all_between 1 64 (replicate m 1) ≡ true
+unit_weights : (m : ℕ) → all_between 1 64 (replicate m 1) ≡ true
 unit_weights zero = refl
 unit_weights (suc m) = unit_weights m
 
@@ -38,6 +39,7 @@ power_degree zero i d l = absurd (omega arith)
 power_degree (suc m) zero d l = let z = weighted_nil (replicate m 1) in omega arith
 power_degree (suc m) (suc i) d l = let e = power_degree m i d (omega arith) in omega arith
 
+-- the later power has a 0 where the other has its exponent
 lex_falls : (i k d : ℕ) → 1 ≤ d → i < k → lex (power k d) (power i d) ≡ Less
 lex_falls i zero d h l = absurd (omega arith)
 lex_falls zero (suc k) d h l = ap (λ o. ordering_then o (lex (power k d) [])) (first d h)

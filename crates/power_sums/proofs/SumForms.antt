@@ -1,13 +1,13 @@
 -- Power sums are canonical and homogeneous.
-use Rattle.std.proofs.Common.{◌≡◌, ◌≢◌, ℕ, zero, suc, ◌+◌, ◌<◌, ◌≤◌, inr, List, [], ◌∷◌, ◌++◌, length, map, refl, sym, ap, ◌∙◌, arith}
+use Rattle.std.proofs.Common.{◌≡◌, ℕ, zero, suc, ◌+◌, ◌<◌, ◌≤◌, inr, [], ◌∷◌, ◌++◌, map, refl, sym, ap, ◌∙◌, arith}
 use Rattle.std.specs.List.{range_with_len}
 use Rattle.std.proofs.lemmas.List.FromFn.{length-map-range_with_len, map-range_with_len_more}
 use Rattle.word_field.specs.Field.{FieldOps, IsField}
 use Rattle.monomial_order.specs.declared.terms.Term.{Term}
-use Rattle.polynomials.specs.Polynomial.{Polynomial, term_of, coefficient, IsBelow, IsDecreasing, IsSmall, IsCanonical, IsHomogeneous, AllAt}
+use Rattle.polynomials.specs.Polynomial.{Polynomial, term_of, IsBelow, IsDecreasing, IsSmall, AllAt}
 use Rattle.polynomials.specs.laws.Decreasing.{coefficient_first}
 use Rattle.polynomials.specs.laws.Degrees.{all_found}
-use Rattle.monomial_order.specs.Limits.{degree_max, exponent_max}
+use Rattle.monomial_order.specs.Limits.{degree_max}
 use Rattle.poly_core.specs.Presentation.{IsCanonicalGenerator, AreCanonicalGenerators, IsCanonicalList, generator_degree}
 use Rattle.power_sums.specs.PowerSums.{power, power_sum, sums_to, unit_order}
 use Rattle.power_sums.proofs.Powers.{power_monomial, power_degree, power_falls, unit_laws}
@@ -17,6 +17,7 @@ module _ {E : Type 0} (K : FieldOps E) (F : IsField K) where
   abbrev terms : ℕ → ℕ → ℕ → Polynomial E
   terms d a n = map (λ i. term_of (power i d) K.one) (range_with_len a n)
 
+  -- the terms are decreasing, and all of the degree d
   module _ (m d : ℕ) (some : 1 ≤ d) where
     below : (i a n : ℕ) → i < a → a + n ≤ m → IsBelow K (unit_order m) (power i d) (terms d a n)
     below i a zero l r = tt
@@ -67,6 +68,7 @@ module _ {E : Type 0} (K : FieldOps E) (F : IsField K) where
         );
       }
 
+  -- the sums with n exponents, from a on
   generators_from : (m a n : ℕ) → 1 ≤ a → a + n ≤ suc degree_max → AreCanonicalGenerators K (unit_order (suc m)) (map (power_sum K (suc m)) (range_with_len a n))
   generators_from m a zero l r = tt
   generators_from m a (suc n) l r = (sum_generator m a l (omega arith), generators_from m (a + 1) n (omega arith) (omega arith))

@@ -1,5 +1,5 @@
 -- What is made of the field, the variables and the power sums is a valid presentation of them.
-use Rattle.std.proofs.Common.{◌≡◌, ℕ, ◌∙◌, ◌≤◌, List, [], length, map, refl, sym, ap, subst, arith}
+use Rattle.std.proofs.Common.{◌≡◌, ℕ, ◌∙◌, ◌≤◌, [], length, map, refl, sym, ap, subst, arith}
 use Rattle.std.specs.Prelude.{replicate}
 use Rattle.std.specs.List.{range_with_len, IsDistinct}
 use Rattle.std.specs.Str.{bytes_eq}
@@ -10,7 +10,6 @@ use Rattle.word_field.specs.declared.WordField.{WordField}
 use Rattle.word_field.specs.laws.Residues.{residues_field}
 use Rattle.monomial_order.specs.declared.tie_break.Tie.TheVariants.{Lex}
 use Rattle.monomial_order.specs.declared.weight_order.WeightOrder.{WeightOrder}
-use Rattle.monomial_order.specs.MonomialOrder.{MonomialOrder}
 use Rattle.monomial_order.specs.Orders.{weight_order}
 use Rattle.monomial_order.specs.Ties.{tie_order}
 use Rattle.polynomials.specs.Subalgebra.{Presented, IsPresentation}

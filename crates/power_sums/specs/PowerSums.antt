@@ -1,5 +1,5 @@
 -- The power sums x1^d + .. + xm^d for d from 1 to m, over the field of 32003 elements.
-use Rattle.std.specs.Prelude.{ℕ, List, [], ◌∷◌, ◌++◌, map, replicate}
+use Rattle.std.specs.Prelude.{ℕ, List, [], ◌∷◌, ◌++◌, map, replicate, codes}
 use Rattle.std.specs.Fmt.{decimal}
 use Rattle.std.specs.List.{range_with_len}
 use Rattle.word_field.specs.Field.{FieldOps}
@@ -21,7 +21,7 @@ module _ {E : Type 0} (K : FieldOps E) where
   abbrev pub power_sum : ℕ → ℕ → Polynomial E
   power_sum m d = map (λ i. term_of (power i d) K.one) (range_with_len 0 m)
 
-  -- the sums of the powers of m variables, for the exponents from 1 to m
+  -- these sums for the exponents from 1 to m
   abbrev pub sums_to : ℕ → List (Polynomial E)
   sums_to m = map (power_sum m) (range_with_len 1 m)
 
@@ -29,10 +29,10 @@ module _ {E : Type 0} (K : FieldOps E) where
 abbrev pub unit_order : ℕ → MonomialOrder
 unit_order m = weight_order (replicate m 1) [] (tie_order Lex)
 
--- what the power sums of m variables present: no ideal, and the sums as generators
+-- what the power sums of m variables present; there is no ideal
 abbrev pub power_sums : ℕ → Presented ℕ
 power_sums m = record { field = residues 32003; order = unit_order m; ideal = []; generators = sums_to (residues 32003) m }
 
 -- x1, .., xm
 abbrev pub variable_names : ℕ → List (List ℕ)
-variable_names m = map (λ i. 120 ∷ decimal i) (range_with_len 1 m)
+variable_names m = map (λ i. codes "x" ++ decimal i) (range_with_len 1 m)

@@ -10,8 +10,8 @@ use word_field::Field;
 
 /// The variable at a place to an exponent.
 fn power(alloc: Global, place: usize, exponent: u16) -> Result<Monomial, Memory>
-    requires place { place < 32 }
-    requires exponent { 1 ≤ exponent }
+    requires within { place < 32 }
+    requires positive { 1 ≤ exponent }
     ensures { IfOk result (λ m. m ≡ power place exponent) }
 {
     let mut exponents = vec![in alloc; 0u16; place + 1]?;
@@ -19,15 +19,15 @@ fn power(alloc: Global, place: usize, exponent: u16) -> Result<Monomial, Memory>
     Monomial::from_places(alloc, exponents.as_slice())
 }
 
-/// The sum of these powers of the variables.
+/// The sum of the variables, each to this exponent.
 fn power_sum<F: Field>(
     alloc: Global,
     field: &F,
     count: usize,
     exponent: u16,
 ) -> Result<Poly<F>, Memory>
-    requires count { count ≤ 32 }
-    requires exponent { 1 ≤ exponent }
+    requires few { count ≤ 32 }
+    requires positive { 1 ≤ exponent }
     ensures { IfOk result (λ p. p ≡ power_sum (F.ops field.now) count exponent) }
 {
     let mut terms = Vec::new(alloc);
@@ -40,7 +40,7 @@ fn power_sum<F: Field>(
     Ok(Poly::from_falling(terms))
 }
 
-/// The sums of the powers, up to those with as many factors as there are variables.
+/// The power sums with the exponents from 1 to the number of variables.
 pub(crate) fn generators<F: Field>(
     alloc: Global,
     field: &F,
@@ -56,7 +56,7 @@ pub(crate) fn generators<F: Field>(
     Ok(generators)
 }
 
-/// The order of the words in the generators, whose degrees are 1, 2, ..
+/// The order of the words in the generators, which have the degrees 1, 2, ..
 pub(crate) fn gen_order(alloc: Global, count: usize) -> Result<WordOrder, Memory>
     requires { count ≤ 32 }
     ensures x { IfOk result (λ o. o.x_degrees.items ≡ []) }

@@ -1,4 +1,4 @@
-//! The presentation of the power sums: x1^d + .. + xm^d for d from 1 to m.
+//! The presentations by power sums: x1^d + .. + xm^d for d from 1 to m.
 #![tactic(auto)]
 
 ghost use Rattle.std.specs.Prelude.{◌≡◌, ◌≤◌, IfOk};
@@ -17,8 +17,8 @@ use std::alloc::Global;
 use variables::{field, names, order};
 use word_field::WordField;
 
-/// The sums of the powers of so many variables, from the first powers to those with as many factors as there are
-/// variables. They present the symmetric polynomials.
+/// The presentation by the power sums of so many variables, with the exponents from 1 to their number: over the field
+/// of 32003 elements, without an ideal, in the order by the degree and then lex.
 pub fn power_sums(
     alloc: Global,
     count: usize,

@@ -1,5 +1,5 @@
 //! The field, and the variables with their names and their order.
-ghost use Rattle.std.specs.Prelude.{◌≡◌, ◌≤◌, ◌<◌, ◌^◌, ◌∷◌, ◌++◌, [], replicate, Contains, OnOk, IfOk};
+ghost use Rattle.std.specs.Prelude.{◌≡◌, ◌≤◌, ◌∷◌, ◌++◌, [], replicate, Contains, OnOk, IfOk};
 ghost use Rattle.std.specs.List.{IsDistinct};
 ghost use Rattle.std.specs.Str.{bytes_eq};
 ghost use Rattle.power_sums.specs.PowerSums.{variable_names};
@@ -21,7 +21,7 @@ pub(crate) fn field() -> WordField
     }
 }
 
-/// The order by the degree, and then by the exponents of the first variable.
+/// The order by the degree and then lex.
 pub(crate) fn order(alloc: Global, count: usize) -> Result<WeightOrder, Memory>
     requires some { 1 ≤ count }
     requires few { count ≤ 32 }

@@ -20,4 +20,4 @@ exact (Err e) p d items slice some zeros put trimmed same = tt
 pub returns : goal.returns
 returns c =
     let zeros : c.in_ok-exponents.exponents.items ≡ replicate (c.args.place + 1) 0 = search rules in
-    exact c.from_places.result c.args.place c.args.exponent c.in_ok-exponents.exponents.items c.as_slice.result.now c.requires.exponent zeros c.as_slice.ensures.value c.from_places.ensures.trimmed c.from_places.ensures.exponents
+    exact c.from_places.result c.args.place c.args.exponent c.in_ok-exponents.exponents.items c.as_slice.result.now c.requires.positive zeros c.as_slice.ensures.value c.from_places.ensures.trimmed c.from_places.ensures.exponents
