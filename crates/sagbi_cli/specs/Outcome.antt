@@ -6,8 +6,8 @@ use Rattle.ext_field.specs.PairField.{pairs_of}
 use Rattle.poly_core.specs.declared.place_names.Names.TheVariants.{Listed}
 use Rattle.presentation_text.specs.Kinds.{Fault as TextFault}
 use Rattle.presentation_text.specs.Meaning.{text_max}
-use Rattle.presentation_text.specs.Reading.{reading, queries, order_of_head}
-use Rattle.presentation_text.specs.Reading.AnyReading.{AnyReading, word, pair}
+use Rattle.presentation_text.specs.Reading.{reading, queries, order_of_head, AnyReading}
+use Rattle.presentation_text.specs.Reading.AnyReading.{word, pair}
 use Rattle.shelf_io.specs.Shelf.{Files}
 use Rattle.sagbi_cli.specs.declared.command.Command.{Command}
 use Rattle.sagbi_cli.specs.declared.command.Command.TheVariants.{Complete, Ask, Relations, Trial}

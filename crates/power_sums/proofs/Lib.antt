@@ -1,0 +1,5 @@
+pub mod Powers
+pub mod SumForms
+pub mod Ranges
+pub mod VariableNames
+pub mod WholeSums
