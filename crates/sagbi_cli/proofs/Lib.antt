@@ -1,5 +1,4 @@
 pub mod Decimal
-pub mod Endings
-pub mod Printable
-pub mod PrintedLines
+pub mod Loads
 pub mod Putting
+pub mod Words

@@ -114,7 +114,7 @@ pub(crate) fn answers<F: Field>(
 {
     let mut c = completed(alloc, p, bound, Pick::First)?;
     let mut text = Vec::new(alloc);
-    for query in queries {
+    'queries: for query in queries {
         push_answer(alloc, &mut text, &mut c, query)?;
     }
     Ok(text)

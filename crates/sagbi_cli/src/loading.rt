@@ -21,7 +21,7 @@ use std::alloc::Global;
 use word_field::Field;
 
 /// The bytes of a file.
-fn load<H: Shelf>(
+pub(crate) fn load<H: Shelf>(
     alloc: Global,
     shelf: &mut H,
     name: &str,

@@ -50,9 +50,9 @@ fn complete<H: Shelf>(
 ) -> Result<Vec<u8>, Stop>
     requires bound { IsUpTo bound_max bound }
     ensures output { (files : Files) → H.holds shelf.old ≡ Some files →
-        IfOk result (λ text. IsOutput files (Command.Complete pres bound pick) text.items) }
+        IfOk result (λ text. IsOutput files (Command.Complete pres.entry bound pick) text.items) }
     ensures stops { (files : Files) → H.holds shelf.old ≡ Some files →
-        IfErr result (StopsAs (outcome_of files (Command.Complete pres bound pick))) }
+        IfErr result (StopsAs (outcome_of files (Command.Complete pres.entry bound pick))) }
     ensures map { H.holds shelf.new ≡ H.holds shelf.old }
     ensures failed { IsErrOf result Stop.Shelf → HasRisen (H.faults shelf.old) (H.faults shelf.new) }
 {
@@ -95,13 +95,14 @@ fn ask<H: Shelf>(
 ) -> Result<Vec<u8>, Stop>
     requires bound { IsUpTo bound_max bound }
     ensures output { (files : Files) → H.holds shelf.old ≡ Some files →
-        IfOk result (λ text. IsOutput files (Command.Ask pres bound asked) text.items) }
+        IfOk result (λ text. IsOutput files (Command.Ask pres.entry bound asked.entry) text.items) }
     ensures stops { (files : Files) → H.holds shelf.old ≡ Some files →
-        IfErr result (StopsAs (outcome_of files (Command.Ask pres bound asked))) }
+        IfErr result (StopsAs (outcome_of files (Command.Ask pres.entry bound asked.entry))) }
     ensures map { H.holds shelf.new ≡ H.holds shelf.old }
     ensures failed { IsErrOf result Stop.Shelf → HasRisen (H.faults shelf.old) (H.faults shelf.new) }
 {
-    match presentation(alloc, shelf, pres)? {
+    let given = presentation(alloc, shelf, pres)?;
+    match given {
         AnyPresentation::Word(p) => answered(alloc, p, shelf, bound, asked),
         AnyPresentation::Pair(p) => answered(alloc, p, shelf, bound, asked),
     }
@@ -116,9 +117,9 @@ fn related<H: Shelf>(
 ) -> Result<Vec<u8>, Stop>
     requires bound { IsUpTo bound_max bound }
     ensures output { (files : Files) → H.holds shelf.old ≡ Some files →
-        IfOk result (λ text. IsOutput files (Command.Relations pres bound) text.items) }
+        IfOk result (λ text. IsOutput files (Command.Relations pres.entry bound) text.items) }
     ensures stops { (files : Files) → H.holds shelf.old ≡ Some files →
-        IfErr result (StopsAs (outcome_of files (Command.Relations pres bound))) }
+        IfErr result (StopsAs (outcome_of files (Command.Relations pres.entry bound))) }
     ensures map { H.holds shelf.new ≡ H.holds shelf.old }
     ensures failed { IsErrOf result Stop.Shelf → HasRisen (H.faults shelf.old) (H.faults shelf.new) }
 {

@@ -50,7 +50,7 @@ fn push_lines<F: Field>(
     ensures { OnOk result
         (text.new.items ≡ text.old.items ++ relation_lines (F.ops f.now) names.now relations.now) }
 {
-    for relation in relations {
+    'lines: for relation in relations {
         push_line(alloc, text, f, names, relation)?;
     }
     Ok(())

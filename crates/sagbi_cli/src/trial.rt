@@ -37,7 +37,7 @@ pub(crate) fn trial(alloc: Global, number: u32) -> Result<String, Memory>
 {
     completion::laws::later_is_open::<WordField>();
     let bound = number + 2;
-    let p = power_sums(alloc, bound)?;
+    let p = power_sums(alloc, bound as usize)?;
     let mut c = completed(alloc, p, bound, Pick::First)?;
     let mark = mark_of(c.is_complete(alloc)?);
     Ok(summary(alloc, number, bound, c.basis().len(), mark)?)
