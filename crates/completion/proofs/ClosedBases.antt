@@ -1,5 +1,5 @@
 -- Whether anything new comes after a degree, by what a basis knows.
-use Rattle.std.proofs.Common.{◌≡◌, ℕ, ◌<◌, ◌≤◌, ◌⊎◌, inl, inr, ⊎_elim, sym, ◌∙◌, ap, subst, List, [], length, arith, true}
+use Rattle.std.proofs.Common.{◌≡◌, ℕ, ◌<◌, ◌≤◌, ◌⊎◌, inl, inr, ⊎_elim, sym, ap, subst, List, length, arith, true}
 use Rattle.std.specs.Prelude.{Contains}
 use Rattle.monomial_order.specs.Monomial.{Exponents, Divides, IsMonomial, IsMultiple}
 use Rattle.monomial_order.specs.laws.Cofactors.{Divides-trans}
@@ -12,8 +12,8 @@ use Rattle.toric_ideal.specs.Listing.{AreRules, HasRuleDivisor}
 use Rattle.toric_ideal.specs.declared.rule.Rule.{Rule}
 use Rattle.polynomials.specs.Polynomial.{Polynomial}
 use Rattle.polynomials.specs.Subalgebra.{Presented, IsPresentation, AreZerosTo, HasDegreesTo, IsDecidedTo, LeadsIdeal}
-use Rattle.polynomials.specs.laws.NormalForm.{lead_is_monomial, multiple_leads, zeros_decide}
-use Rattle.quotient_gb.specs.IdealBasis.{AreIdealLeads, IsMinimalLead}
+use Rattle.polynomials.specs.laws.NormalForm.{multiple_leads}
+use Rattle.quotient_gb.specs.IdealBasis.{IsMinimalLead}
 use Rattle.quotient_gb.specs.Quotient.{HasGeneratorAbove, HasOtherLead, QuotientState, with_closed}
 use Rattle.subalgebra_laws.specs.Bases.{IsClosedAt}
 use Rattle.subalgebra_laws.specs.Statements.{ForMonicElements, ZerosRepresentTheIdeal}
@@ -22,7 +22,7 @@ use Rattle.subalgebra_laws.specs.laws.Letters.{places_x}
 use Rattle.witness.specs.Tracking.{values_of}
 use Rattle.word_values.specs.Values.{word_degree}
 use Rattle.subduction.specs.Basis.{BasisState, HasOtherWord, IsBasisOf, IsKnownClosed}
-use Rattle.subduction.specs.laws.Elements.{monic_elements}
+use Rattle.subduction.specs.laws.Decisions.{leads_are_zeros, quotient_decides, words_have_zeros, zeros_represent, ZerosRepresent}
 use Rattle.completion.specs.Closed.{HasHigher, HasLater, HasNewLead, HasNewWord, HasNoneAbove}
 
 -- what comes later shows that the basis is not closed
@@ -44,10 +44,6 @@ module _ {E : Type 0} (P : Presented E) (S : List (Polynomial E)) (c : ℕ) wher
       (λ x. not_higher P.ideal x (k.ideal x.polynomial x.member)) g)
       (λ w. ⊎_elim (λ x. not_new_lead x k) (λ x. not_new_word x k) w) h
 
--- multiples of zeros of the ideal represent it in words over S
-abbrev pub ZerosRepresent : {E : Type 0} → Presented E → List (Polynomial E) → Type 0
-ZerosRepresent P S = (c : ℕ) (zeros : List Exponents) → AreZerosTo P c zeros → ZerosRepresentTheIdeal P S c zeros
-
 module _ {F E : Type 0} (P : Presented E) (H : IsPresentation P) (b : BasisState F E) (B : IsBasisOf P b) where
   abbrev S : List (Polynomial E)
   S = values_of b.elements
@@ -55,26 +51,13 @@ module _ {F E : Type 0} (P : Presented E) (H : IsPresentation P) (b : BasisState
   abbrev L : Letters
   L = letters P S
 
-  -- the leads of the quotient and the zeros of the words are zeros of the ideal
-  leads_are : AreIdealLeads P b.quotient.degree b.quotient.leads
-  leads_are = subst (AreIdealLeads P b.quotient.degree) (sym B.quotient.leads) B.quotient.basis.leads
+  -- the leads of the quotient are zeros of the ideal
+  zeros : AreZerosTo P b.quotient.degree b.quotient.leads
+  zeros = leads_are_zeros P H b B
 
-  words_have_zeros : AreZerosTo P b.words.degree b.words.zeros
-  words_have_zeros = record {
-    lead = λ n k. leads_are.leads n ((B.zeros n).0 k).0;
-    divide = λ m h l.
-        let d = B.degree in
-        let w = leads_are.divides m h (omega arith) in
-        let low = divisor_degree P.order H.order w.0 m (lead_is_monomial P H w.0 (leads_are.leads w.0 w.1)).trimmed (lead_is_monomial P H m h).trimmed w.2 in
-        (w.0, (B.zeros w.0).1 (w.1, omega arith), w.2);
-  }
-
-  -- so the ideal is decided to the degree of the quotient, and to each smaller one
+  -- the ideal is decided to each degree that is not above that of the quotient
   pub decides_to : (c : ℕ) → c ≤ b.quotient.degree → IsDecidedTo P c
-  decides_to c le m hm l = zeros_decide P H b.quotient.degree b.quotient.leads (record { lead = leads_are.leads; divide = leads_are.divides }) m hm (omega arith)
-
-  pub zeros_represent : ForMonicElements E ZerosRepresent → ZerosRepresentTheIdeal P S b.words.degree b.words.zeros
-  zeros_represent law = law P S H (monic_elements P H b B) b.words.degree b.words.zeros words_have_zeros
+  decides_to c le m hm l = quotient_decides P H b B m hm (omega arith)
 
   letters_are : AreLetters L
   letters_are = subst AreLetters B.letters B.words.letters
@@ -92,15 +75,15 @@ module _ {F E : Type 0} (P : Presented E) (H : IsPresentation P) (b : BasisState
   zeros_reduce : (w : Exponents) → IsReducible (IsMultiple b.words.zeros) L w → IsReducibleWord P S w
   zeros_reduce w h =
       reducible_zeros (IsMultiple b.words.zeros) (LeadsIdeal P) L w
-      (multiple_leads P H b.words.degree b.words.zeros words_have_zeros (image_of L w) (image_monomial w)) h
+      (multiple_leads P H b.words.degree b.words.zeros (words_have_zeros P H b B) (image_of L w) (image_monomial w)) h
 
   module _ (represent : ZerosRepresentTheIdeal P S b.words.degree b.words.zeros) where
     -- a rule divides each reducible word of a degree of the words
     rule_divides : (v : Exponents) → IsWord L v → IsReducibleWord P S v → word_degree P S v ≤ b.words.degree →
         HasRuleDivisor b.words.rules v
     rule_divides v hv rv l =
-        let zeros = b.words.zeros in
-        let u = (reducible_exactly L letters_are (IsMultiple zeros) (multiple_closed (length L.degrees) zeros) (multiple_decided (length L.degrees) zeros) v hv).0 ((represent v l).0.1 rv) in
+        let known = b.words.zeros in
+        let u = (reducible_exactly L letters_are (IsMultiple known) (multiple_closed (length L.degrees) known) (multiple_decided (length L.degrees) known) v hv).0 ((represent v l).0.1 rv) in
         let low = divisor_degree (word_order_of L) (word_laws L letters_are) u.0 v u.1.word.trimmed hv.trimmed u.2 in
         let r = rules_are.all u.0 u.1 (omega arith) in
         (r.0, r.1, subst (λ x. Divides x v) (sym r.2) u.2)
@@ -126,7 +109,7 @@ module _ {F E : Type 0} (P : Presented E) (H : IsPresentation P) (b : BasisState
       where
         by_degree : (n : Exponents) → LeadsIdeal P n → Divides n m →
             (P.order.degree n ≤ c) ⊎ (P.order.degree n ≤ c → ⊥) → c < P.order.degree n
-        by_degree n k d (inl low) = let w = leads_are.divides n k (omega arith) in absurd (none (w.0, w.1, Divides-trans w.0 n m w.2 d))
+        by_degree n k d (inl low) = let w = zeros.divide n k (omega arith) in absurd (none (w.0, w.1, Divides-trans w.0 n m w.2 d))
         by_degree n k d (inr high) = omega arith
 
     module _ (represent : ZerosRepresentTheIdeal P S b.words.degree b.words.zeros) where
@@ -167,11 +150,11 @@ module _ {F E : Type 0} (P : Presented E) (H : IsPresentation P) (b : BasisState
           (λ x. inr (inr (other_word le x))) h
 
     -- if the degrees are at most c and quotient and words are closed, nothing comes after c
-    pub closed_at : c ≤ b.words.degree → HasNoneAbove P c b → IsKnownClosed b → IsClosedAt P c S
+    closed_at : c ≤ b.words.degree → HasNoneAbove P c b → IsKnownClosed b → IsClosedAt P c S
     closed_at le none known = record {
       generators = none.generators;
       ideal = none.ideal;
-      leads = λ m h. let w = all_leads m h in (w.0, leads_are.leads w.0 w.1, w.2, none.leads w.0 w.1);
+      leads = λ m h. let w = all_leads m h in (w.0, zeros.lead w.0 w.1, w.2, none.leads w.0 w.1);
       words = λ w hw rw.
           let r = all_words w hw (reducible_zeros (LeadsIdeal P) (IsMultiple b.words.zeros) L w (multiple_of_zero (image_of L w)) rw) in
           (r.0.word, (rules_are.minimal r.0 r.1).word, zeros_reduce r.0.word (rules_are.minimal r.0 r.1).reducible, r.2, none.rules r.0 r.1);
@@ -193,7 +176,7 @@ module _ {F E : Type 0} (P : Presented E) (H : IsPresentation P) (b : BasisState
 abbrev pub IsMarked : {E : Type 0} → QuotientState E → QuotientState E → Type 0
 IsMarked old new = (new ≡ old) ⊎ (new ≡ with_closed true old)
 
-pub marked_degree : {E : Type 0} (p q : QuotientState E) → IsMarked p q → q.degree ≡ p.degree
+marked_degree : {E : Type 0} (p q : QuotientState E) → IsMarked p q → q.degree ≡ p.degree
 marked_degree p q h = ⊎_elim (λ e. ap (λ s. s.degree) e) (λ e. ap (λ s. s.degree) e) h
 
 marked_leads : {E : Type 0} (p q : QuotientState E) → IsMarked p q → q.leads ≡ p.leads

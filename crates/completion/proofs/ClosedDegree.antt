@@ -1,20 +1,19 @@
 -- A degree whose last elements were settled, and its end.
-use Rattle.std.proofs.Common.{◌≡◌, ◌≢◌, ℕ, suc, ◌<◌, ◌≤◌, refl, sym, ◌∙◌, ap, subst, List, [], ◌∷◌, ◌++◌, ◌⊎◌, inl, inr, length, get_or, ⊎_elim, arith}
-use Rattle.std.specs.Prelude.{All, Contains, map, Bool, true, false, Option, Some, None, IfSome}
+use Rattle.std.proofs.Common.{◌≡◌, ◌≢◌, ℕ, suc, ◌<◌, ◌≤◌, refl, sym, ◌∙◌, ap, subst, List, [], ◌++◌, inl, inr, length, get_or, ⊎_elim, arith}
+use Rattle.std.specs.Prelude.{All, Contains, map, false, Option, Some, None, IfSome}
 use Rattle.std.proofs.lemmas.List.{get_or_default, get_or-map, length-map}
 use Rattle.std.proofs.lemmas.List.Elements.{All-contains}
 use Rattle.degree_queue.specs.DegreeQueue.{list_of}
 use Rattle.monomial_order.specs.Monomial.{Exponents}
 use Rattle.monomial_order.specs.MonomialOrder.{IsMonomialOrder}
-use Rattle.monomial_order.specs.laws.Lists.{contains_either, contains_left, contains_none, contains_right}
-use Rattle.word_laws.specs.Words.{word_order_of, Letters, AreLetters}
+use Rattle.monomial_order.specs.laws.Lists.{contains_either, contains_left, contains_none}
+use Rattle.word_laws.specs.Words.{word_order_of, AreLetters}
 use Rattle.word_laws.specs.laws.Words.{word_laws}
 use Rattle.polynomials.specs.Polynomial.{Polynomial, coefficient, degree_of, lead_monomial, IsHomogeneous, IsPoly}
 use Rattle.polynomials.specs.Subalgebra.{Presented, IsPresentation, HasDegreesTo, IsDecidedTo, IsGenerated, IsReducedBasis}
 use Rattle.monomial_order.specs.laws.Lists.{map_contains}
-use Rattle.quotient_gb.specs.Quotient.{QuotientState, IsQuotientOf}
-use Rattle.subalgebra_laws.specs.Bases.{AreMonicElements, AreStandardAfter, HasCombinationsAt, HaveLeadsFrom}
-use Rattle.subalgebra_laws.specs.Statements.{CongruentAreCombinations, ElementsAreCombinations, EndsCanBeExchanged, ForMonicElements, ForNewElements, ForNextElements, ForStandardElements, MinimalWordsStay, MultiplesAreCombinations, NextBasisIsReduced, ProductsSplit, SumsAreCombinations, SumsStay, ValuesStay}
+use Rattle.quotient_gb.specs.Quotient.{QuotientState}
+use Rattle.subalgebra_laws.specs.Bases.{AreStandardAfter, HasCombinationsAt}
 use Rattle.subalgebra_laws.specs.Words.{letters, word_value, IsCombination, IsMinimalWord}
 use Rattle.subalgebra_laws.specs.laws.Members.{generator_poly}
 use Rattle.witness.specs.declared.tracked.Tracked.{Tracked}
@@ -24,31 +23,17 @@ use Rattle.subduction.specs.Basis.{BasisState, AreInParts, AreSettled, AreShortA
 use Rattle.completion.specs.declared.candidates.Candidate.{Candidate}
 use Rattle.completion.specs.declared.candidates.Candidate.TheVariants.{Generator, Word}
 use Rattle.completion.specs.declared.candidates.Found.{Found}
-use Rattle.completion.specs.declared.relations.Relation.{Relation}
 use Rattle.completion.specs.Candidates.{IsGeneratorAt}
-use Rattle.completion.specs.Closing.{relations_of, AreSides, CanRelate}
-use Rattle.completion.specs.Completion.{pending_of, CompletionState, AreKept, AreShortAbove, IsAtDegree, IsInDegree}
+use Rattle.completion.specs.Closing.{relations_of, AreSides, CanRelate, ClosingLaws}
+use Rattle.completion.specs.Completion.{pending_of, CompletionState, AreShortAbove, IsAtDegree, IsInDegree}
 use Rattle.tete_lift.specs.Lifting.{IsRightSide}
 use Rattle.completion.proofs.Combining.{exchanged}
 use Rattle.completion.proofs.LastElements.{checked, homogeneous, last_degree, next_to, standard_after, values_are}
 use Rattle.completion.proofs.LongerWords.{right_stays, same_degree}
 use Rattle.completion.proofs.NextRelations.{next_relations}
-use Rattle.completion.proofs.Parts.{all_members, same_parts}
+use Rattle.completion.proofs.Parts.{same_parts}
 use Rattle.completion.proofs.Sides.{sides_rights, sides_words}
 use Rattle.completion.proofs.WordDegrees.{word_value_graded, word_value_poly}
-
--- the laws that the end of a degree stands on
-pub record ClosingLaws (E : Type 0) : Type 0 where
-  pub sums : ForMonicElements E SumsAreCombinations
-  pub multiples : ForMonicElements E MultiplesAreCombinations
-  pub congruent : ForMonicElements E CongruentAreCombinations
-  pub elements : ForStandardElements E ElementsAreCombinations
-  pub ends : ForNewElements E EndsCanBeExchanged
-  pub values : (P : Presented E) (S T : List (Polynomial E)) → ValuesStay P S T
-  pub stay : ForNewElements E SumsStay
-  pub minimal : ForStandardElements E MinimalWordsStay
-  pub split : (P : Presented E) (S T : List (Polynomial E)) (d : ℕ) → IsPresentation P → AreMonicElements P (S ++ T) → HaveLeadsFrom P d T → ProductsSplit P S T d
-  pub next : ForNextElements E NextBasisIsReduced
 
 module _ {F O E : Type 0} (P : Presented E) (H : IsPresentation P) (s : CompletionState F O E) (D : IsInDegree P s) where
   -- other values are kept
@@ -97,7 +82,7 @@ module _ {F O E : Type 0} (P : Presented E) (H : IsPresentation P) (s : Completi
     after_is : AreStandardAfter P d S T
     after_is = standard_after P H b B' d D.lower X.after new_parts new_fresh
 
-    pub elements_are : values_of b.elements ≡ S ++ T
+    elements_are : values_of b.elements ≡ S ++ T
     elements_are = values_are P H b B' d D.lower X.after new_parts
 
     old_elements : values_of s.basis.elements ≡ S ++ U

@@ -1,14 +1,14 @@
 -- Linear sums of combinations are combinations. So elements at the end of a list may be exchanged for linear sums of
 -- them.
-use Rattle.std.proofs.Common.{◌≡◌, ◌≢◌, ℕ, ◌≤◌, sym, List, [], ◌∷◌, ◌++◌}
-use Rattle.std.specs.Prelude.{All, Contains}
+use Rattle.std.proofs.Common.{◌≡◌, ℕ, ◌≤◌, sym, List, [], ◌∷◌, ◌++◌}
+use Rattle.std.specs.Prelude.{Contains}
 use Rattle.std.proofs.lemmas.List.Elements.{All-contains}
 use Rattle.word_field.specs.Field.{IsValue}
 use Rattle.monomial_order.specs.laws.Lists.{contains_here, contains_there}
 use Rattle.polynomials.specs.Polynomial.{Polynomial, constant, times, IsPoly}
 use Rattle.polynomials.specs.Subalgebra.{Presented, IsPresentation, HasDegreesTo}
 use Rattle.polynomials.specs.laws.Congruence.{congruent_refl, congruent_same}
-use Rattle.subalgebra_laws.specs.Bases.{AreAfter, AreMonicElements, AreStandardAfter, HaveLeadsFrom}
+use Rattle.subalgebra_laws.specs.Bases.{AreMonicElements, AreStandardAfter}
 use Rattle.subalgebra_laws.specs.Statements.{CongruentAreCombinations, ElementsAreCombinations, EndsCanBeExchanged, ForMonicElements, ForNewElements, ForStandardElements, MultiplesAreCombinations, SumsAreCombinations}
 use Rattle.subalgebra_laws.specs.Words.{linear_sum, IsCombination}
 use Rattle.subduction.specs.Basis.{IsLinearSum}

@@ -1,5 +1,5 @@
 -- The degree 0: no monomial leads the ideal there, and no word is reducible.
-use Rattle.std.proofs.Common.{◌≡◌, ℕ, ◌≤◌, refl, sym, ◌∙◌, ap, subst, List, [], false, true, arith, ⊎_elim}
+use Rattle.std.proofs.Common.{◌≡◌, ◌≤◌, sym, ap, subst, List, [], false, arith, ⊎_elim}
 use Rattle.std.specs.Prelude.{Contains, None, Some}
 use Rattle.monomial_order.specs.Monomial.{Exponents}
 use Rattle.monomial_order.specs.MonomialOrder.{IsMonomialOrder}
@@ -9,9 +9,7 @@ use Rattle.word_laws.specs.Words.{AreLetters, word_order_of, IsReducible}
 use Rattle.word_laws.specs.laws.Words.{word_laws}
 use Rattle.polynomials.specs.Polynomial.{Polynomial}
 use Rattle.polynomials.specs.Subalgebra.{Presented, IsPresentation, IsReducedBasis, LeadsIdeal}
-use Rattle.quotient_gb.specs.Quotient.{closing_max}
 use Rattle.subalgebra_laws.specs.Words.{letters, IsMinimalWord}
-use Rattle.witness.specs.declared.tracked.Tracked.{Tracked}
 use Rattle.witness.specs.Tracking.{values_of}
 use Rattle.word_values.specs.Values.{value_in, word_degree, Table}
 use Rattle.degree_queue.specs.DegreeQueue.{list_of}

@@ -1,5 +1,5 @@
 -- Generators of a list that have a degree above c.
-use Rattle.std.proofs.Common.{◌≡◌, ℕ, ◌<◌, ◌≤◌, refl, sym, ◌∙◌, ap, subst, List, [], ◌∷◌, length, get_or, ⊎_elim, arith, Option, Some, None}
+use Rattle.std.proofs.Common.{◌≡◌, ℕ, ◌<◌, ◌≤◌, refl, sym, ◌∙◌, ap, subst, List, [], ◌∷◌, ⊎_elim, arith, Option, Some, None}
 use Rattle.std.specs.Prelude.{unwrap_or, Contains, IfSome, IsNone}
 use Rattle.word_field.specs.Field.{FieldOps}
 use Rattle.monomial_order.specs.MonomialOrder.{MonomialOrder}

@@ -18,18 +18,28 @@ use Rattle.polynomials.specs.laws.Same.{append_same}
 use Rattle.polynomials.specs.laws.Value.{coefficient-constant_times}
 use Rattle.subalgebra_laws.specs.Bases.{AreMonicElements, AreStandardAfter, IsMonicElement}
 use Rattle.subalgebra_laws.specs.Statements.{CombinationsStay, CongruentAreCombinations, ElementsAreCombinations, ForMonicElements, ForNewElements, ForStandardElements, MultiplesAreCombinations, SumsAreCombinations}
-use Rattle.subalgebra_laws.specs.Words.{IsCombination}
+use Rattle.subalgebra_laws.specs.Words.{word_value, IsCombination}
 use Rattle.witness.specs.declared.tracked.Tracked.{Tracked}
 use Rattle.witness.specs.Tracking.{values_of}
-use Rattle.word_values.specs.Values.{AreValues, AreWordsTo, Table}
-use Rattle.subduction.specs.Basis.{AreShortAt, BasisState, IsBasisOf, IsNewElement}
-use Rattle.subduction.specs.laws.Elements.{monic_elements}
+use Rattle.word_values.specs.Values.{word_degree, AreValues, AreWordsTo, Table}
+use Rattle.subduction.specs.Basis.{AreShortAt, BasisState, HasNext, IsBasisOf, IsNewElement}
+use Rattle.subduction.specs.laws.Elements.{homogeneous_elements, monic_elements}
+use Rattle.tete_lift.specs.Lifting.{IsFresh}
 use Rattle.completion.specs.Completion.{IsGrown}
+use Rattle.completion.specs.Insertion.{IsInserted}
+use Rattle.completion.proofs.WordDegrees.{word_value_graded, word_value_poly}
 
 -- to the degree of b, what differs from r by a combination of its elements is one of those of c
 abbrev pub Combinations : {F E : Type 0} → Presented E → BasisState F E → Polynomial E → BasisState F E → Type 0
 Combinations {F} {E} P b r c = (a : Polynomial E) → IsPoly P.field P.order.places a → HasDegreesTo P b.words.degree a →
     IsCombination P (values_of b.elements) (minus P.field a r) → IsCombination P (values_of c.elements) a
+
+-- what is kept over some elements is kept over more
+abbrev pub GrowingValues : Type 0 → Type 0
+GrowingValues E = (P : Presented E) (S T : List (Polynomial E)) (table : Table E) → AreValues P S table → AreValues P (S ++ T) table
+
+abbrev pub GrowingWords : Type 0 → Type 0
+GrowingWords E = (P : Presented E) (S T : List (Polynomial E)) (table : Table E) (d : ℕ) → AreValues P S table → AreWordsTo P S d table → AreWordsTo P (S ++ T) d table
 
 -- what follows from the fact of an answer
 pub on_ok : {A B : Type 0} (r : Result A B) (X Y : Type 0) → (X → Y) → OnOk r X → OnOk r Y
@@ -48,36 +58,53 @@ module _ {E : Type 0} (K : FieldOps E) (O : MonomialOrder) where
   first_value [] h n = absurd (n refl)
   first_value (t ∷ p) h n = h.0.term.value
 
+module _ {F E : Type 0} (P : Presented E) where
+  none_grown : (d : ℕ) (elements : List (Tracked F E)) → IsGrown P d elements elements
+  none_grown d elements = record {
+    more = [];
+    whole = sym (append-nil elements);
+    degrees = All-nil (λ (t : Tracked F E). degree_of P.order t.value ≡ d);
+    fresh = λ t k. absurd (contains_none t k);
+    stay = λ a p l c. subst (λ S. IsCombination P S a) (sym (append-nil (values_of elements))) c;
+  }
+
+  -- no element is put in, and other values of words may be kept
+  pub none_inserted : (b : BasisState F E) → IsBasisOf P b → (before after : Table E) → AreValues P (values_of b.elements) after → (n : ℕ) → n ≡ b.words.degree →
+      ((d : ℕ) → n ≤ d → AreWordsTo P (values_of b.elements) d before → AreWordsTo P (values_of b.elements) d after) → IsInserted P b before b after
+  none_inserted b B before after values n e words = record {
+    basis = B;
+    values = values;
+    kept = λ d l h. words d (omega arith) h;
+    grown = none_grown b.words.degree b.elements;
+    short = λ h. h;
+    degree = refl;
+    quotient = refl;
+  }
+
+  -- the basis is as before
+  pub same_inserted : (b c : BasisState F E) → c ≡ b → IsBasisOf P b → (table : Table E) → AreValues P (values_of b.elements) table → IsInserted P b table c table
+  same_inserted b c e B table values = subst (λ c. IsInserted P b table c table) (sym e) (none_inserted b B table table values b.words.degree refl (λ d l h. h))
+
+  -- other values of words are kept before an element is put in
+  pub then_inserted : (b c : BasisState F E) (before between after : Table E) (n : ℕ) → n ≡ b.words.degree →
+      ((d : ℕ) → n ≤ d → AreWordsTo P (values_of b.elements) d before → AreWordsTo P (values_of b.elements) d between) → IsInserted P b between c after → IsInserted P b before c after
+  then_inserted b c before between after n e words i = record {
+    basis = i.basis;
+    values = i.values;
+    kept = λ d l h. i.kept d l (words d (omega arith) h);
+    grown = i.grown;
+    short = i.short;
+    degree = i.degree;
+    quotient = i.quotient;
+  }
+
 module _ {F E : Type 0} (P : Presented E) (H : IsPresentation P) where
   open P use {field as K, order as O}
   open H use {field as F', order as L}
 
-  -- nothing is added
-  pub not_grown : (d : ℕ) (old new : List (Tracked F E)) → new ≡ old → IsGrown P d old new
-  not_grown d old new e = record {
-    more = [];
-    whole = e ∙ sym (append-nil old);
-    degrees = All-nil (λ (t : Tracked F E). degree_of O t.value ≡ d);
-    fresh = λ t k. absurd (contains_none t k);
-    stay = λ a p l c. subst (λ S. IsCombination P S a) (sym (append-nil (values_of old))) c;
-  }
+  module _ (b : BasisState F E) (t : Tracked F E) (N : IsNewElement P b t) (b' : BasisState F E) (B' : IsBasisOf P b') (X : HasNext P t b.elements b'.elements) where
+    open X use {next, elements as whole, multiple}
 
-  -- a basis that is the old one
-  module _ (b b' : BasisState F E) (e : b' ≡ b) where
-    pub same_grown : IsGrown P b.words.degree b.elements b'.elements
-    same_grown = not_grown b.words.degree b.elements b'.elements (ap (λ (x : BasisState F E). x.elements) e)
-
-    pub same_values : (kept : Table E) → AreValues P (values_of b.elements) kept → AreValues P (values_of b'.elements) kept
-    same_values kept = subst (λ (x : BasisState F E). AreValues P (values_of x.elements) kept) (sym e)
-
-    pub same_words : (kept : Table E) (d : ℕ) → AreWordsTo P (values_of b.elements) d kept → AreWordsTo P (values_of b'.elements) d kept
-    same_words kept d = subst (λ (x : BasisState F E). AreWordsTo P (values_of x.elements) d kept) (sym e)
-
-    pub same_short : (d : ℕ) → AreShortAt P d b.elements → AreShortAt P d b'.elements
-    same_short d = subst (λ (x : BasisState F E). AreShortAt P d x.elements) (sym e)
-
-  module _ (b : BasisState F E) (t : Tracked F E) (N : IsNewElement P b t) (b' : BasisState F E) (B' : IsBasisOf P b') (next : Tracked F E) (whole : b'.elements ≡ b.elements ++ next ∷ [])
-      (multiple : (m : Exponents) → coefficient K t.value m ≡ K.times (first_coefficient K t.value) (coefficient K next.value m)) where
     abbrev S : List (Polynomial E)
     S = values_of b.elements
 
@@ -130,7 +157,7 @@ module _ {F E : Type 0} (P : Presented E) (H : IsPresentation P) where
     }
 
     module _ (stays : ForNewElements E CombinationsStay) where
-      pub is_grown : IsGrown P d b.elements b'.elements
+      is_grown : IsGrown P d b.elements b'.elements
       is_grown = record {
         more = next ∷ [];
         whole = whole;
@@ -138,6 +165,19 @@ module _ {F E : Type 0} (P : Presented E) (H : IsPresentation P) where
         fresh = λ u k. ⊎_elim (λ e. subst (λ (x : Tracked F E). (m : Exponents) → coefficient K x.value m ≢ K.zero → ¬ IsGenerated (map lead_monomial S) m) e (λ m n. (N.reduced m (found m n)).1))
             (λ r. absurd (contains_none u r)) (contains_cases next [] u k);
         stay = stays P S T d H after.after;
+      }
+
+      -- values of words are values over more elements
+      pub one_inserted : GrowingValues E → GrowingWords E → (AreShortAt P d b.elements → AreShortAt P d b'.elements) → b'.words.degree ≡ d → b'.quotient ≡ b.quotient →
+          (table : Table E) → AreValues P S table → IsInserted P b table b' table
+      one_inserted values words short degree quotient table h = record {
+        basis = B';
+        values = subst (λ V. AreValues P V table) (sym grown) (values P S T table h);
+        kept = λ e l k. subst (λ V. AreWordsTo P V e table) (sym grown) (words P S T table e h k);
+        grown = is_grown;
+        short = short;
+        degree = degree;
+        quotient = quotient;
       }
 
       rest_poly : IsPoly K O.places t.value
@@ -161,3 +201,11 @@ module _ {F E : Type 0} (P : Presented E) (H : IsPresentation P) where
           (congruent_same K F' O.places P.ideal a (difference ++ part)
           (λ m. sym (append_same K F' difference difference part t.value (λ i. refl) (λ i. sym (rest_multiple i)) m ∙ minus_back K F' a t.value m)))
           (sums P (S ++ T) H monic difference part kept two))
+
+-- the value of a word of the degree is a combination once what is left of it is an element
+pub word_combined : {F E : Type 0} (P : Presented E) → IsPresentation P → (b : BasisState F E) → IsBasisOf P b → (u : Exponents) → word_degree P (values_of b.elements) u ≡ b.words.degree →
+    (t : Tracked F E) → IsFresh P b u t → (c : BasisState F E) → Combinations P b t.value c → IsCombination P (values_of c.elements) (word_value P (values_of b.elements) u)
+word_combined P H b B u e t fresh c h =
+    let S = values_of b.elements in
+    let elements = homogeneous_elements P H b B in
+    h (word_value P S u) (word_value_poly P H S elements u) (λ m n. let a = word_value_graded P H S elements u m n in omega arith) fresh.difference

@@ -1,12 +1,12 @@
 -- The elements of the last degree of a basis, if none of their monomials is a product of smaller leads.
-use Rattle.std.proofs.Common.{◌≡◌, ◌≢◌, ℕ, suc, ◌+◌, ◌<◌, ◌≤◌, refl, sym, ◌∙◌, ap, subst, List, [], ◌∷◌, ◌++◌, length, length-append, get_or, ⊎_elim, arith}
-use Rattle.std.specs.Prelude.{All, AllPairs, Contains, map}
+use Rattle.std.proofs.Common.{◌≡◌, ◌≢◌, ℕ, suc, ◌+◌, ◌<◌, ◌≤◌, sym, ◌∙◌, ap, subst, List, [], ◌++◌, length, length-append, get_or, ⊎_elim, arith}
+use Rattle.std.specs.Prelude.{AllPairs, Contains, map}
 use Rattle.std.proofs.lemmas.List.{get_or_default, get_or-append-add, get_or-map, length-map, map-append}
 use Rattle.std.proofs.lemmas.List.Elements.{All-contains}
 use Rattle.monomial_order.specs.Monomial.{Exponents}
 use Rattle.monomial_order.specs.MonomialOrder.{IsIncreasing, MonomialOrder}
 use Rattle.monomial_order.specs.laws.Comparing.{le_or_not, numbers_or_not}
-use Rattle.monomial_order.specs.laws.Lists.{contains_map, contains_right}
+use Rattle.monomial_order.specs.laws.Lists.{contains_right}
 use Rattle.word_laws.specs.Words.{Letters}
 use Rattle.polynomials.specs.Polynomial.{Polynomial, coefficient, degree_of, lead_monomial}
 use Rattle.polynomials.specs.Subalgebra.{Presented, IsPresentation, InSubalgebra, IsGenerated}
@@ -18,7 +18,7 @@ use Rattle.witness.specs.Tracking.{by_order, values_of}
 use Rattle.witness.specs.laws.Letters.{by_places}
 use Rattle.witness.specs.laws.Members.{elements_are_members, tracked_are_lower}
 use Rattle.word_values.specs.Values.{AreHomogeneousElements}
-use Rattle.subduction.specs.Basis.{BasisState, AreInParts, IsBasisElement, IsBasisOf}
+use Rattle.subduction.specs.Basis.{BasisState, AreInParts, IsBasisOf}
 use Rattle.subduction.specs.laws.Elements.{homogeneous_elements, monic_elements}
 
 module _ {F E : Type 0} (P : Presented E) (H : IsPresentation P) (b : BasisState F E) (B : IsBasisOf P b) where

@@ -1,5 +1,5 @@
 -- The last of increasing monomials has the greatest degree.
-use Rattle.std.proofs.Common.{◌≡◌, ℕ, suc, ◌-◌, ◌<◌, ◌≤◌, refl, ◌∙◌, ap, subst, List, [], ◌∷◌, length, arith, ⊎_elim, Some, None, Option}
+use Rattle.std.proofs.Common.{◌≡◌, ℕ, suc, ◌-◌, ◌<◌, ◌≤◌, ◌∙◌, ap, subst, List, [], ◌∷◌, length, arith, ⊎_elim, Some, None}
 use Rattle.std.specs.Prelude.{map, slice_get, Contains}
 use Rattle.std.proofs.lemmas.List.{length-map}
 use Rattle.std.proofs.lemmas.Option.{get_or_from_slice_get, slice_get-get_or, slice_get-map, slice_get_within}

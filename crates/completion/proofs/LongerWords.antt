@@ -1,16 +1,14 @@
 -- Words over a list of elements are words over a longer list, in the same order, and right sides stay right sides.
-use Rattle.std.proofs.Common.{◌≡◌, ◌≢◌, ℕ, ◌≤◌, sym, ◌∙◌, ap, subst, List, [], ◌∷◌, ◌++◌, length, length-append, take, drop, append_assoc, arith}
-use Rattle.std.specs.Prelude.{map, sum}
+use Rattle.std.proofs.Common.{◌≡◌, ℕ, ◌≤◌, sym, ◌∙◌, ap, subst, List, [], ◌∷◌, ◌++◌, arith}
+use Rattle.std.specs.Prelude.{map}
 use Rattle.std.proofs.lemmas.List.{map-append}
-use Rattle.std.specs.Ordering.{nat_cmp, ordering_then, on, then_cmp}
-use Rattle.std.specs.declared.cmp.Ordering.{Ordering}
 use Rattle.word_field.specs.Field.{FieldOps}
 use Rattle.monomial_order.specs.Monomial.{Exponents, IsMonomial, weighted_degree}
 use Rattle.monomial_order.specs.MonomialOrder.{MonomialOrder}
-use Rattle.monomial_order.specs.Orders.{word_order, lex}
+use Rattle.monomial_order.specs.Orders.{word_order}
 use Rattle.word_laws.specs.Words.{word_order_of, lead_degrees, IsWord}
-use Rattle.word_laws.specs.laws.Images.{weighted_front}
-use Rattle.polynomials.specs.Polynomial.{Polynomial, lead_monomial, AllAt, IsCanonical, IsDecreasing, IsPoly, IsSmall}
+use Rattle.word_laws.specs.laws.Longer.{longer_compare}
+use Rattle.polynomials.specs.Polynomial.{Polynomial, lead_monomial, AllAt, IsCanonical, IsPoly, IsSmall}
 use Rattle.polynomials.specs.Ideal.{Congruent}
 use Rattle.polynomials.specs.Subalgebra.{Presented, IsPresentation}
 use Rattle.polynomials.specs.laws.Decreasing.{IsDecreasing_IsPoly}
@@ -21,19 +19,6 @@ use Rattle.subalgebra_laws.specs.laws.Fronts.{decreasing_over}
 use Rattle.subalgebra_laws.specs.laws.Letters.{degree_stays, letter_degrees, word_grows}
 use Rattle.word_values.specs.Values.{word_degree}
 use Rattle.tete_lift.specs.Lifting.{IsRightSide}
-
--- orders of words with more letters at the end
-module _ (xs ss es : List ℕ) where
-  more_degree : (m : Exponents) → length m ≤ length (xs ++ ss) → (word_order xs (ss ++ es)).degree m ≡ (word_order xs ss).degree m
-  more_degree m l = ap (λ ds. weighted_degree ds m) (sym (append_assoc xs ss es)) ∙ weighted_front (xs ++ ss) es m l
-
-  abbrev rest : Exponents → Exponents → Ordering
-  rest = then_cmp (on (λ w. sum (take (length xs) w)) nat_cmp) (then_cmp (on (drop (length xs)) lex) lex)
-
-  more_compare : (m n : Exponents) → length m ≤ length (xs ++ ss) → length n ≤ length (xs ++ ss) → (word_order xs (ss ++ es)).compare m n ≡ (word_order xs ss).compare m n
-  more_compare m n hm hn =
-      ap (λ d. ordering_then (nat_cmp d ((word_order xs (ss ++ es)).degree n)) (rest m n)) (more_degree m hm) ∙
-      ap (λ d. ordering_then (nat_cmp ((word_order xs ss).degree m) d) (rest m n)) (more_degree n hn)
 
 monomials_of : {E : Type 0} (K : FieldOps E) (n : ℕ) (p : Polynomial E) → IsPoly K n p → AllAt (IsMonomial n) p
 monomials_of K n [] h = tt
@@ -57,7 +42,7 @@ module _ {E : Type 0} (P : Presented E) (S T : List (Polynomial E)) where
   pub same_compare : (m n : Exponents) → IsWord (letters P S) m → IsWord (letters P S) n → W.compare m n ≡ V.compare m n
   same_compare m n h k =
       ap (λ ss. (word_order (letter_degrees P S) ss).compare m n) lead_degrees_split ∙
-      more_compare (letter_degrees P S) (lead_degrees (letters P S)) (map (weighted_degree (letter_degrees P S)) (map lead_monomial T)) m n h.within k.within
+      longer_compare (letter_degrees P S) (lead_degrees (letters P S)) (map (weighted_degree (letter_degrees P S)) (map lead_monomial T)) m n h.within k.within
 
   module _ (K : FieldOps E) where
     pub canonical_over : (e : Polynomial E) → IsCanonical K V e → IsCanonical K W e

@@ -1,6 +1,6 @@
 -- The relations to the next degree: the old ones, and those of the minimal words of that degree.
-use Rattle.std.proofs.Common.{◌≡◌, ℕ, suc, ◌<◌, ◌≤◌, sym, ◌∙◌, ap, subst, List, [], ◌∷◌, ◌++◌, ⊎_elim, arith}
-use Rattle.std.specs.Prelude.{◌↔◌, All, Contains, map}
+use Rattle.std.proofs.Common.{◌≡◌, ℕ, suc, ◌≤◌, sym, ◌∙◌, ap, subst, List, [], ◌∷◌, ◌++◌, ⊎_elim, arith}
+use Rattle.std.specs.Prelude.{All, Contains, map}
 use Rattle.std.specs.declared.cmp.Ordering.TheVariants.{Less}
 use Rattle.std.proofs.lemmas.List.{map-append}
 use Rattle.std.proofs.lemmas.List.Elements.{All-append, All-contains}
@@ -8,10 +8,9 @@ use Rattle.monomial_order.specs.Monomial.{Exponents}
 use Rattle.monomial_order.specs.MonomialOrder.{MonomialOrder, IsIncreasing, IsMonomialOrder}
 use Rattle.monomial_order.specs.laws.Comparing.{increasing_below, increasing_cons, increasing_tail, le_or_not}
 use Rattle.monomial_order.specs.laws.Lists.{contains_either, contains_here, contains_left, contains_map, contains_right, contains_there}
-use Rattle.word_laws.specs.Words.{word_order_of, IsWord}
+use Rattle.word_laws.specs.Words.{word_order_of}
 use Rattle.polynomials.specs.Polynomial.{Polynomial}
 use Rattle.polynomials.specs.Subalgebra.{Presented, IsPresentation}
-use Rattle.monomial_order.specs.laws.Lists.{map_contains}
 use Rattle.subalgebra_laws.specs.Bases.{AreStandardAfter}
 use Rattle.subalgebra_laws.specs.Statements.{ForNewElements, ForStandardElements, MinimalWordsStay, SumsStay, ValuesStay}
 use Rattle.subalgebra_laws.specs.Words.{letters, IsMinimalWord}

@@ -14,6 +14,7 @@ use Rattle.polynomials.specs.laws.Decreasing.{IsDecreasing_IsPoly}
 use Rattle.polynomials.specs.laws.Degrees.{all_found}
 use Rattle.monomial_order.specs.laws.Comparing.{degree_one}
 use Rattle.monomial_order.specs.laws.Lists.{map_contains}
+use Rattle.subalgebra_laws.specs.Bases.{AreMonicElements}
 use Rattle.subalgebra_laws.specs.Statements.{SumsWithoutNewLettersStay, ValuesStay}
 use Rattle.subalgebra_laws.specs.Words.{combination_value, letters, word_value, IsIrreducibleSum}
 use Rattle.subalgebra_laws.specs.laws.Letters.{degree_stays, places_letters, places_x}
@@ -21,7 +22,7 @@ use Rattle.toric_ideal.specs.Increasing.{AreComparable, IsComparable}
 use Rattle.witness.specs.declared.tracked.Tracked.{Tracked}
 use Rattle.witness.specs.Tracking.{values_of}
 use Rattle.subduction.specs.Basis.{BasisState, AreInParts, IsBasisOf}
-use Rattle.subduction.specs.laws.Elements.{homogeneous_elements, leads_monomials}
+use Rattle.subduction.specs.laws.Elements.{homogeneous_elements, leads_monomials, monic_elements}
 use Rattle.tete_lift.specs.Lifting.{IsRightSide}
 use Rattle.completion.proofs.Inserting.{values_grown}
 
@@ -109,7 +110,7 @@ module _ {F E : Type 0} (P : Presented E) (H : IsPresentation P) (b : BasisState
       stays = sums e whole.sum over
 
       -- it is one over the elements of smaller degree
-      pub lower_right : IsRightSide P S u e
+      lower_right : IsRightSide P S u e
       lower_right = record {
         sum = stays.0;
         canonical = record { decreasing = (stays.0).decreasing; small = small e all_words whole.canonical.small };
@@ -119,7 +120,11 @@ module _ {F E : Type 0} (P : Presented E) (H : IsPresentation P) (b : BasisState
       }
 
 module _ {F E : Type 0} (P : Presented E) (H : IsPresentation P) (b : BasisState F E) (B : IsBasisOf P b) (lower last : List (Tracked F E)) (p : AreInParts P b.words.degree b.elements lower last)
-    (values : ValuesStay P (values_of lower) (values_of last)) (sums : SumsWithoutNewLettersStay P (values_of lower) (values_of last)) (u : Exponents) (word : IsWord (letters P (values_of lower)) u) (b' : BasisState F E) where
+    (values : ValuesStay P (values_of lower) (values_of last)) (sums : IsPresentation P → AreMonicElements P (values_of lower ++ values_of last) → SumsWithoutNewLettersStay P (values_of lower) (values_of last))
+    (u : Exponents) (word : IsWord (letters P (values_of lower)) u) (b' : BasisState F E) where
+  monic : AreMonicElements P (values_of lower ++ values_of last)
+  monic = subst (AreMonicElements P) (values_grown lower b.elements last p.whole) (monic_elements P H b B)
+
   -- the right side that is kept
   pub kept_right : (r right : Option (Polynomial E)) → IfSome r (λ e. right ≡ Some e) →
       IfSome r (λ e. (lo la : List (Tracked F E)) → AreInParts P b'.words.degree b'.elements lo la → All (λ (t : Term E). length t.at ≤ P.order.places + length lo) e) →
@@ -127,5 +132,5 @@ module _ {F E : Type 0} (P : Presented E) (H : IsPresentation P) (b : BasisState
   kept_right None right same short h = tt
   kept_right (Some e) right same short h =
       let k : (b' ≡ b) × IsRightSide P (values_of b.elements) u e = subst (λ x. IfSome x (λ e. (b' ≡ b) × IsRightSide P (values_of b.elements) u e)) same h in
-      lower_right P H b B lower last p values sums u word e k.1
+      lower_right P H b B lower last p values (sums H monic) u word e k.1
       (short lower last (subst (λ (x : BasisState F E). AreInParts P x.words.degree x.elements lower last) (sym k.0) p))

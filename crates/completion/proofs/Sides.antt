@@ -1,7 +1,6 @@
 -- The relations of words with their right sides.
 use Rattle.std.proofs.Common.{◌≡◌, ℕ, zero, suc, ◌+◌, ◌<◌, refl, sym, ◌∙◌, ap, subst, List, [], ◌∷◌, ◌++◌, length, take, get_or, ⊎_elim, arith}
 use Rattle.std.specs.Prelude.{All, Contains, map, unwrap_or, is_some, IfSome, Option, Some, None, true, false}
-use Rattle.monomial_order.specs.Monomial.{Exponents}
 use Rattle.monomial_order.specs.laws.Lists.{contains_cases, contains_none}
 use Rattle.polynomials.specs.Polynomial.{Polynomial}
 use Rattle.polynomials.specs.Subalgebra.{Presented}

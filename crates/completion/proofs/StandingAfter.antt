@@ -1,11 +1,10 @@
 -- A completion at a closed degree, after its basis is marked or its values change.
-use Rattle.std.proofs.Common.{◌≡◌, ℕ, ◌≤◌, ◌∙◌, sym, subst, List, false, true, arith}
+use Rattle.std.proofs.Common.{◌≡◌, ℕ, ◌∙◌, sym, subst, false, true, arith}
 use Rattle.polynomials.specs.Subalgebra.{Presented, IsReducedBasis}
-use Rattle.quotient_gb.specs.Quotient.{closing_max}
 use Rattle.witness.specs.Tracking.{values_of}
 use Rattle.word_values.specs.Values.{AreValues, AreWordsTo, Table}
 use Rattle.subduction.specs.Basis.{BasisState, IsBasisOf}
-use Rattle.completion.specs.Completion.{elements_of, AreShortAbove, CompletionState, IsAtDegree, IsStanding}
+use Rattle.completion.specs.Completion.{elements_of, AreShortAbove, CompletionState, IsStanding}
 use Rattle.completion.specs.Relations.{AreRelations}
 
 module _ {F O E : Type 0} (P : Presented E) (s : CompletionState F O E) (st : IsStanding P s) (begun : s.begun ≡ false) where

@@ -1,18 +1,21 @@
 -- A completion in a degree, after elements are added and after a candidate is taken.
-use Rattle.std.proofs.Common.{◌≡◌, ◌≢◌, ℕ, zero, suc, ◌+◌, ◌<◌, ◌≤◌, refl, sym, ◌∙◌, ap, subst, List, [], ◌∷◌, ◌++◌, append-nil, append_assoc, length, length-append, get_or, take, drop, inl, inr, ◌⊎◌, ⊎_elim, arith, true, false, Bool}
-use Rattle.std.specs.Prelude.{map, max, remove, slice_get, slice_set, All, AllPairs, Contains, Some, IfSome}
+use Rattle.std.proofs.Common.{◌≡◌, ◌≢◌, ℕ, zero, suc, ◌+◌, ◌<◌, ◌≤◌, refl, sym, ◌∙◌, ap, subst, List, [], ◌∷◌, ◌++◌, append-nil, append_assoc, length, length-append, get_or, take, drop, inl, inr, ◌⊎◌, ⊎_elim, arith, true, false}
+use Rattle.std.specs.Prelude.{map, max, remove, slice_get, slice_set, All, AllPairs, Contains, OnOk, Result, Some, IfSome}
 use Rattle.std.proofs.lemmas.Grind.{in_remove}
 use Rattle.std.proofs.lemmas.List.{length-map, map-append, get_or-append-add, get_or-map}
 use Rattle.std.proofs.lemmas.List.Elements.{All-append, All-contains, All-drop, All-get_or, All-set, All-take}
 use Rattle.std.proofs.lemmas.Option.{get_or_from_slice_get, slice_get_within}
+use Rattle.word_field.specs.Field.{FieldOps}
 use Rattle.degree_queue.specs.DegreeQueue.{list_of, SameElsewhere}
 use Rattle.monomial_order.specs.Monomial.{Exponents}
+use Rattle.monomial_order.specs.MonomialOrder.{MonomialOrder}
 use Rattle.monomial_order.specs.laws.Comparing.{le_or_not}
 use Rattle.monomial_order.specs.laws.Lists.{contains_at, contains_either, contains_left, contains_right}
 use Rattle.word_laws.specs.Words.{IsWord, Letters}
 use Rattle.polynomials.specs.Polynomial.{Polynomial, coefficient, degree_of, lead_monomial, IsPoly}
 use Rattle.polynomials.specs.Subalgebra.{Presented, IsPresentation, AllIn, HasDegreesTo, IsGenerated}
 use Rattle.monomial_order.specs.laws.Lists.{map_contains}
+use Rattle.poly_core.specs.Presentation.{presented}
 use Rattle.quotient_gb.specs.Quotient.{closing_max, QuotientState}
 use Rattle.subalgebra_laws.specs.Bases.{AreMonicElements, AreStandardAfter}
 use Rattle.subalgebra_laws.specs.Statements.{ForStandardElements, MinimalWordsStay, ValuesStay}
@@ -22,16 +25,17 @@ use Rattle.subalgebra_laws.specs.laws.Members.{generator_poly}
 use Rattle.witness.specs.declared.tracked.Tracked.{Tracked}
 use Rattle.witness.specs.Tracking.{values_of}
 use Rattle.word_values.specs.Values.{word_degree, Table, AreHomogeneousElements, AreValues, AreWordsTo}
-use Rattle.subduction.specs.Basis.{BasisState, AreInParts, AreShortAt, IsBasisOf}
+use Rattle.subduction.specs.Basis.{BasisState, AreInParts}
 use Rattle.subduction.specs.laws.Elements.{homogeneous_elements, monic_elements}
 use Rattle.completion.specs.declared.candidates.Candidate.{Candidate}
 use Rattle.completion.specs.declared.candidates.Candidate.TheVariants.{Generator, Word}
 use Rattle.completion.specs.declared.candidates.Found.{Found}
 use Rattle.completion.specs.Candidates.{AreWordsAt, IsCandidate, IsGeneratorAt}
-use Rattle.completion.specs.Completion.{elements_of, pending_of, AreKept, AreShortAbove, CompletionState, IsGrown, IsInDegree, IsStanding}
+use Rattle.completion.specs.Completion.{elements_of, pending_of, AreKept, AreShortAbove, CompletionState, IsCompletion, IsGrown, IsInDegree, IsStanding}
+use Rattle.completion.specs.Insertion.{IsInserted}
 use Rattle.tete_lift.specs.Lifting.{IsRightSide}
 use Rattle.completion.specs.Taking.{IsTreated}
-use Rattle.completion.proofs.Inserting.{values_grown}
+use Rattle.completion.proofs.Inserting.{on_ok, values_grown}
 use Rattle.completion.proofs.WordDegrees.{word_value_graded, word_value_poly}
 
 -- products of leads are products of more leads
@@ -64,43 +68,21 @@ set_words {F} {E} (f ∷ fs) (suc j) old new l h e = ap (λ ws. f.word ∷ ws) (
 
 -- the completion with other elements, values and right sides, or with another queue
 abbrev pub with_elements : {F Q E : Type 0} → CompletionState F Q E → BasisState F E → Table E → ℕ → List (Found F E) → CompletionState F Q E
-with_elements s b v n found = record {
-  presentation = s.presentation;
-  basis = b;
-  values = v;
-  kept = n;
-  relations = s.relations;
-  degree = s.degree;
-  read = s.read;
-  begun = s.begun;
-  queue = s.queue;
-  found = found;
-}
+with_elements s b v n found = record s { basis = b; values = v; kept = n; found = found }
 
 abbrev pub with_queue : {F Q E : Type 0} → CompletionState F Q E → List (List Candidate) → CompletionState F Q E
-with_queue s queue = record {
-  presentation = s.presentation;
-  basis = s.basis;
-  values = s.values;
-  kept = s.kept;
-  relations = s.relations;
-  degree = s.degree;
-  read = s.read;
-  begun = s.begun;
-  queue = queue;
-  found = s.found;
-}
+with_queue s queue = record s { queue = queue }
 
 module _ {F Q E : Type 0} (P : Presented E) (H : IsPresentation P) (s : CompletionState F Q E) (standing : IsStanding P s) (begun : s.begun ≡ true) where
   open P use {field as K, order as O}
 
-  abbrev pub at : IsInDegree P s
+  abbrev at : IsInDegree P s
   at = standing.in_degree begun
 
-  abbrev pub d : ℕ
+  abbrev d : ℕ
   d = suc s.degree
 
-  abbrev pub lower : List (Tracked F E)
+  abbrev lower : List (Tracked F E)
   lower = at.lower
 
   abbrev last : List (Tracked F E)
@@ -120,17 +102,17 @@ module _ {F Q E : Type 0} (P : Presented E) (H : IsPresentation P) (s : Completi
       homogeneous_elements P H s.basis standing.basis x (subst (λ V. Contains V x) (sym values_parts) (contains_left (values_of lower) (values_of last) x k))
 
   -- the words of the degree
-  pub word_found : (j : ℕ) → j < length s.found → Contains (words_of s.found) (word_at j)
+  word_found : (j : ℕ) → j < length s.found → Contains (words_of s.found) (word_at j)
   word_found j l = contains_at (words_of s.found) j [] (let e = length-map s.found (λ (f : Found F E). f.word) in omega arith)
 
   -- the values that are kept, to a degree that is not less than that of the words
-  pub kept_to : (n : ℕ) → n ≡ max s.kept (s.degree + 1) → (s.basis.words.degree ≤ n) × AreWordsTo P (elements_of s) n s.values
+  kept_to : (n : ℕ) → n ≡ max s.kept (s.degree + 1) → (s.basis.words.degree ≤ n) × AreWordsTo P (elements_of s) n s.values
   kept_to n e = (
     let k = at.degree in omega arith,
     λ w v h. let k = standing.kept w v h in omega arith,
   )
 
-  pub word_is : (j : ℕ) (r : Found F E) → j < length s.found → r ≡ get_or s.found j r → word_at j ≡ r.word
+  word_is : (j : ℕ) (r : Found F E) → j < length s.found → r ≡ get_or s.found j r → word_at j ≡ r.word
   word_is j r l h = get_or-map (λ (f : Found F E). f.word) s.found j r [] l ∙ ap (λ (f : Found F E). f.word) (sym h)
 
   -- the elements of the last degree come after the others
@@ -185,44 +167,43 @@ module _ {F Q E : Type 0} (P : Presented E) (H : IsPresentation P) (s : Completi
     here : IsMinimalWord P (values_of lower) u × (word_degree P (values_of lower) u ≡ d)
     here = ((at.words).exactly u).0 (word_found j l)
 
-    pub word_over_lower : IsWord (letters P (values_of lower)) u
+    word_over_lower : IsWord (letters P (values_of lower)) u
     word_over_lower = ((here.0).0).word
 
     degree_over : word_degree P (values_of lower ++ values_of last) u ≡ d
     degree_over = degree_stays P (values_of lower) (values_of last) u word_over_lower.within ∙ here.1
 
-    pub word_degree_is : word_degree P (elements_of s) u ≡ s.basis.words.degree
+    word_degree_is : word_degree P (elements_of s) u ≡ s.basis.words.degree
     word_degree_is = ap (λ S. word_degree P S u) values_parts ∙ (degree_over ∙ sym at.degree)
 
-    pub word_minimal : IsMinimalWord P (elements_of s) u
+    word_minimal : IsMinimalWord P (elements_of s) u
     word_minimal =
         subst (λ S. IsMinimalWord P S u) (sym values_parts)
         ((minimal P (values_of lower) (values_of last) d H after_lower u (let e = degree_over in omega arith)).1 here.0)
 
   -- one of the words gets another right side
   module _ (j : ℕ) (old new : Found F E) (l : j < length s.found) (h : old ≡ get_or s.found j old) (e : new.word ≡ old.word) where
-    pub words_stay : words_of (slice_set s.found j new) ≡ words_of s.found
+    words_stay : words_of (slice_set s.found j new) ≡ words_of s.found
     words_stay = set_words s.found j old new l h e
 
     abbrev HasRight : Found F E → Type 0
     HasRight f = IfSome f.right (IsRightSide P (values_of lower) f.word)
 
-    pub rights_stay : (HasRight old → HasRight new) → All HasRight (slice_set s.found j new)
+    rights_stay : (HasRight old → HasRight new) → All HasRight (slice_set s.found j new)
     rights_stay k = All-set HasRight s.found j new (k (subst HasRight (sym h) (All-get_or HasRight s.found j old l at.rights))) at.rights
 
-  pub parts_at : AreInParts P s.basis.words.degree s.basis.elements lower last
+  parts_at : AreInParts P s.basis.words.degree s.basis.elements lower last
   parts_at = subst (λ n. AreInParts P n s.basis.elements lower last) (sym at.degree) at.parts
 
-  module _ (b : BasisState F E) (v : Table E) (n : ℕ) (found : List (Found F E)) (B : IsBasisOf P b) (V : AreValues P (values_of b.elements) v) (W : AreWordsTo P (values_of b.elements) n v)
-      (by_degree : IsGrown P s.basis.words.degree s.basis.elements b.elements)
-      (short : let n = s.basis.words.degree in AreShortAt P n s.basis.elements → AreShortAt P n b.elements)
-      (degree : b.words.degree ≡ s.basis.words.degree) (quotient : b.quotient ≡ s.basis.quotient)
+  module _ (b : BasisState F E) (v : Table E) (n : ℕ) (to : n ≡ max s.kept (s.degree + 1)) (I : IsInserted P s.basis s.values b v) (found : List (Found F E))
       (words : words_of found ≡ words_of s.found) (rights : All (λ f. IfSome f.right (IsRightSide P (values_of lower) f.word)) found) where
+    open I use {degree, quotient, short}
+
     abbrev added : CompletionState F Q E
     added = with_elements s b v n found
 
     grown : IsGrown P d s.basis.elements b.elements
-    grown = subst (λ n. IsGrown P n s.basis.elements b.elements) at.degree by_degree
+    grown = subst (λ n. IsGrown P n s.basis.elements b.elements) at.degree I.grown
 
     abbrev more : List (Tracked F E)
     more = grown.more
@@ -289,19 +270,19 @@ module _ {F Q E : Type 0} (P : Presented E) (H : IsPresentation P) (s : Completi
           (at.word_values j (let e = same_number in omega arith));
     }
 
-    pub added_stands : IsStanding P (with_elements s b v n found)
+    added_stands : IsStanding P (with_elements s b v n found)
     added_stands = record {
-      basis = B;
+      basis = I.basis;
       small = let l = standing.small in subst (λ (q : QuotientState E). q.degree ≤ closing_max) (sym quotient) l;
-      values = V;
-      kept = W;
+      values = I.values;
+      kept = let k = kept_to n to in I.kept n k.0 k.1;
       short = still_short;
       none_later = standing.none_later;
       at_degree = λ e. absurd (let f : true ≡ false = sym begun ∙ e in cc);
       in_degree = λ e. in_degree;
     }
 
-    pub added_kept : AreKept P s (with_elements s b v n found)
+    added_kept : AreKept P s (with_elements s b v n found)
     added_kept = record {
       presentation = refl;
       read = refl;
@@ -309,48 +290,14 @@ module _ {F Q E : Type 0} (P : Presented E) (H : IsPresentation P) (s : Completi
       relations = ([], sym (append-nil s.relations));
     }
 
-    pub added_word : ForStandardElements E MinimalWordsStay → ((T : List (Polynomial E)) → ValuesStay P (elements_of s) T) → (j : ℕ) (r : Found F E) → j < length s.found → r ≡ get_or s.found j r →
+    added_treated : ForStandardElements E MinimalWordsStay → ((T : List (Polynomial E)) → ValuesStay P (elements_of s) T) → (j : ℕ) (r : Found F E) → j < length s.found → r ≡ get_or s.found j r →
         IsCombination P (values_of b.elements) (word_value P (elements_of s) r.word) → IsTreated P (with_elements s b v n found) (Word j)
-    added_word minimal stays j r l h c =
+    added_treated minimal stays j r l h c =
         let w = word_at j in
         let is : IsWord (letters P (elements_of s)) w = ((word_minimal minimal j l).0).word in
         let same : word_value P (values_of b.elements) w ≡ word_value P (elements_of s) w = ap (λ S. word_value P S w) values_more ∙ stays (values_of more) w is in
         subst (λ us. IsCombination P (values_of b.elements) (word_value P (values_of b.elements) (get_or us j []))) (sym words)
         (subst (IsCombination P (values_of b.elements)) (sym same) (subst (λ x. IsCombination P (values_of b.elements) (word_value P (elements_of s) x)) (sym (word_is j r l h)) c))
-
-  -- a word is treated, and has another right side
-  module _ (minimal : ForStandardElements E MinimalWordsStay) (j : ℕ) (old new : Found F E) (l : j < length s.found) (h : old ≡ get_or s.found j old) (same : new.word ≡ old.word)
-      (b : BasisState F E) (v : Table E) (n : ℕ) (to : n ≡ max s.kept (s.degree + 1)) (B : IsBasisOf P b) (V : AreValues P (values_of b.elements) v)
-      (W : (m : ℕ) → s.basis.words.degree ≤ m → AreWordsTo P (elements_of s) m s.values → AreWordsTo P (values_of b.elements) m v)
-      (by_degree : IsGrown P s.basis.words.degree s.basis.elements b.elements)
-      (short : let m = s.basis.words.degree in AreShortAt P m s.basis.elements → AreShortAt P m b.elements)
-      (degree : b.words.degree ≡ s.basis.words.degree) (quotient : b.quotient ≡ s.basis.quotient)
-      (right : (lo la : List (Tracked F E)) → AreInParts P s.basis.words.degree s.basis.elements lo la → IsWord (letters P (values_of lo)) old.word →
-      IfSome old.right (IsRightSide P (values_of lo) old.word) → IfSome new.right (IsRightSide P (values_of lo) new.word)) where
-    abbrev list : List (Found F E)
-    list = slice_set s.found j new
-
-    words : words_of list ≡ words_of s.found
-    words = words_stay j old new l h same
-
-    over : IsWord (letters P (values_of lower)) old.word
-    over = subst (IsWord (letters P (values_of lower))) (word_is j old l h) (word_over_lower minimal j l)
-
-    rights : All (λ (f : Found F E). IfSome f.right (IsRightSide P (values_of lower) f.word)) list
-    rights = rights_stay j old new l h same (right lower last parts_at over)
-
-    kept_words : AreWordsTo P (values_of b.elements) n v
-    kept_words = let k = kept_to n to in W n k.0 k.1
-
-    pub word_stands : IsStanding P (with_elements s b v n (slice_set s.found j new))
-    word_stands = added_stands b v n list B V kept_words by_degree short degree quotient words rights
-
-    pub word_kept : AreKept P s (with_elements s b v n (slice_set s.found j new))
-    word_kept = added_kept b v n list B V kept_words by_degree short degree quotient words rights
-
-    pub word_treated : ((T : List (Polynomial E)) → ValuesStay P (elements_of s) T) → IsCombination P (values_of b.elements) (word_value P (elements_of s) old.word) →
-        IsTreated P (with_elements s b v n (slice_set s.found j new)) (Word j)
-    word_treated stays = added_word b v n list B V kept_words by_degree short degree quotient words rights minimal stays j old l h
 
   -- the candidate at an index that is a combination is taken out of the queue
   module _ (stays : (S T : List (Polynomial E)) → ValuesStay P S T) (k : ℕ) (x : Candidate) (here : slice_get (pending_of s) k ≡ Some x) (treated : IsTreated P s x)
@@ -389,7 +336,7 @@ module _ {F Q E : Type 0} (P : Presented E) (H : IsPresentation P) (s : Completi
           (at.word_values j l);
     }
 
-    pub popped_stands : IsStanding P (with_queue s queue)
+    popped_stands : IsStanding P (with_queue s queue)
     popped_stands = record {
       basis = standing.basis;
       small = standing.small;
@@ -415,3 +362,86 @@ module _ {F Q E : Type 0} (P : Presented E) (H : IsPresentation P) (s : Completi
 
     pub taken_stands : IsStanding P (with_queue s queue)
     taken_stands = popped_stands stays k x is_here treated queue is_rest is_other
+
+-- A completion in a degree whose state is also called t: what taking a candidate asks for and gives.
+module _ {F Q E : Type 0} (ops : F → FieldOps E) (order : Q → MonomialOrder) (s t : CompletionState F Q E) (same : s ≡ t) (completion : IsCompletion ops order t) (begun : t.begun ≡ true) where
+  abbrev P : Presented E
+  P = presented ops order s.presentation
+
+  C : IsCompletion ops order s
+  C = subst (IsCompletion ops order) (sym same) completion
+
+  H : IsPresentation P
+  H = C.presentation.presentation
+
+  in_degree_too : s.begun ≡ true
+  in_degree_too = ap (λ (x : CompletionState F Q E). x.begun) same ∙ begun
+
+  pub opened_values : AreValues P (elements_of s) s.values
+  opened_values = (C.standing).values
+
+  -- what is kept does not depend on the name
+  kept_named : (new : CompletionState F Q E) → AreKept P s new → AreKept (presented ops order t.presentation) t new
+  kept_named new k = subst (λ (x : CompletionState F Q E). AreKept (presented ops order x.presentation) x new) same k
+
+  -- a generator is put in
+  module _ (b : BasisState F E) (v : Table E) (n : ℕ) (to : n ≡ max s.kept (s.degree + 1)) (I : IsInserted P s.basis s.values b v) where
+    pub generator_completion : IsCompletion ops order (with_elements s b v n s.found)
+    generator_completion = record {
+      presentation = C.presentation;
+      standing = added_stands P H s C.standing in_degree_too b v n to I s.found refl (at P H s C.standing in_degree_too).rights;
+    }
+
+    pub generator_kept : AreKept (presented ops order t.presentation) t (with_elements s b v n s.found)
+    generator_kept = kept_named (with_elements s b v n s.found) (added_kept P H s C.standing in_degree_too b v n to I s.found refl (at P H s C.standing in_degree_too).rights)
+
+  -- a word that was found is put in, and may have another right side
+  module _ (minimal : ForStandardElements E MinimalWordsStay) (x : Candidate) (candidate : IsCandidate (presented ops order t.presentation) (suc t.degree) (length t.found) x)
+      (j : ℕ) (is : x ≡ Word j) (old : Found F E) (here : old ≡ get_or s.found j old) where
+    within : j < length s.found
+    within = subst (λ (x : Candidate). IsCandidate P (suc s.degree) (length s.found) x) is
+        (subst (λ (y : CompletionState F Q E). IsCandidate (presented ops order y.presentation) (suc y.degree) (length y.found) x) (sym same) candidate)
+
+    is_word : get_or (map (λ (f : Found F E). f.word) s.found) j [] ≡ old.word
+    is_word = word_is P H s C.standing in_degree_too j old within here
+
+    pub found_minimal : IsMinimalWord P (elements_of s) old.word
+    found_minimal = subst (IsMinimalWord P (elements_of s)) is_word (word_minimal P H s C.standing in_degree_too minimal j within)
+
+    pub found_degree : word_degree P (elements_of s) old.word ≡ s.basis.words.degree
+    found_degree = subst (λ w. word_degree P (elements_of s) w ≡ s.basis.words.degree) is_word (word_degree_is P H s C.standing in_degree_too minimal j within)
+
+    module _ (new : Found F E) (same_word : new.word ≡ old.word) (b : BasisState F E) (v : Table E) (n : ℕ) (to : n ≡ max s.kept (s.degree + 1)) (I : IsInserted P s.basis s.values b v)
+        (right : (lo la : List (Tracked F E)) → AreInParts P s.basis.words.degree s.basis.elements lo la → IsWord (letters P (values_of lo)) old.word →
+        IfSome old.right (IsRightSide P (values_of lo) old.word) → IfSome new.right (IsRightSide P (values_of lo) new.word)) where
+      abbrev after : CompletionState F Q E
+      after = with_elements s b v n (slice_set s.found j new)
+
+      abbrev low : List (Tracked F E)
+      low = lower P H s C.standing in_degree_too
+
+      words : map (λ (f : Found F E). f.word) (slice_set s.found j new) ≡ map (λ (f : Found F E). f.word) s.found
+      words = words_stay P H s C.standing in_degree_too j old new within here same_word
+
+      over : IsWord (letters P (values_of low)) old.word
+      over = subst (IsWord (letters P (values_of low))) is_word (word_over_lower P H s C.standing in_degree_too minimal j within)
+
+      rights : All (λ (f : Found F E). IfSome f.right (IsRightSide P (values_of low) f.word)) (slice_set s.found j new)
+      rights = rights_stay P H s C.standing in_degree_too j old new within here same_word
+          (right low (at P H s C.standing in_degree_too).last (parts_at P H s C.standing in_degree_too) over)
+
+      pub word_completion : IsCompletion ops order (with_elements s b v n (slice_set s.found j new))
+      word_completion = record {
+        presentation = C.presentation;
+        standing = added_stands P H s C.standing in_degree_too b v n to I (slice_set s.found j new) words rights;
+      }
+
+      pub word_kept : AreKept (presented ops order t.presentation) t (with_elements s b v n (slice_set s.found j new))
+      word_kept = kept_named after (added_kept P H s C.standing in_degree_too b v n to I (slice_set s.found j new) words rights)
+
+      pub word_treated : ((P : Presented E) (S T : List (Polynomial E)) → ValuesStay P S T) → {A B : Type 0} (r : Result A B) →
+          OnOk r (IsCombination P (values_of b.elements) (word_value P (elements_of s) old.word)) → OnOk r (IsTreated (presented ops order t.presentation) after x)
+      word_treated stays r h =
+          subst (λ (y : CompletionState F Q E). OnOk r (IsTreated (presented ops order y.presentation) after x)) same
+          (subst (λ (y : Candidate). OnOk r (IsTreated P after y)) (sym is)
+          (on_ok r _ _ (added_treated P H s C.standing in_degree_too b v n to I (slice_set s.found j new) words rights minimal (stays P (elements_of s)) j old within here) h))

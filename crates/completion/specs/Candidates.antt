@@ -1,5 +1,5 @@
 -- The candidates of a degree: the generators and the minimal reducible s-words of this degree.
-use Rattle.std.specs.Prelude.{◌≡◌, ◌≢◌, ◌⊎◌, ◌↔◌, ℕ, suc, ◌<◌, ◌≤◌, List, [], ◌++◌, length, map, get_or, All, AllPairs, Contains, Option}
+use Rattle.std.specs.Prelude.{◌≡◌, ◌↔◌, ℕ, ◌<◌, List, [], ◌++◌, length, map, get_or, AllPairs, Contains}
 use Rattle.std.specs.List.{range_with_len}
 use Rattle.monomial_order.specs.Monomial.{Exponents}
 use Rattle.monomial_order.specs.MonomialOrder.{IsIncreasing}

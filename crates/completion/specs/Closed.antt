@@ -1,5 +1,5 @@
 -- What shows that something new comes after a degree.
-use Rattle.std.specs.Prelude.{◌≡◌, ◌⊎◌, ℕ, ◌<◌, ◌≤◌, List, Contains}
+use Rattle.std.specs.Prelude.{◌⊎◌, ℕ, ◌<◌, ◌≤◌, List, Contains}
 use Rattle.monomial_order.specs.Monomial.{Exponents, Divides}
 use Rattle.word_laws.specs.Words.{IsWord}
 use Rattle.polynomials.specs.Polynomial.{Polynomial, IsHomogeneous}

@@ -4,8 +4,8 @@ ghost use Rattle.poly_core.specs.Presentation.{presented, IsValid};
 ghost use Rattle.witness.specs.declared.tracked.Tracked.{Tracked};
 ghost use Rattle.witness.specs.Tracking.{values_of};
 ghost use Rattle.word_values.specs.Values.{AreValues, AreWordsTo};
-ghost use Rattle.subduction.specs.Basis.{AreInParts, AreSettled, AreShortAt, IsBasisOf};
-ghost use Rattle.completion.specs.Closing.{relations_of, AreSides, CanRelate};
+ghost use Rattle.subduction.specs.Basis.{AreInParts, IsBasisOf};
+ghost use Rattle.completion.specs.Closing.{relations_of, AreSides, CanRelate, ClosingLaws, IsSettledBasis};
 ghost use Rattle.tete_lift.specs.Lifting.{IsRightSide};
 
 use crate::completion::BOUND_MAX;
@@ -53,16 +53,10 @@ pub(crate) fn settle_last<F: Field, O: Order>(
     requires basis { IsBasisOf (presented F.ops O.order p.now) basis.old }
     requires values { AreValues (presented F.ops O.order p.now) (values_of basis.old.elements) values.old }
     requires kept { AreWordsTo (presented F.ops O.order p.now) (values_of basis.old.elements) kept.old values.old }
-    ensures basis { IsBasisOf (presented F.ops O.order p.now) basis.new }
     ensures values { AreValues (presented F.ops O.order p.now) (values_of basis.new.elements) values.new }
     ensures kept { AreWordsTo (presented F.ops O.order p.now) (values_of basis.new.elements) kept.new values.new }
-    ensures settled { let P = presented F.ops O.order p.now in
-        OnOk result (AreSettled P basis.old.words.degree basis.old.elements basis.new.elements) }
+    ensures settled { OnOk result (IsSettledBasis (presented F.ops O.order p.now) basis.old basis.new) }
     ensures bound { OnOk result (basis.old.words.degree ≤ kept.new) }
-    ensures short { let P = presented F.ops O.order p.now in let d = basis.old.words.degree in
-        AreShortAt P d basis.old.elements → AreShortAt P d basis.new.elements }
-    ensures quotient { basis.new.quotient ≡ basis.old.quotient }
-    ensures degree { basis.new.words.degree ≡ basis.old.words.degree }
     ensures memory { OnErr result (basis.new ≡ basis.old) }
 {
     word_values::laws::exchanging::<F>();
@@ -75,6 +69,14 @@ pub(crate) fn settle_last<F: Field, O: Order>(
     *kept = d;
     basis.settle(alloc, p)?;
     Ok(())
+}
+
+/// The laws that the end of a degree stands on.
+pub(crate) fn closing_laws<F: Field>()
+    ensures { ClosingLaws F.Elem }
+{
+    subalgebra_laws::laws::combining::<F>();
+    subalgebra_laws::laws::growing::<F>();
 }
 
 /// The right side of a word that has none, and zero for another word.

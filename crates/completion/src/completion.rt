@@ -14,7 +14,7 @@ ghost use Rattle.completion.specs.Taking.{IsTreated};
 ghost use Rattle.subduction.specs.Subduced.{CanSubduce, IsSubduced};
 
 use crate::candidates::{queue_candidates, words_at};
-use crate::closing::{made_sides, push_relations, settle_last};
+use crate::closing::{closing_laws, made_sides, push_relations, settle_last};
 use crate::insertion::{insert_found, insert_generator};
 use crate::later::has_nothing_later;
 use crate::report::report_on;
@@ -196,8 +196,7 @@ impl<F: Field, O: Order> Completion<F, O> {
         ensures memory_pending { OnErr result (pending_of self.new ≡ []) }
         ensures memory_relations { OnErr result (self.new.relations ≡ self.old.relations) }
     {
-        subalgebra_laws::laws::combining::<F>();
-        subalgebra_laws::laws::growing::<F>();
+        closing_laws::<F>();
         quotient_gb::laws::quotients_decide::<F>();
         settle_last(
             alloc,
@@ -222,8 +221,8 @@ impl<F: Field, O: Order> Completion<F, O> {
         Ok(())
     }
 
-    /// Begins the next degree, takes its candidates and ends it. The j-th candidate that is taken is at the index of the
-    /// j-th pick modulo the number of those that wait, and the first one if the picks are spent.
+    /// Begins the next degree, takes its candidates and ends it. The j-th candidate that is taken is at the index of
+    /// the j-th pick modulo the number of those that wait, and the first one if the picks are spent.
     pub fn close_with(&mut self, alloc: Global, picks: &[usize]) -> Result<(), Memory>
         requires completion { IsCompletion F.ops O.order self.old }
         requires not_begun { self.old.begun ≡ false }
@@ -240,8 +239,8 @@ impl<F: Field, O: Order> Completion<F, O> {
         Ok(())
     }
 
-    /// Ends the degree that is begun, whatever d is, and then closes all degrees up to d. Values of words that no degree
-    /// up to d can need are not kept.
+    /// Ends the degree that is begun, whatever d is, and then closes all degrees up to d. Values of words that no
+    /// degree up to d can need are not kept.
     pub fn run_to(&mut self, alloc: Global, d: u32, pick: Pick) -> Result<(), Memory>
         requires completion { IsCompletion F.ops O.order self.old }
         requires small { d ≤ BOUND_MAX }
@@ -252,11 +251,18 @@ impl<F: Field, O: Order> Completion<F, O> {
         ensures kept { AreKept (presented F.ops O.order self.old.presentation) self.old self.new }
         ensures memory { OnErr result (self.old.degree ≤ self.new.degree) }
     {
-        self.values.set_limit(d);
+        self.limit_values(d);
         self.end_begun(alloc, pick)?;
         self.close_to(alloc, d, pick)?;
-        self.values.set_limit(BOUND_MAX);
+        self.limit_values(BOUND_MAX);
         Ok(())
+    }
+
+    /// From now on values of words are kept if degrees up to the limit can need them.
+    fn limit_values(&mut self, limit: u32)
+        ensures { self.new ≡ self.old }
+    {
+        self.values.set_limit(limit);
     }
 
     /// The degree to which the basis is closed.

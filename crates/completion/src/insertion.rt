@@ -1,5 +1,5 @@
 //! A candidate is subducted, and what is left of it becomes an element.
-ghost use Rattle.std.specs.Prelude.{◌≡◌, ℕ, List, [], ◌≤◌, ◌<◌, length, get_or, OnOk, OnErr, IfOk, IfSome};
+ghost use Rattle.std.specs.Prelude.{◌≡◌, ℕ, List, [], ◌≤◌, length, get_or, OnOk, OnErr, IfOk, IfSome};
 ghost use Rattle.word_laws.specs.Words.{IsWord};
 ghost use Rattle.poly_core.specs.Presentation.{presented, IsValid};
 ghost use Rattle.polynomials.specs.Polynomial.{Polynomial, minus, IsPoly};
@@ -8,9 +8,9 @@ ghost use Rattle.subalgebra_laws.specs.Words.{letters, word_value, IsCombination
 ghost use Rattle.witness.specs.declared.tracked.Tracked.{Tracked};
 ghost use Rattle.witness.specs.Tracking.{values_of, IsShort};
 ghost use Rattle.word_values.specs.Values.{word_degree, AreValues, AreWordsTo, Table};
-ghost use Rattle.subduction.specs.Basis.{AreInParts, AreShortAt, IsBasisOf, IsNewElement};
+ghost use Rattle.subduction.specs.Basis.{AreInParts, IsBasisOf, IsNewElement};
 ghost use Rattle.completion.specs.Candidates.{IsGeneratorAt};
-ghost use Rattle.completion.specs.Completion.{IsGrown};
+ghost use Rattle.completion.specs.Insertion.{IsInserted, IsRestOf};
 ghost use Rattle.tete_lift.specs.Lifting.{IsRightSide};
 
 use crate::Found;
@@ -33,22 +33,13 @@ fn push_rest<F: Field, O: Order>(
     requires presentation { IsValid F.ops O.order p.now }
     requires basis { IsBasisOf (presented F.ops O.order p.now) basis.old }
     requires new { IsNewElement (presented F.ops O.order p.now) basis.old rest }
-    ensures basis { IsBasisOf (presented F.ops O.order p.now) basis.new }
-    ensures grown { IsGrown (presented F.ops O.order p.now) basis.old.words.degree basis.old.elements basis.new.elements }
-    ensures values { let P = presented F.ops O.order p.now in (kept : Table F.Elem) →
-        AreValues P (values_of basis.old.elements) kept → AreValues P (values_of basis.new.elements) kept }
-    ensures words { let P = presented F.ops O.order p.now in (kept : Table F.Elem) (d : ℕ) →
-        AreValues P (values_of basis.old.elements) kept → AreWordsTo P (values_of basis.old.elements) d kept →
-        AreWordsTo P (values_of basis.new.elements) d kept }
+    ensures inserted { let P = presented F.ops O.order p.now in (kept : Table F.Elem) →
+        AreValues P (values_of basis.old.elements) kept → IsShort P.field (length P.generators) rest.by →
+        IsInserted P basis.old kept basis.new kept }
     ensures combinations { let P = presented F.ops O.order p.now in OnOk result ((a : Polynomial F.Elem) →
         IsPoly P.field P.order.places a → HasDegreesTo P basis.old.words.degree a →
         IsCombination P (values_of basis.old.elements) (minus P.field a rest.value) →
         IsCombination P (values_of basis.new.elements) a) }
-    ensures short { let P = presented F.ops O.order p.now in let d = basis.old.words.degree in
-        IsShort P.field (length P.generators) rest.by → AreShortAt P d basis.old.elements →
-        AreShortAt P d basis.new.elements }
-    ensures degree { basis.new.words.degree ≡ basis.old.words.degree }
-    ensures quotient { basis.new.quotient ≡ basis.old.quotient }
     ensures memory { OnErr result (basis.new ≡ basis.old) }
 {
     subalgebra_laws::laws::growing::<F>();
@@ -56,6 +47,32 @@ fn push_rest<F: Field, O: Order>(
     word_values::laws::growing::<F>();
     basis.push(alloc, p, rest)?;
     Ok(())
+}
+
+/// What is left of the generator at an index, of the degree of the basis, when it is subducted.
+fn rest_of_generator<F: Field, O: Order>(
+    alloc: Global,
+    p: &Presentation<F, O>,
+    basis: &Basis<F, O>,
+    values: &mut Values<F>,
+    i: usize,
+) -> Result<Tracked<F>, Memory>
+    requires presentation { IsValid F.ops O.order p.now }
+    requires basis { IsBasisOf (presented F.ops O.order p.now) basis.now }
+    requires values { AreValues (presented F.ops O.order p.now) (values_of basis.now.elements) values.old }
+    requires generator { IsGeneratorAt (presented F.ops O.order p.now) basis.now.words.degree i }
+    ensures values { AreValues (presented F.ops O.order p.now) (values_of basis.now.elements) values.new }
+    ensures words { let P = presented F.ops O.order p.now in let S = values_of basis.now.elements in (d : ℕ) →
+        basis.now.words.degree ≤ d → AreWordsTo P S d values.old → AreWordsTo P S d values.new }
+    ensures rest { let P = presented F.ops O.order p.now in
+        IfOk result (IsRestOf P basis.now (get_or P.generators i [])) }
+{
+    let t = generator(alloc, p, i + 1)?;
+    let Subduced {
+        rest,
+        word_sum: _sum,
+    } = subduce_with(alloc, p, basis, values, &t)?;
+    Ok(rest)
 }
 
 /// Makes the generator at an index, of the degree of the basis, a combination: what is left of it becomes an element.
@@ -70,26 +87,12 @@ pub(crate) fn insert_generator<F: Field, O: Order>(
     requires basis { IsBasisOf (presented F.ops O.order p.now) basis.old }
     requires values { AreValues (presented F.ops O.order p.now) (values_of basis.old.elements) values.old }
     requires generator { IsGeneratorAt (presented F.ops O.order p.now) basis.old.words.degree i }
-    ensures basis { IsBasisOf (presented F.ops O.order p.now) basis.new }
-    ensures values { AreValues (presented F.ops O.order p.now) (values_of basis.new.elements) values.new }
-    ensures kept { let P = presented F.ops O.order p.now in (d : ℕ) → basis.old.words.degree ≤ d →
-        AreWordsTo P (values_of basis.old.elements) d values.old →
-        AreWordsTo P (values_of basis.new.elements) d values.new }
-    ensures grown { IsGrown (presented F.ops O.order p.now) basis.old.words.degree basis.old.elements
-        basis.new.elements }
+    ensures inserted { IsInserted (presented F.ops O.order p.now) basis.old values.old basis.new values.new }
     ensures combination { let P = presented F.ops O.order p.now in
         OnOk result (IsCombination P (values_of basis.new.elements) (get_or P.generators i [])) }
-    ensures short { let P = presented F.ops O.order p.now in let d = basis.old.words.degree in
-        AreShortAt P d basis.old.elements → AreShortAt P d basis.new.elements }
-    ensures degree { basis.new.words.degree ≡ basis.old.words.degree }
-    ensures quotient { basis.new.quotient ≡ basis.old.quotient }
     ensures memory { OnErr result (basis.new ≡ basis.old) }
 {
-    let t = generator(alloc, p, i + 1)?;
-    let Subduced {
-        rest,
-        word_sum: _sum,
-    } = subduce_with(alloc, p, basis, values, &t)?;
+    let rest = rest_of_generator(alloc, p, basis, values, i)?;
     if rest.value.lead().is_none() {
         return Ok(());
     }
@@ -111,25 +114,14 @@ pub(crate) fn insert_word<F: Field, O: Order>(
     requires word { IsMinimalWord (presented F.ops O.order p.now) (values_of basis.old.elements) u.now }
     requires same_degree { word_degree (presented F.ops O.order p.now) (values_of basis.old.elements) u.now
         ≡ basis.old.words.degree }
-    ensures basis { IsBasisOf (presented F.ops O.order p.now) basis.new }
-    ensures values { AreValues (presented F.ops O.order p.now) (values_of basis.new.elements) values.new }
-    ensures kept { let P = presented F.ops O.order p.now in (d : ℕ) → basis.old.words.degree ≤ d →
-        AreWordsTo P (values_of basis.old.elements) d values.old →
-        AreWordsTo P (values_of basis.new.elements) d values.new }
-    ensures grown { IsGrown (presented F.ops O.order p.now) basis.old.words.degree basis.old.elements
-        basis.new.elements }
+    ensures inserted { IsInserted (presented F.ops O.order p.now) basis.old values.old basis.new values.new }
     ensures combination { let P = presented F.ops O.order p.now in OnOk result
         (IsCombination P (values_of basis.new.elements) (word_value P (values_of basis.old.elements) u.now)) }
     ensures right { let P = presented F.ops O.order p.now in IfOk result (λ r. IfSome r (λ e.
         (basis.new ≡ basis.old) × IsRightSide P (values_of basis.old.elements) u.now e)) }
-    ensures short { let P = presented F.ops O.order p.now in let d = basis.old.words.degree in
-        AreShortAt P d basis.old.elements → AreShortAt P d basis.new.elements }
-    ensures degree { basis.new.words.degree ≡ basis.old.words.degree }
-    ensures quotient { basis.new.quotient ≡ basis.old.quotient }
     ensures memory { OnErr result (basis.new ≡ basis.old) }
 {
     tete_lift::laws::fresh_is_new::<F>();
-    tete_lift::laws::fresh_is_short::<F>();
     match lift_with(alloc, p, basis, values, u)? {
         Lifted::Relation(right) => Ok(Some(right)),
         Lifted::Fresh(rest) => {
@@ -139,7 +131,8 @@ pub(crate) fn insert_word<F: Field, O: Order>(
     }
 }
 
-/// Makes the value of a word that was found a combination. Its right side is kept if it has no letter of the last degree.
+/// Makes the value of a word that was found a combination. Its right side is kept if it has no letter of the last
+/// degree.
 pub(crate) fn insert_found<F: Field, O: Order>(
     alloc: Global,
     p: &Presentation<F, O>,
@@ -153,12 +146,7 @@ pub(crate) fn insert_found<F: Field, O: Order>(
     requires word { IsMinimalWord (presented F.ops O.order p.now) (values_of basis.old.elements) found.old.word }
     requires same_degree { word_degree (presented F.ops O.order p.now) (values_of basis.old.elements) found.old.word
         ≡ basis.old.words.degree }
-    ensures basis { IsBasisOf (presented F.ops O.order p.now) basis.new }
-    ensures values { AreValues (presented F.ops O.order p.now) (values_of basis.new.elements) values.new }
-    ensures kept { let P = presented F.ops O.order p.now in (d : ℕ) → basis.old.words.degree ≤ d →
-        AreWordsTo P (values_of basis.old.elements) d values.old →
-        AreWordsTo P (values_of basis.new.elements) d values.new }
-    ensures grown { IsGrown (presented F.ops O.order p.now) basis.old.words.degree basis.old.elements basis.new.elements }
+    ensures inserted { IsInserted (presented F.ops O.order p.now) basis.old values.old basis.new values.new }
     ensures combination { let P = presented F.ops O.order p.now in OnOk result (IsCombination P
         (values_of basis.new.elements) (word_value P (values_of basis.old.elements) found.old.word)) }
     ensures word { found.new.word ≡ found.old.word }
@@ -167,10 +155,6 @@ pub(crate) fn insert_found<F: Field, O: Order>(
         IsWord (letters P (values_of lower)) found.old.word →
         IfSome found.old.right (IsRightSide P (values_of lower) found.old.word) →
         IfSome found.new.right (IsRightSide P (values_of lower) found.new.word) }
-    ensures short { let P = presented F.ops O.order p.now in let d = basis.old.words.degree in
-        AreShortAt P d basis.old.elements → AreShortAt P d basis.new.elements }
-    ensures degree { basis.new.words.degree ≡ basis.old.words.degree }
-    ensures quotient { basis.new.quotient ≡ basis.old.quotient }
     ensures memory { OnErr result (basis.new ≡ basis.old) }
 {
     subalgebra_laws::laws::growing::<F>();

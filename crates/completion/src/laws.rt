@@ -15,8 +15,8 @@ pub fn later_is_open<F: Field>()
     ensures { (P : Presented F.Elem) (S : List (Polynomial F.Elem)) (c : ℕ) → HasLater P c S → ¬ IsClosedAt P c S }
 {}
 
-/// If nothing new comes after the closed degree, the elements are the reduced basis to each greater degree, and in every
-/// degree the leads of the subalgebra are exactly the standard products of their leads.
+/// If nothing new comes after the closed degree, the elements are the reduced basis to each greater degree, and in
+/// every degree the leads of the subalgebra are exactly the standard products of their leads.
 pub fn complete_bases<F: Field, O: Order>()
     ensures basis { (P : Presented F.Elem) (s : CompletionState F O F.Elem) →
         IsPresentation P → IsStanding P s → s.begun ≡ false → IsClosedAt P s.degree (elements_of s) →

@@ -1,7 +1,7 @@
 //! The completion of a presentation: the reduced basis of its subalgebra degree by degree, with the relations.
 //!
-//! The candidates of a degree are the generators and the minimal reducible s-words of this degree. Each is subducted, in
-//! any order; what is left of it is a new element. At the end of the degree its elements are reduced by each other.
+//! The candidates of a degree are the generators and the minimal reducible s-words of this degree. Each is subducted,
+//! in any order; what is left of it is a new element. At the end of the degree its elements are reduced by each other.
 #![tactic(auto)]
 
 mod candidates;

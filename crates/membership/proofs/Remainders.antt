@@ -1,16 +1,12 @@
 -- What is left of a polynomial within reach is its remainder modulo the subalgebra.
-use Rattle.std.proofs.Common.{◌≢◌, ℕ, ◌≤◌, List, ◌++◌, ⊎_elim, arith}
-use Rattle.word_field.specs.Field.{FieldOps, IsField}
+use Rattle.std.proofs.Common.{◌≢◌, ℕ, ◌≤◌, List, ⊎_elim, arith}
 use Rattle.monomial_order.specs.Monomial.{Exponents}
 use Rattle.word_laws.specs.Words.{word_order_of}
-use Rattle.polynomials.specs.Polynomial.{Polynomial, coefficient, minus, negated, degree_of, IsCanonical, Same}
+use Rattle.polynomials.specs.Polynomial.{Polynomial, coefficient, minus, degree_of, IsCanonical}
 use Rattle.polynomials.specs.Subalgebra.{Presented, InSubalgebra, IsDecidedTo, IsPresentation, IsReducedBasis}
 use Rattle.polynomials.specs.Subalgebra.{LeadsSubalgebra}
-use Rattle.polynomials.specs.laws.Congruence.{congruent_plus, congruent_refl, congruent_same, congruent_trans}
 use Rattle.polynomials.specs.laws.Decreasing.{IsDecreasing_IsPoly}
 use Rattle.polynomials.specs.laws.Membership.{sub_congruent}
-use Rattle.polynomials.specs.laws.Ring.{coefficient-append, coefficient_value}
-use Rattle.polynomials.specs.laws.Same.{coefficient-negated}
 use Rattle.quotient_gb.specs.Quotient.{IsQuotientOf, QuotientState}
 use Rattle.subalgebra_laws.specs.Bases.{AreMembers}
 use Rattle.subalgebra_laws.specs.Statements.{ForClosedBases, ForMonicMembers, LeadsAreExactly, SumsOfSWordsAreMembers}
@@ -21,8 +17,9 @@ use Rattle.subduction.specs.Basis.{BasisState, IsBasisOf}
 use Rattle.subduction.specs.declared.subduction.Subduced.{Subduced}
 use Rattle.subduction.specs.Subduced.{IsSubduced}
 use Rattle.subduction.specs.laws.Elements.{monic_elements}
-use Rattle.membership.specs.Answer.{IsWithin}
 use Rattle.subduction.specs.laws.Degrees.{degrees_to}
+use Rattle.completion.specs.laws.Rests.{less_rest}
+use Rattle.membership.specs.Answer.{IsWithin}
 
 -- what is known of the leads of a reduced basis
 abbrev pub LeadsAreKnown : Type 0 → Type 0
@@ -33,17 +30,6 @@ LeadsAreKnown E = (P : Presented E) (S : List (Polynomial E)) (c : ℕ) → IsPr
 abbrev pub QuotientsDecide : Type 0 → Type 0
 QuotientsDecide E = (P : Presented E) → IsPresentation P → (q : QuotientState E) → IsQuotientOf P q →
     IsDecidedTo P q.degree
-
-less_end : {E : Type 0} (K : FieldOps E) (F : IsField K) (p q : Polynomial E) → Same K (minus K (p ++ q) q) p
-less_end K F p q m =
-    simp (
-      coefficient-append K F,
-      coefficient-negated K F,
-      F.plus_assoc,
-      F.plus_negate,
-      F.plus_zero,
-      coefficient_value K F,
-    )
 
 module _ {F E : Type 0} (P : Presented E) (H : IsPresentation P) (b : BasisState F E) (B : IsBasisOf P b) (c : ℕ)
     (R : IsReducedBasis P c (values_of b.elements)) (low : c ≤ b.words.degree) where
@@ -63,15 +49,10 @@ module _ {F E : Type 0} (P : Presented E) (H : IsPresentation P) (b : BasisState
     -- the sum of words is a member
     inside : ForMonicMembers E SumsOfSWordsAreMembers → InSubalgebra P (minus K t.value r.rest.value)
     inside law =
-        let V = combination_value P S r.word_sum in
-        let e = r.rest.value in
-        sub_congruent P H V (minus K t.value e)
+        sub_congruent P H (combination_value P S r.word_sum) (minus K t.value r.rest.value)
         (law P S H (monic_elements P H b B) members r.word_sum
         (IsDecreasing_IsPoly K (word_order_of (letters P S)) r.word_sum h.parts.sum.decreasing) h.parts.sum.words)
-        (congruent_trans K F' O.places P.ideal (minus K t.value e) (minus K (V ++ e) e) V
-        (congruent_plus K F' O.places P.ideal t.value (V ++ e) (negated K e) (negated K e) h.parts.equal
-        (congruent_refl K F' O.places P.ideal (negated K e)))
-        (congruent_same K F' O.places P.ideal (minus K (V ++ e) e) V (less_end K F' V e)))
+        (less_rest P H b t r h)
 
     -- what is left leads no member
     no_lead : LeadsAreKnown E → ForClosedBases E (λ P S _ c. LeadsAreExactly P S c) → QuotientsDecide E →

@@ -27,7 +27,8 @@ returns-then-degree-least-clause-before c =
     let e : suc (c.back.start - 1) ≡ c.back.start = omega arith in
     let d = rw (c.order-order.ensures.x, c.order-order.ensures.s) at c.degree.ensures in
     let l = c.if-degree-least.true in let w = c.degree-least.ensures in
-    lower_before W c.requires c.back.start (c.back.start - 1) c.index-rules-at.result e i (at_rule W c.requires rules (c.back.start - 1) c.index-rules-at.result same c.index-rules-at.is) (omega arith)
+    lower_before W c.requires c.back.start (c.back.start - 1) c.index-rules-at.result e i
+    (at_rule W c.requires rules (c.back.start - 1) c.index-rules-at.result same c.index-rules-at.is) (omega arith)
 
 pub back-preserved : goal.back-preserved
 back-preserved c =
@@ -38,5 +39,7 @@ back-preserved c =
     let l = c.if-degree-least.false in let w = c.degree-least.ensures in
     record {
       within = omega arith;
-      from = one_more W c.requires c.back.start (c.back.start - 1) c.index-rules-at.result e i (at_rule W c.requires rules (c.back.start - 1) c.index-rules-at.result same c.index-rules-at.is) (omega arith) c.back.invariant.from;
+      from = one_more W c.requires c.back.start (c.back.start - 1) c.index-rules-at.result e i
+          (at_rule W c.requires rules (c.back.start - 1) c.index-rules-at.result same c.index-rules-at.is) (omega arith)
+          c.back.invariant.from;
     }

@@ -12,7 +12,8 @@ words-preserved c =
     let j = c.words.j in
     let none : 0 + j ≡ j = omega arith in
     record {
-      words = c.in_ok-push_candidate.ensures.last ∙ (ap (λ cs. cs ++ Word j ∷ []) c.words.invariant.words ∙ (append_assoc before (map Word (range_with_len 0 j)) (Word j ∷ []) ∙
+      words = c.in_ok-push_candidate.ensures.last ∙ (ap (λ cs. cs ++ Word j ∷ [])
+          c.words.invariant.words ∙ (append_assoc before (map Word (range_with_len 0 j)) (Word j ∷ []) ∙
           ap (λ cs. before ++ cs) (sym (map-range_with_len_more Word 0 j j none))));
       others = λ o n. c.push_candidate.ensures.others o n ∙ c.words.invariant.others o n;
     }

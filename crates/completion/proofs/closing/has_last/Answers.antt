@@ -12,7 +12,8 @@ degree-requires-clause-monomial g c =
     let leads = c.leads-leads.result.now in
     let l : length leads - 1 < length leads = search rules in
     lead_is_monomial P c.requires.presentation.presentation c.args.basis.now c.requires.basis c.index-leads-leads.result
-    (found_at leads _ (length leads - 1) c.index-leads-leads.result (c.leads-leads.ensures.same ∙ ap (λ (w : Listing). w.letters.leads) c.words.ensures) l c.index-leads-leads.is)
+    (found_at leads _ (length leads - 1) c.index-leads-leads.result
+    (c.leads-leads.ensures.same ∙ ap (λ (w : Listing). w.letters.leads) c.words.ensures) l c.index-leads-leads.is)
 
 pub degree-requires-clause-small : goal.degree-requires-clause-small
 degree-requires-clause-small g c =
@@ -20,7 +21,8 @@ degree-requires-clause-small g c =
     let leads = c.leads-leads.result.now in
     let l : length leads - 1 < length leads = search rules in
     lead_is_small P c.requires.presentation.presentation c.args.basis.now c.requires.basis c.index-leads-leads.result
-    (found_at leads _ (length leads - 1) c.index-leads-leads.result (c.leads-leads.ensures.same ∙ ap (λ (w : Listing). w.letters.leads) c.words.ensures) l c.index-leads-leads.is)
+    (found_at leads _ (length leads - 1) c.index-leads-leads.result
+    (c.leads-leads.ensures.same ∙ ap (λ (w : Listing). w.letters.leads) c.words.ensures) l c.index-leads-leads.is)
 
 pub returns : goal.returns
 returns g c h =
@@ -32,5 +34,6 @@ returns g c h =
     let e = c.leads-leads.ensures.same ∙ ap (λ (w : Listing). w.letters.leads) c.words.ensures in
     let d = c.degree-2.ensures ∙ ap (λ (w : Listing). w.degree) c.words-2.ensures in
     none_last P c.requires.presentation.presentation c.args.basis.now c.requires.basis (length leads - 1) m
-    (sym (ap length e) ∙ n) (ap (λ ms. get_or ms (length leads - 1) []) (sym e) ∙ (get_or_default leads (length leads - 1) [] m l ∙ sym c.index-leads-leads.is))
+    (sym (ap length e) ∙ n) (ap (λ ms. get_or ms (length leads - 1) [])
+    (sym e) ∙ (get_or_default leads (length leads - 1) [] m l ∙ sym c.index-leads-leads.is))
     (λ q. true≢false (sym (eq-eqb c.degree.result c.degree-2.result (c.degree.ensures ∙ (q ∙ sym d))) ∙ h))

@@ -21,5 +21,6 @@ words-preserved g c =
       values = c.made_side.ensures.values;
       kept = λ d l a. c.made_side.ensures.words d l (c.words.invariant.kept d l a);
       sides = rw c.in_ok-push.ensures.items (rw (take_next xs i f c.words-test.true c.f-item.is)
-          (sides_append P S (take i xs) c.words.sides.items f c.in_ok-made_side.field-0 c.words.invariant.sides c.in_ok-made_side.ensures.side));
+          (sides_append P S (take i xs) c.words.sides.items f c.in_ok-made_side.field-0 c.words.invariant.sides
+          c.in_ok-made_side.ensures.side));
     }

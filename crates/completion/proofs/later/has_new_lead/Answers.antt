@@ -15,7 +15,8 @@ degree-requires-clause-monomial g c =
     let ms = c.leads.result.now in
     let m = c.in-Some.last.now in
     let Q = subst (IsQuotientOf P) (sym c.quotient.ensures) c.requires.basis.quotient in
-    lead_is_monomial P H m (c.leads.ensures.each P H Q m (got_contains ms (length ms - 1) m (sym c.in-Some.ensures.value))).0.leads
+    lead_is_monomial P H m (c.leads.ensures.each P H Q m
+    (got_contains ms (length ms - 1) m (sym c.in-Some.ensures.value))).0.leads
 
 pub returns-in-Some-clause-yes : goal.returns-in-Some-clause-yes
 returns-in-Some-clause-yes g c t =
@@ -36,6 +37,7 @@ returns-in-Some-clause-no g c t n k =
     let m = c.in-Some.last.now in
     let Q = subst (IsQuotientOf P) (sym c.quotient.ensures) c.requires.basis.quotient in
     let is : Contains ms n = rw (c.leads.ensures.value, c.quotient.ensures) k in
-    let low = last_greatest P.order H.order ms m (c.leads.ensures.increasing P H Q) (sym c.in-Some.ensures.value) n is in
+    let low = last_greatest P.order H.order ms m (c.leads.ensures.increasing P H Q) (sym c.in-Some.ensures.value) n
+    is in
     let d = c.degree.ensures in
     let l = ltb-false c.args.c c.degree.result t in omega arith

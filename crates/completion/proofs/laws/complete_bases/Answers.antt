@@ -8,11 +8,13 @@ returns-clause-basis g c P s H st begun closed d le =
     let a = st.at_degree begun in
     let low = a.words.0 in
     let top = st.basis.degree in
-    c.closed_basis.ensures.basis P (elements_of s) s.degree d H (decides_to P H s.basis st.basis s.degree (omega arith)) a.reduced closed le
+    c.closed_basis.ensures.basis P (elements_of s) s.degree d H (decides_to P H s.basis st.basis s.degree (omega arith))
+    a.reduced closed le
 
 pub returns-clause-leads : goal.returns-clause-leads
 returns-clause-leads g c P s H st begun closed d =
     let a = st.at_degree begun in
     let low = a.words.0 in
     let top = st.basis.degree in
-    c.closed_basis.ensures.all_leads P (elements_of s) s.degree d H (decides_to P H s.basis st.basis s.degree (omega arith)) a.reduced closed
+    c.closed_basis.ensures.all_leads P (elements_of s) s.degree d H
+    (decides_to P H s.basis st.basis s.degree (omega arith)) a.reduced closed

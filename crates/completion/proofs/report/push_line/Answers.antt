@@ -15,7 +15,8 @@ pub write_monomial-requires : goal.write_monomial-requires
 write_monomial-requires g c =
     let P = presented g.F.Field.ops g.O.Order.order c.args.p.now in
     let d = subst (IsDecreasing P.field P.order) c.in-Some.ensures.first.1 c.requires.element.canonical.decreasing in
-    names_monomials P.order.places c.args.p.now.names c.requires.presentation.names c.in-Some.first.now.at d.0.term.monomial
+    names_monomials P.order.places c.args.p.now.names c.requires.presentation.names c.in-Some.first.now.at
+    d.0.term.monomial
 
 pub write-requires-clause-values : goal.write-requires-clause-values
 write-requires-clause-values g c =
@@ -25,4 +26,5 @@ write-requires-clause-values g c =
 pub write-requires-clause-named : goal.write-requires-clause-named
 write-requires-clause-named g c =
     let P = presented g.F.Field.ops g.O.Order.order c.args.p.now in
-    decreasing_named P.field P.order c.args.p.now.names c.requires.presentation.names c.args.element.now c.requires.element.canonical.decreasing
+    decreasing_named P.field P.order c.args.p.now.names c.requires.presentation.names c.args.element.now
+    c.requires.element.canonical.decreasing

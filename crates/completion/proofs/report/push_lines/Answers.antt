@@ -22,4 +22,5 @@ loop-i-preserved g c =
     let names = c.args.p.now.names in
     let ts = c.args.elements.now in
     line_written P names ts c.loop-i.i c.index-elements-i.result (omega arith) c.index-elements-i.is
-    c.loop-i.text.items c.push_line.new.text.items (c.args.text.now.items ++ element_lines P names 1 (values_of ts)) c.in_ok-push_line.ensures c.loop-i.invariant
+    c.loop-i.text.items c.push_line.new.text.items (c.args.text.now.items ++ element_lines P names 1 (values_of ts))
+    c.in_ok-push_line.ensures c.loop-i.invariant

@@ -11,7 +11,8 @@ returns-clause-completion g c =
     let P = presented g.F.Field.ops g.O.Order.order c.self.inside.presentation in
     let K = subst (IsCompletion g.F.Field.ops g.O.Order.order) (sym c.self.view_is) c.requires.completion in
     let begun : c.self.inside.begun ≡ false =
-    ap (λ (s : CompletionState g.row.F.Denot g.row.O.Denot g.row.F-Elem.Denot). s.begun) c.self.view_is ∙ c.requires.not_begun in
+    ap (λ (s : CompletionState g.row.F.Denot g.row.O.Denot g.row.F-Elem.Denot). s.begun)
+    c.self.view_is ∙ c.requires.not_begun in
     record {
       presentation = K.presentation;
       standing = with_basis P _ K.standing begun c.has_nothing_later.new.basis c.has_nothing_later.ensures.basis
@@ -21,4 +22,5 @@ returns-clause-completion g c =
 pub returns-clause-no : goal.returns-clause-no
 returns-clause-no g c =
     subst (λ (s : CompletionState g.row.F.Denot g.row.O.Denot g.row.F-Elem.Denot). IfOk c.has_nothing_later.result
-    (λ r. r ≡ false → HasLater (presented g.F.Field.ops g.O.Order.order s.presentation) s.degree (elements_of s))) c.self.view_is c.has_nothing_later.ensures.no
+    (λ r. r ≡ false → HasLater (presented g.F.Field.ops g.O.Order.order s.presentation) s.degree (elements_of s)))
+    c.self.view_is c.has_nothing_later.ensures.no

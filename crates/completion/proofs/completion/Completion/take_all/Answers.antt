@@ -16,7 +16,8 @@ candidates-init g c = record {
 
 pub returns-in_err-take-clause-kept : goal.returns-in_err-take-clause-kept
 returns-in_err-take-clause-kept g c =
-    kept_after g.F.Field.ops g.O.Order.order c.args.self.now c.candidates.self c.take.new.self c.candidates.invariant.kept c.take.ensures.kept
+    kept_after g.F.Field.ops g.O.Order.order c.args.self.now c.candidates.self c.take.new.self
+    c.candidates.invariant.kept c.take.ensures.kept
     (let e = c.candidates.invariant.degree in omega arith) c.candidates.invariant.completion
 
 pub candidates-preserved : goal.candidates-preserved
@@ -24,7 +25,8 @@ candidates-preserved g c = record {
   completion = c.take.ensures.completion;
   begun = c.take.ensures.begun;
   degree = c.take.ensures.degree ∙ c.candidates.invariant.degree;
-  kept = kept_after g.F.Field.ops g.O.Order.order c.args.self.now c.candidates.self c.take.new.self c.candidates.invariant.kept c.take.ensures.kept
+  kept = kept_after g.F.Field.ops g.O.Order.order c.args.self.now c.candidates.self c.take.new.self
+      c.candidates.invariant.kept c.take.ensures.kept
       (let e = c.candidates.invariant.degree in omega arith) c.candidates.invariant.completion;
 }
 
@@ -33,5 +35,8 @@ less a b r l e = omega arith
 
 pub candidates-smaller : goal.candidates-smaller
 candidates-smaller g c =
-    less (length (pending_of c.take.new.self)) (length (pending_of c.candidates.self)) (length (remove (pending_of c.candidates.self) c.index-k.result))
-    (length-remove (pending_of c.candidates.self) c.index-k.result (let i = c.index-k.ensures.inside in let p = c.pending-in-candidates.ensures in omega arith)) (ap length c.in_ok-take.ensures.rest)
+    less (length (pending_of c.take.new.self)) (length (pending_of c.candidates.self))
+    (length (remove (pending_of c.candidates.self) c.index-k.result))
+    (length-remove (pending_of c.candidates.self) c.index-k.result
+    (let i = c.index-k.ensures.inside in let p = c.pending-in-candidates.ensures in omega arith))
+    (ap length c.in_ok-take.ensures.rest)
