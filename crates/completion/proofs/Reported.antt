@@ -20,10 +20,10 @@ if_ok A B h (Ok v) k = h v k
 if_ok A B h (Err e) k = tt
 
 -- the mark that belongs to what is found
-marked : {E : Type 0} (P : Presented E) (names : Names) (c : ℕ) (S : List (Polynomial E)) (b : Bool) →
-    (b ≡ true → IsClosedAt P c S) → (b ≡ false → HasLater P c S) → HasMark P names c S (mark_text b)
-marked P names c S true y n = inl (y refl, refl)
-marked P names c S false y n = inr (not_closed P S c (n refl), refl)
+marked : {E : Type 0} (P : Presented E) (c : ℕ) (S : List (Polynomial E)) (b : Bool) →
+    (b ≡ true → IsClosedAt P c S) → (b ≡ false → HasLater P c S) → HasMark P c S (mark_text b)
+marked P c S true y n = inl (y refl, refl)
+marked P c S false y n = inr (not_closed P S c (n refl), refl)
 
 module _ {F O E : Type 0} (ops : F → FieldOps E) (order : O → MonomialOrder) (s t : CompletionState F O E) (u : IsUnchanged s t) where
   -- the text is the same by the state before
@@ -44,6 +44,6 @@ module _ {F O E : Type 0} (ops : F → FieldOps E) (order : O → MonomialOrder)
     basis = elements_of s;
     reduced = (K.standing.at_degree begun).reduced;
     mark = mark_text b;
-    has_mark = marked (presented ops order s.presentation) s.presentation.names s.degree (elements_of s) b known later;
+    has_mark = marked (presented ops order s.presentation) s.degree (elements_of s) b known later;
     is = text_stays (mark_text b) text h;
   }

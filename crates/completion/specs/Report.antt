@@ -11,6 +11,10 @@ use Rattle.subalgebra_laws.specs.Bases.{IsClosedAt}
 abbrev pub mark_text : Bool → List ℕ
 mark_text complete = if complete then codes "complete" else codes "open"
 
+-- the mark says whether nothing new comes after the degree c
+abbrev pub HasMark : {E : Type 0} → Presented E → ℕ → List (Polynomial E) → List ℕ → Type 0
+HasMark P c S mark = (IsClosedAt P c S × (mark ≡ codes "complete")) ⊎ ((¬ IsClosedAt P c S) × (mark ≡ codes "open"))
+
 module _ {E : Type 0} (P : Presented E) (names : Names) where
   -- the number of the element, the degree of its lead, its lead, and the element
   abbrev pub element_line : ℕ → Polynomial E → List ℕ
@@ -29,14 +33,10 @@ module _ {E : Type 0} (P : Presented E) (names : Names) where
       codes "report 1\nbound " ++ (decimal c ++ (codes "\nbasis " ++ (decimal (length S) ++ (codes "\n" ++
       (element_lines 1 S ++ (codes "mark " ++ (mark ++ codes "\nend\n")))))))
 
-  -- the mark says whether nothing new comes after the degree c
-  abbrev pub HasMark : ℕ → List (Polynomial E) → List ℕ → Type 0
-  HasMark c S mark = (IsClosedAt P c S × (mark ≡ codes "complete")) ⊎ ((¬ IsClosedAt P c S) × (mark ≡ codes "open"))
-
   -- the text is the report on the reduced basis to the degree c
   pub record IsReport (c : ℕ) (text : List ℕ) : Type 0 where
     pub basis : List (Polynomial E)
     pub reduced : IsReducedBasis P c basis
     pub mark : List ℕ
-    pub has_mark : HasMark c basis mark
+    pub has_mark : HasMark P c basis mark
     pub is : text ≡ report_text c basis mark

@@ -2,11 +2,11 @@
 use Rattle.std.specs.Prelude.{◌≡◌, ℕ, List, [], ◌∷◌, ◌++◌, codes}
 use Rattle.std.specs.Fmt.{decimal}
 use Rattle.word_field.specs.Field.{FieldOps}
-use Rattle.monomial_order.specs.declared.weight_order.WeightOrder.{WeightOrder}
+use Rattle.monomial_order.specs.MonomialOrder.{MonomialOrder}
 use Rattle.poly_core.specs.declared.place_names.Names.{Names}
 use Rattle.poly_core.specs.declared.place_names.Names.TheVariants.{Numbered}
 use Rattle.poly_core.specs.declared.presentations.Presentation.{Presentation}
-use Rattle.poly_core.specs.Presentation.{presented, weight_order_of}
+use Rattle.poly_core.specs.Presentation.{presented}
 use Rattle.poly_core.specs.Text.{poly_text}
 use Rattle.polynomials.specs.Polynomial.{Polynomial}
 use Rattle.polynomials.specs.Subalgebra.{Presented, IsReducedBasis}
@@ -25,9 +25,9 @@ answer_line K names (Beyond d) = codes "beyond " ++ (decimal d ++ codes "\n")
 answer_line K names (Member h) = codes "member " ++ (poly_text K generator_names h ++ codes "\n")
 answer_line K names (No r) = codes "no " ++ (poly_text K names r ++ codes "\n")
 
-module _ {F E : Type 0} (ops : F → FieldOps E) (p : Presentation F WeightOrder E) (bound : ℕ) where
+module _ {F O E : Type 0} (ops : F → FieldOps E) (order : O → MonomialOrder) (p : Presentation F O E) (bound : ℕ) where
   abbrev pub answered : Presented E
-  answered = presented ops weight_order_of p
+  answered = presented ops order p
 
   -- an answer to the query a by the basis S to the bound, in canonical form
   pub record IsAnswerTo (S : List (Polynomial E)) (a : Polynomial E) (reply : Reply F E) : Type 0 where

@@ -36,7 +36,7 @@ module _ (files : Files) (name : List ℕ) where
 pub record AreAnswered {F E : Type 0} (ops : F → FieldOps E) (p : Presentation F WeightOrder E) (files : Files) (name : List ℕ) (bound : ℕ) (text : List ℕ) : Type 0 where
   pub queries : List (Polynomial E)
   pub given : AreGiven files name ops p queries
-  pub answers : IsAnswerText ops p bound queries text
+  pub answers : IsAnswerText ops weight_order_of p bound queries text
 
 module _ (files : Files) where
   -- what a command prints about a presentation

@@ -1,7 +1,7 @@
 //! The lines that answer queries.
 ghost use Rattle.std.specs.Prelude.{◌≡◌, ◌≤◌, ◌++◌, codes, false, string_bytes, All, IfOk, OnOk};
 ghost use Rattle.std.specs.Fmt.{decimal};
-ghost use Rattle.poly_core.specs.Presentation.{weight_order_of, IsValid};
+ghost use Rattle.poly_core.specs.Presentation.{IsValid};
 ghost use Rattle.poly_core.specs.Text.{poly_text, AreNamed, AreValues};
 ghost use Rattle.polynomial_text.specs.Degrees.{IsLow};
 ghost use Rattle.polynomials.specs.Polynomial.{IsCanonical};
@@ -15,7 +15,7 @@ ghost use Rattle.sagbi_cli.specs.Command.{bound_max, IsUpTo};
 use crate::completing::completed;
 use completion::{Completion, Pick};
 use membership::{Reply, answer};
-use monomial_order::{Memory, WeightOrder};
+use monomial_order::{Memory, Order};
 use poly_core::{Names, Poly, Presentation};
 use std::alloc::{AllocError, Global};
 use word_field::Field;
@@ -54,14 +54,14 @@ fn push_poly<F: Field>(
 }
 
 /// Appends the line of an answer.
-fn push_line<F: Field>(
+fn push_line<F: Field, O: Order>(
     alloc: Global,
     text: &mut Vec<u8>,
-    p: &Presentation<F, WeightOrder>,
+    p: &Presentation<F, O>,
     reply: &Reply<F>,
 ) -> Result<(), Memory>
-    requires valid { IsValid F.ops weight_order_of p.now }
-    requires canonical { IsCanonicalReply (F.ops p.now.field) (weight_order_of p.now.order)
+    requires valid { IsValid F.ops O.order p.now }
+    requires canonical { IsCanonicalReply (F.ops p.now.field) (O.order p.now.order)
         (by_order p.now.gen_order) reply.now }
     ensures { OnOk result
         (text.new.items ≡ text.old.items ++ answer_line (F.ops p.now.field) p.now.names reply.now) }
@@ -78,21 +78,21 @@ fn push_line<F: Field>(
 }
 
 /// Appends the line that answers a query.
-fn push_answer<F: Field>(
+fn push_answer<F: Field, O: Order>(
     alloc: Global,
     text: &mut Vec<u8>,
-    c: &mut Completion<F, WeightOrder>,
+    c: &mut Completion<F, O>,
     query: &Poly<F>,
 ) -> Result<(), Memory>
-    requires completion { IsCompletion F.ops weight_order_of c.old }
+    requires completion { IsCompletion F.ops O.order c.old }
     requires not_begun { c.old.begun ≡ false }
     requires some { 1 ≤ c.old.degree }
-    requires canonical { IsCanonical (F.ops c.old.presentation.field) (weight_order_of c.old.presentation.order) query.now }
-    requires low { IsLow (weight_order_of c.old.presentation.order) query.now }
-    ensures completion { IsCompletion F.ops weight_order_of c.new }
+    requires canonical { IsCanonical (F.ops c.old.presentation.field) (O.order c.old.presentation.order) query.now }
+    requires low { IsLow (O.order c.old.presentation.order) query.now }
+    ensures completion { IsCompletion F.ops O.order c.new }
     ensures unchanged { IsUnchanged c.old c.new }
     ensures line { OnOk result ((reply : Reply F F.Elem) ×
-        IsAnswerTo F.ops c.old.presentation c.old.degree (elements_of c.old) query.now reply ×
+        IsAnswerTo F.ops O.order c.old.presentation c.old.degree (elements_of c.old) query.now reply ×
         (text.new.items ≡ text.old.items ++ answer_line (F.ops c.old.presentation.field) c.old.presentation.names reply)) }
 {
     let reply = answer(alloc, c, query)?;
@@ -100,17 +100,17 @@ fn push_answer<F: Field>(
 }
 
 /// The lines that answer queries, by the reduced basis to a bound.
-pub(crate) fn answers<F: Field>(
+pub(crate) fn answers<F: Field, O: Order>(
     alloc: Global,
-    p: Presentation<F, WeightOrder>,
+    p: Presentation<F, O>,
     bound: u32,
     queries: &[Poly<F>],
 ) -> Result<Vec<u8>, Memory>
-    requires valid { IsValid F.ops weight_order_of p }
+    requires valid { IsValid F.ops O.order p }
     requires bound { IsUpTo bound_max bound }
-    requires canonical { All (IsCanonical (F.ops p.field) (weight_order_of p.order)) queries.now }
-    requires low { All (IsLow (weight_order_of p.order)) queries.now }
-    ensures { IfOk result (λ text. IsAnswerText F.ops p bound queries.now text.items) }
+    requires canonical { All (IsCanonical (F.ops p.field) (O.order p.order)) queries.now }
+    requires low { All (IsLow (O.order p.order)) queries.now }
+    ensures { IfOk result (λ text. IsAnswerText F.ops O.order p bound queries.now text.items) }
 {
     let mut c = completed(alloc, p, bound, Pick::First)?;
     let mut text = Vec::new(alloc);

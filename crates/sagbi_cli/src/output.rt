@@ -18,7 +18,7 @@ use crate::relation_lines::relations;
 use crate::trial::trial;
 use crate::{Command, Input, Outcome, Stop};
 use completion::Pick;
-use monomial_order::{Memory, WeightOrder};
+use monomial_order::{Memory, Order, WeightOrder};
 use poly_core::Presentation;
 use presentation_text::AnyPresentation;
 use shelf_io::Shelf;
@@ -26,15 +26,15 @@ use std::alloc::Global;
 use word_field::Field;
 
 /// The report on a presentation to a bound.
-fn report<F: Field>(
+fn report<F: Field, O: Order>(
     alloc: Global,
-    p: Presentation<F, WeightOrder>,
+    p: Presentation<F, O>,
     bound: u32,
     pick: Pick,
 ) -> Result<Vec<u8>, Memory>
-    requires valid { IsValid F.ops weight_order_of p }
+    requires valid { IsValid F.ops O.order p }
     requires bound { IsUpTo bound_max bound }
-    ensures { IfOk result (λ text. IsReport (presented F.ops weight_order_of p) p.names bound text.items) }
+    ensures { IfOk result (λ text. IsReport (presented F.ops O.order p) p.names bound text.items) }
 {
     let mut c = completed(alloc, p, bound, pick)?;
     c.report(alloc)

@@ -1,13 +1,13 @@
 //! The lines of the relations.
 ghost use Rattle.std.specs.Prelude.{◌≡◌, ◌++◌, codes, length, string_bytes, All, IfOk, OnOk};
 ghost use Rattle.std.specs.Fmt.{decimal};
-ghost use Rattle.poly_core.specs.Presentation.{presented, weight_order_of, IsValid};
+ghost use Rattle.poly_core.specs.Presentation.{presented, IsValid};
 ghost use Rattle.sagbi_cli.specs.Command.{bound_max, IsUpTo};
 ghost use Rattle.sagbi_cli.specs.RelationLines.{element_names, relation_line, relation_lines, IsPrintable, IsRelationsText};
 
 use crate::completing::completed;
 use completion::{Pick, Relation};
-use monomial_order::{Memory, Order, WeightOrder};
+use monomial_order::{Memory, Order};
 use poly_core::{Names, Poly, Presentation, write_monomial};
 use std::alloc::{AllocError, Global};
 use word_field::Field;
@@ -57,14 +57,14 @@ fn push_lines<F: Field>(
 }
 
 /// The relations of the reduced basis to a bound, one on each line behind their number.
-pub(crate) fn relations<F: Field>(
+pub(crate) fn relations<F: Field, O: Order>(
     alloc: Global,
-    p: Presentation<F, WeightOrder>,
+    p: Presentation<F, O>,
     bound: u32,
 ) -> Result<Vec<u8>, Memory>
-    requires valid { IsValid F.ops weight_order_of p }
+    requires valid { IsValid F.ops O.order p }
     requires bound { IsUpTo bound_max bound }
-    ensures { IfOk result (λ text. IsRelationsText F (presented F.ops weight_order_of p) bound text.items) }
+    ensures { IfOk result (λ text. IsRelationsText F (presented F.ops O.order p) bound text.items) }
 {
     let c = completed(alloc, p, bound, Pick::First)?;
     let names = Names::Numbered {
