@@ -1,0 +1,5 @@
+use Rattle.worked_completions.specs.Completions.{IsAtRest}
+use Rattle.worked_completions.proofs.scripts.check.Given as goal
+
+abbrev pub invariant-lines : goal.invariant-lines
+invariant-lines l = IsAtRest l.c
