@@ -4,7 +4,6 @@ use Rattle.std.specs.Prelude.{IfOk}
 use Rattle.word_field.specs.Field.{FieldOps}
 use Rattle.monomial_order.specs.MonomialOrder.{MonomialOrder}
 use Rattle.poly_core.specs.Presentation.{presented}
-use Rattle.poly_core.specs.declared.place_names.Names.{Names}
 use Rattle.polynomials.specs.Polynomial.{Polynomial}
 use Rattle.polynomials.specs.Subalgebra.{Presented}
 use Rattle.subalgebra_laws.specs.Bases.{IsClosedAt}

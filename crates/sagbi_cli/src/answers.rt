@@ -1,7 +1,7 @@
 //! The lines that answer queries.
 ghost use Rattle.std.specs.Prelude.{◌≡◌, ◌≤◌, ◌++◌, codes, false, string_bytes, All, IfOk, OnOk};
 ghost use Rattle.std.specs.Fmt.{decimal};
-ghost use Rattle.poly_core.specs.Presentation.{IsValid};
+ghost use Rattle.poly_core.specs.Presentation.{presented, IsValid};
 ghost use Rattle.poly_core.specs.Text.{poly_text, AreNamed, AreValues};
 ghost use Rattle.polynomial_text.specs.Degrees.{IsLow};
 ghost use Rattle.polynomials.specs.Polynomial.{IsCanonical};
@@ -9,7 +9,7 @@ ghost use Rattle.witness.specs.Tracking.{by_order};
 ghost use Rattle.completion.specs.Completion.{elements_of, IsCompletion, IsUnchanged};
 ghost use Rattle.membership.specs.declared.reply.Reply.{Reply};
 ghost use Rattle.membership.specs.Answer.{IsCanonicalReply};
-ghost use Rattle.sagbi_cli.specs.Answers.{answer_line, IsAnswerText, IsAnswerTo};
+ghost use Rattle.sagbi_cli.specs.Answers.{answer_line, AreAnswers, IsAnswerText, IsAnswerTo};
 ghost use Rattle.sagbi_cli.specs.Command.{bound_max, IsUpTo};
 
 use crate::completing::completed;
@@ -99,6 +99,28 @@ fn push_answer<F: Field, O: Order>(
     push_line(alloc, text, c.presentation(), &reply)
 }
 
+/// The lines that answer queries by a completion.
+fn answers_by<F: Field, O: Order>(
+    alloc: Global,
+    c: &mut Completion<F, O>,
+    queries: &[Poly<F>],
+) -> Result<Vec<u8>, Memory>
+    requires completion { IsCompletion F.ops O.order c.old }
+    requires not_begun { c.old.begun ≡ false }
+    requires some { 1 ≤ c.old.degree }
+    requires canonical { let P = presented F.ops O.order c.old.presentation in
+        All (IsCanonical P.field P.order) queries.now }
+    requires low { All (IsLow (O.order c.old.presentation.order)) queries.now }
+    ensures { IfOk result (λ text. AreAnswers F.ops O.order c.old.presentation c.old.degree (elements_of c.old)
+        queries.now text.items) }
+{
+    let mut text = Vec::new(alloc);
+    'queries: for query in queries {
+        push_answer(alloc, &mut text, c, query)?;
+    }
+    Ok(text)
+}
+
 /// The lines that answer queries, by the reduced basis to a bound.
 pub(crate) fn answers<F: Field, O: Order>(
     alloc: Global,
@@ -113,9 +135,5 @@ pub(crate) fn answers<F: Field, O: Order>(
     ensures { IfOk result (λ text. IsAnswerText F.ops O.order p bound queries.now text.items) }
 {
     let mut c = completed(alloc, p, bound, Pick::First)?;
-    let mut text = Vec::new(alloc);
-    'queries: for query in queries {
-        push_answer(alloc, &mut text, &mut c, query)?;
-    }
-    Ok(text)
+    answers_by(alloc, &mut c, queries)
 }

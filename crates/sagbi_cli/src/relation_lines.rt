@@ -1,12 +1,13 @@
 //! The lines of the relations.
-ghost use Rattle.std.specs.Prelude.{◌≡◌, ◌++◌, codes, length, string_bytes, All, IfOk, OnOk};
+ghost use Rattle.std.specs.Prelude.{◌≡◌, ◌++◌, codes, false, string_bytes, All, IfOk, OnOk};
 ghost use Rattle.std.specs.Fmt.{decimal};
 ghost use Rattle.poly_core.specs.Presentation.{presented, IsValid};
+ghost use Rattle.completion.specs.Completion.{IsCompletion};
 ghost use Rattle.sagbi_cli.specs.Command.{bound_max, IsUpTo};
-ghost use Rattle.sagbi_cli.specs.RelationLines.{element_names, relation_line, relation_lines, IsPrintable, IsRelationsText};
+ghost use Rattle.sagbi_cli.specs.RelationLines.{element_names, relation_line, relation_lines, relations_text, IsPrintable, IsRelationsText};
 
 use crate::completing::completed;
-use completion::{Pick, Relation};
+use completion::{Completion, Pick, Relation};
 use monomial_order::{Memory, Order};
 use poly_core::{Names, Poly, Presentation, write_monomial};
 use std::alloc::{AllocError, Global};
@@ -56,6 +57,31 @@ fn push_lines<F: Field>(
     Ok(())
 }
 
+/// The names of elements behind so many variables.
+fn names_behind(places: usize) -> Names
+    ensures { result ≡ element_names places }
+{
+    Names::Numbered {
+        prefix: b's',
+        skip: places,
+    }
+}
+
+/// The number of relations of a completion, and a line for each.
+fn lines_of<F: Field, O: Order>(alloc: Global, c: &Completion<F, O>) -> Result<Vec<u8>, Memory>
+    requires completion { IsCompletion F.ops O.order c.now }
+    requires not_begun { c.now.begun ≡ false }
+    ensures { let P = presented F.ops O.order c.now.presentation in IfOk result
+        (λ text. text.items ≡ relations_text P.field (element_names P.order.places) c.now.relations) }
+{
+    let names = names_behind(c.presentation().order.places());
+    let relations = c.relations();
+    let head = head(alloc, relations.len())?;
+    let mut text = Vec::from_slice(alloc, head.as_bytes())?;
+    push_lines(alloc, &mut text, &c.presentation().field, &names, relations)?;
+    Ok(text)
+}
+
 /// The relations of the reduced basis to a bound, one on each line behind their number.
 pub(crate) fn relations<F: Field, O: Order>(
     alloc: Global,
@@ -67,13 +93,5 @@ pub(crate) fn relations<F: Field, O: Order>(
     ensures { IfOk result (λ text. IsRelationsText F (presented F.ops O.order p) bound text.items) }
 {
     let c = completed(alloc, p, bound, Pick::First)?;
-    let names = Names::Numbered {
-        prefix: b's',
-        skip: c.presentation().order.places(),
-    };
-    let relations = c.relations();
-    let head = head(alloc, relations.len())?;
-    let mut text = Vec::from_slice(alloc, head.as_bytes())?;
-    push_lines(alloc, &mut text, &c.presentation().field, &names, relations)?;
-    Ok(text)
+    lines_of(alloc, &c)
 }
