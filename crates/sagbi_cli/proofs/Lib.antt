@@ -1,5 +1,12 @@
+pub mod Asked
+pub mod Completed
 pub mod Decimal
 pub mod Endings
-pub mod Printable
-pub mod PrintedLines
+pub mod Lines
+pub mod Loads
+pub mod Printing
 pub mod Putting
+pub mod Queries
+pub mod Results
+pub mod Unchanged
+pub mod Words

@@ -1,10 +1,11 @@
-pub mod Answer
-pub mod Built
+pub mod Answers
 pub mod Command
+pub mod Completing
 pub mod Ending
+pub mod Loading
 pub mod Message
 pub mod Outcome
-pub mod Report
-pub mod ReportText
+pub mod Output
+pub mod RelationLines
 pub mod SinkChange
-pub mod Printing
+pub mod TrialText

@@ -1,28 +1,32 @@
-//! The program: a presentation is read, completed to a degree, and its report printed.
+//! The program: a presentation is read and completed to a degree, and what is asked of it is printed.
 #![tactic(auto)]
 
-mod answer;
-mod built;
+mod answers;
 mod command;
+mod completing;
+mod loading;
 mod message;
 mod outcome;
-mod print_fault;
+mod output;
 mod put;
-mod report;
+mod relation_lines;
 mod run;
+mod stop;
 #[cfg(test)]
 mod tests;
+mod trial;
 mod word_list;
 
+pub use command::Command;
 use monomial_order::Memory;
 pub use outcome::Outcome;
-pub use print_fault::PrintFault;
 pub use run::run;
 use shelf_io::{FileShelf, StreamSink};
 use std::alloc::Global;
 use std::env;
 use std::io::ErrorKind;
 use std::process::ExitCode;
+pub use stop::{Input, Stop};
 pub use word_list::WordList;
 
 /// The words after the program's name; none if one of them is no text.

@@ -1,21 +1,15 @@
 //! How a run ends.
 ghost use Rattle.std.specs.Prelude.{◌≡◌};
 
-use presentation_text::TextKind;
+use crate::Stop;
 
-/// Each has a status of its own.
+/// The output was taken whole, the words are no command, the sink failed, or the command was stopped before its output.
 #[derive(Clone, Copy, Debug, PartialEq, Eq)]
 pub enum Outcome {
     Done,
     Usage,
-    /// The first fault of the presentation, and its line.
-    Fault(TextKind, u32),
-    Shelf,
     Sink,
-    Memory,
-    Missing,
-    TooLong,
-    NotBuilt,
+    Stopped(Stop),
 }
 
 impl Outcome {
@@ -28,13 +22,8 @@ impl Outcome {
         match self {
             Outcome::Done => 0,
             Outcome::Usage => 1,
-            Outcome::Fault(_, _) => 2,
-            Outcome::Shelf => 5,
             Outcome::Sink => 6,
-            Outcome::Memory => 7,
-            Outcome::Missing => 8,
-            Outcome::TooLong => 9,
-            Outcome::NotBuilt => 99,
+            Outcome::Stopped(stop) => stop.status(),
         }
     }
 }

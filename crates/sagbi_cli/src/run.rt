@@ -1,44 +1,48 @@
 //! The run of the program.
-ghost use Rattle.std.specs.Prelude.{◌≡◌, ◌≢◌, ℕ, List, Some};
-ghost use Rattle.std.specs.FinMap as map;
+ghost use Rattle.std.specs.Prelude.{◌≡◌, ◌≢◌, Some};
 ghost use Rattle.shelf_io.specs.Counts.{HasRisen};
 ghost use Rattle.shelf_io.specs.Shelf.{Files};
-ghost use Rattle.sagbi_cli.specs.Command.{IsBound, IsCompleteCommand, IsNoCommand};
-ghost use Rattle.sagbi_cli.specs.Ending.{Ends, PutsAt, TakesOnlyReports};
-ghost use Rattle.sagbi_cli.specs.SinkChange.{change, HasFailed};
+ghost use Rattle.sagbi_cli.specs.declared.command.Command.{Command};
+ghost use Rattle.sagbi_cli.specs.Command.{AreInRange, IsCommand, IsNoCommand};
+ghost use Rattle.sagbi_cli.specs.Ending.{Ends, EndsOver, Prints, TakesOnlyOutput};
+ghost use Rattle.sagbi_cli.specs.SinkChange.{change};
 
-use crate::answer::answer;
-use crate::command::command;
+use crate::command::asked;
 use crate::message::put_line;
-use crate::{Outcome, WordList};
-use presentation_text::TEXT_MAX;
-use presentation_text::laws::one_reading;
-use shelf_io::{LoadFault, Loaded, Shelf, Sink};
+use crate::output::output;
+use crate::put::put_all;
+use crate::{Command, Outcome, Stop, WordList};
+use shelf_io::{Shelf, Sink};
 use std::alloc::Global;
 
-/// Loads the presentation of that name and answers it.
-fn complete<H: Shelf, K: Sink>(
+/// Prints a text.
+fn print<K: Sink>(out: &mut K, text: &[u8]) -> Outcome
+    ensures prints { Prints text.now result (change K.taken K.faults out.old out.new) }
+{
+    match put_all(out, text) {
+        Ok(()) => Outcome::Done,
+        Err(_) => Outcome::Sink,
+    }
+}
+
+/// Does what a command asks for.
+fn obey<H: Shelf, K: Sink>(
     alloc: Global,
-    name: &str,
-    bound: u32,
+    command: &Command<'_>,
     shelf: &mut H,
     out: &mut K,
 ) -> Outcome
-    requires { IsBound bound }
-    ensures puts { (files : Files) → H.holds shelf.old ≡ Some files
-        → PutsAt (map.get files name.now) bound result (change K.taken K.faults out.old out.new) }
-    ensures only_reports { TakesOnlyReports result (change K.taken K.faults out.old out.new) }
-    ensures map { H.holds shelf.new ≡ H.holds shelf.old }
-    ensures shelf { result ≡ Outcome.Shelf → HasRisen (H.faults shelf.old) (H.faults shelf.new) }
-    ensures sink { result ≡ Outcome.Sink → HasFailed (change K.taken K.faults out.old out.new) }
+    requires numbers { AreInRange command.now }
+    ensures over { (files : Files) → H.holds shelf.old ≡ Some files →
+        EndsOver files command.now result (change K.taken K.faults out.old out.new) }
+    ensures only_output { TakesOnlyOutput result (change K.taken K.faults out.old out.new) }
     ensures never_usage { result ≢ Outcome.Usage }
+    ensures map { H.holds shelf.new ≡ H.holds shelf.old }
+    ensures shelf { result ≡ Outcome.Stopped Stop.Shelf → HasRisen (H.faults shelf.old) (H.faults shelf.new) }
 {
-    match shelf.load(alloc, name, Some(TEXT_MAX)) {
-        Ok(Loaded::Missing) => Outcome::Missing,
-        Ok(Loaded::TooLong) => Outcome::TooLong,
-        Ok(Loaded::Bytes(bytes)) => answer(alloc, &bytes, bound, out),
-        Err(LoadFault::Failed) => Outcome::Shelf,
-        Err(LoadFault::Memory) => Outcome::Memory,
+    match output(alloc, command, shelf) {
+        Ok(text) => print(out, text.as_slice()),
+        Err(stop) => Outcome::Stopped(stop),
     }
 }
 
@@ -55,20 +59,19 @@ pub fn run<H: Shelf, K: Sink, N: Sink>(
 
     // whatever the shelf and the sinks are
     ensures no_command { result ≡ 1 → IsNoCommand words.now }
-    ensures command { result ≢ 1 → (pres : List ℕ) × (bound : ℕ) × IsCompleteCommand words.now pres bound }
+    ensures command { result ≢ 1 → (command : Command) × IsCommand words.now command }
     ensures map { H.holds shelf.new ≡ H.holds shelf.old }
     ensures shelf { result ≡ 5 → HasRisen (H.faults shelf.old) (H.faults shelf.new) }
     ensures sink { result ≡ 6 → HasRisen (K.faults out.old) (K.faults out.new) }
 {
-    one_reading();
-    match command(words) {
-        Some((name, bound)) => {
-            let outcome = complete(alloc, name, bound, shelf, out);
-            let _ = put_line(note, outcome, name.as_bytes());
+    match asked(words) {
+        Some(command) => {
+            let outcome = obey(alloc, &command, shelf, out);
+            let _ = put_line(note, words, outcome);
             outcome.status()
         }
         None => {
-            let _ = put_line(note, Outcome::Usage, b"");
+            let _ = put_line(note, words, Outcome::Usage);
             Outcome::Usage.status()
         }
     }
