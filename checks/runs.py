@@ -255,7 +255,7 @@ def outputs():
         yield {"P": text}, ["relations", "P", str(bound)], lines_of(["relations %d" % len(relations), *relations])
     for text, bound, queries, answers in ANSWERS:
         yield {"P": text, "Q": queries}, ["ask", "P", str(bound), "Q"], lines_of(answers)
-    for n in range(1, 6):
+    for n in range(1, 5):
         # the elementary symmetric polynomials in n + 2 variables
         yield {}, ["trial", str(n)], "trial %d\nbound %d\nbasis %d\nmark complete\nend\n" % (n, n + 2, n + 2)
 
