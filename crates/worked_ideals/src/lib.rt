@@ -1,7 +1,7 @@
-//! Tests of ideals and of bases of monomials: cases that were worked out by hand, as rows of text.
+//! Tests of ideals: cases that were worked out by hand, as rows of text.
 #![tactic(auto)]
 
 #[cfg(test)]
-mod bases;
+mod leads;
 #[cfg(test)]
 mod quotients;

@@ -6,7 +6,7 @@ ghost use Rattle.poly_core.specs.Presentation.{weight_order_of, presented};
 ghost use Rattle.quotient_gb.specs.Quotient.{IsQuotientOf};
 ghost use Rattle.worked_rows.specs.Rings.{IsIn, IsRing};
 
-use crate::bases::are_monomials;
+use crate::leads::are_monomials;
 use monomial_order::{Order, WeightOrder};
 use poly_core::Poly;
 use quotient_gb::Quotient;

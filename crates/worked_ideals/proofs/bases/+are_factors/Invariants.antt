@@ -1,5 +1,0 @@
-use Rattle.std.proofs.Common.{length}
-use Rattle.worked_ideals.proofs.bases.+are_factors.Given as goal
-
-abbrev pub decreases-are_factors : goal.decreases-are_factors
-decreases-are_factors l = length l.list.now
