@@ -1,5 +1,5 @@
 -- The outcome of a command that reads queries.
-use Rattle.std.proofs.Common.{◌≡◌, ◌∙◌, ◌*◌, ℕ, List, Ok, sym, ap}
+use Rattle.std.proofs.Common.{◌≡◌, ◌∙◌, ℕ, List, Ok, sym, ap}
 use Rattle.std.specs.FinMap as map
 use Rattle.word_field.specs.Field.{FieldOps}
 use Rattle.word_field.specs.Residues.{residues}
@@ -17,7 +17,7 @@ use Rattle.poly_core.specs.declared.place_names.Names.TheVariants.{Listed}
 use Rattle.poly_core.specs.declared.presentations.Presentation.{Presentation}
 use Rattle.poly_core.specs.Presentation.{weight_order_of}
 use Rattle.presentation_text.specs.Meaning.{word_ops, pair_ops, IsReadIn}
-use Rattle.presentation_text.specs.Reading.{reading, queries, order_of_head, Reading, AnyReading}
+use Rattle.presentation_text.specs.Reading.{reading, queries, order_of_head, Reading}
 use Rattle.presentation_text.specs.Reading.AnyReading.{word, pair}
 use Rattle.presentation_text.specs.declared.any_presentation.AnyPresentation.TheVariants as presentations
 use Rattle.shelf_io.specs.Shelf.{Files}

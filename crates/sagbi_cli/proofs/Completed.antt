@@ -12,7 +12,7 @@ use Rattle.polynomial_text.specs.Degrees.{IsLow}
 use Rattle.subalgebra_laws.specs.Bases.{IsClosedAt}
 use Rattle.witness.specs.declared.tracked.Tracked.{Tracked}
 use Rattle.completion.specs.Closed.{HasLater}
-use Rattle.completion.specs.Completion.{elements_of, CompletionState, IsAtDegree, IsUnchanged}
+use Rattle.completion.specs.Completion.{elements_of, CompletionState, IsAtDegree}
 use Rattle.completion.specs.Report.{mark_text, HasMark, IsReport}
 use Rattle.sagbi_cli.specs.Answers.{AreAnswers, IsAnswerText}
 use Rattle.sagbi_cli.specs.Completing.{IsCompletedTo}

@@ -8,7 +8,7 @@ use Rattle.poly_core.specs.declared.presentations.Presentation.{Presentation}
 use Rattle.polynomials.specs.Polynomial.{Polynomial}
 use Rattle.completion.specs.declared.relations.Relation.{Relation}
 use Rattle.membership.specs.declared.reply.Reply.{Reply}
-use Rattle.sagbi_cli.specs.Answers.{answer_line, answered, AreAnswers, IsAnswerTo}
+use Rattle.sagbi_cli.specs.Answers.{answer_line, AreAnswers, IsAnswerTo}
 use Rattle.sagbi_cli.specs.RelationLines.{relation_line, relation_lines}
 
 module _ {F E : Type 0} (K : FieldOps E) (names : Names) where

@@ -1,5 +1,5 @@
 -- What is loaded and read decides an outcome.
-use Rattle.std.proofs.Common.{◌≡◌, ℕ, zero, suc, ◌≤◌, List, [], ◌∷◌, length, nat_le, true, Option, Some, Result, Ok, Err, ap, ◌∙◌, le-leb, arith}
+use Rattle.std.proofs.Common.{◌≡◌, ℕ, zero, suc, ◌≤◌, List, [], ◌∷◌, length, Option, Some, Result, Ok, ap, ◌∙◌, le-leb, arith}
 use Rattle.std.specs.Prelude.{All, if◌then◌else◌}
 use Rattle.word_field.specs.Field.{FieldOps}
 use Rattle.monomial_order.specs.MonomialOrder.{MonomialOrder}

@@ -1,8 +1,8 @@
 -- Which words and polynomials can be printed.
-use Rattle.std.proofs.Common.{◌≡◌, ◌≢◌, ℕ, ◌<◌, ◌≤◌, Bool, true, false, List, [], ◌∷◌, length, refl, sym, ap, subst, ◌∙◌, ◌+◌, ◌-◌, cond, ltb,  le-ltb, IsSome, Some, None, rules, arith}
+use Rattle.std.proofs.Common.{◌≡◌, ◌≢◌, ℕ, ◌≤◌, Bool, true, false, List, [], ◌∷◌, length, refl, sym, ap, subst, ◌∙◌, ◌+◌, ◌-◌, cond, ltb, le-ltb, IsSome, Some, None, rules, arith}
 use Rattle.std.proofs.lemmas.Bool.{ltb-false, ltb-true}
 use Rattle.std.proofs.lemmas.List.{length-map}
-use Rattle.std.specs.Prelude.{All, map, take, sum, if◌then◌else◌, slice_index_or, get_or}
+use Rattle.std.specs.Prelude.{All, map, take, sum, if◌then◌else◌, get_or}
 use Rattle.std.specs.Fmt.{decimal}
 use Rattle.word_field.specs.Field.{FieldOps, IsField}
 use Rattle.word_field.specs.laws.Field.{zero-plus}

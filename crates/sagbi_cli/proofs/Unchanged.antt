@@ -1,5 +1,5 @@
 -- Completions whose elements stay.
-use Rattle.std.proofs.Common.{◌≡◌, ℕ, ◌∙◌, subst, List}
+use Rattle.std.proofs.Common.{ℕ, ◌∙◌, subst, List}
 use Rattle.poly_core.specs.declared.presentations.Presentation.{Presentation}
 use Rattle.witness.specs.declared.tracked.Tracked.{Tracked}
 use Rattle.completion.specs.Completion.{CompletionState, IsUnchanged}

@@ -1,6 +1,5 @@
 -- What is loaded and read, and what stops it.
 use Rattle.std.specs.Prelude.{◌≡◌, ℕ, ◌<◌, ◌≤◌, List, length, Option, Some, None}
-use Rattle.word_field.specs.Field.{FieldOps}
 use Rattle.presentation_text.specs.Meaning.{text_max, word_ops, pair_ops}
 use Rattle.poly_core.specs.Presentation.{IsValid, weight_order_of}
 use Rattle.presentation_text.specs.declared.any_presentation.AnyPresentation.{AnyPresentation}

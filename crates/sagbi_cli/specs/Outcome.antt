@@ -1,5 +1,5 @@
 -- The outcome of a command over known files: the first step that refuses it decides.
-use Rattle.std.specs.Prelude.{ℕ, ◌≤◌, List, length, nat_le, if◌then◌else◌, Option, Some, None, Result, Ok, Err}
+use Rattle.std.specs.Prelude.{ℕ, List, length, nat_le, if◌then◌else◌, Option, Some, None, Result, Ok, Err}
 use Rattle.std.specs.FinMap as map
 use Rattle.word_field.specs.Residues.{residues}
 use Rattle.ext_field.specs.PairField.{pairs_of}

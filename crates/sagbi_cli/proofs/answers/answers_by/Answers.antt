@@ -1,7 +1,7 @@
-use Rattle.std.proofs.Common.{◌≡◌, ◌<◌, ◌++◌, ◌+◌, ◌∷◌, [], ◌∙◌, length, sym, ap, subst, take, take-suc, add-one, arith}
+use Rattle.std.proofs.Common.{◌≡◌, ◌<◌, ◌++◌, ◌+◌, ◌∷◌, [], ◌∙◌, length, sym, ap, take, take-suc, add-one, arith}
 use Rattle.witness.specs.Tracking.{values_of}
 use Rattle.completion.specs.Completion.{elements_of}
-use Rattle.sagbi_cli.specs.Answers.{answer_line, AreAnswers, IsAnswerTo}
+use Rattle.sagbi_cli.specs.Answers.{answer_line, IsAnswerTo}
 use Rattle.sagbi_cli.proofs.Lines.{one_more}
 use Rattle.sagbi_cli.proofs.Unchanged.{before, unchanged_twice}
 use Rattle.sagbi_cli.proofs.answers.answers_by.Goals as goal

@@ -1,4 +1,4 @@
-use Rattle.std.proofs.Common.{◌≡◌, take, false}
+use Rattle.std.proofs.Common.{take}
 use Rattle.completion.specs.Completion.{elements_of, IsCompletion, IsUnchanged}
 use Rattle.sagbi_cli.specs.Answers.{AreAnswers}
 use Rattle.sagbi_cli.proofs.answers.answers_by.Given as goal

@@ -1,4 +1,4 @@
-use Rattle.std.proofs.Common.{◌≡◌, ◌≤◌, ◌∙◌, ◌++◌, subst}
+use Rattle.std.proofs.Common.{◌≡◌, ◌∙◌, ◌++◌, subst}
 use Rattle.poly_core.specs.declared.presentations.Presentation.{Presentation}
 use Rattle.sagbi_cli.specs.Answers.{answer_line}
 use Rattle.sagbi_cli.proofs.Results.{on_ok}

@@ -1,5 +1,3 @@
-use Rattle.std.proofs.Common.{◌≡◌}
-use Rattle.std.specs.Prelude.{codes}
 use Rattle.sagbi_cli.proofs.Words.{are_complete, if_none, no_pick}
 use Rattle.sagbi_cli.proofs.command.complete.Goals as goal
 

@@ -1,4 +1,4 @@
-use Rattle.std.proofs.Common.{◌≡◌, subst, sym}
+use Rattle.std.proofs.Common.{subst, sym}
 use Rattle.std.specs.FinMap as map
 use Rattle.poly_core.specs.Presentation.{weight_order_of}
 use Rattle.presentation_text.specs.Meaning.{AreQueries, IsFaultOf}

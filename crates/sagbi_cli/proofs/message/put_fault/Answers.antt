@@ -1,4 +1,4 @@
-use Rattle.std.proofs.Common.{◌≡◌, ◌++◌, arith, Err}
+use Rattle.std.proofs.Common.{◌++◌, arith, Err}
 use Rattle.std.specs.Prelude.{codes}
 use Rattle.std.proofs.lemmas.Result.{err_from_is_err_and}
 use Rattle.sagbi_cli.specs.Message.{fault_line, input_name}

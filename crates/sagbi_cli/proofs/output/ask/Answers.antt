@@ -1,10 +1,8 @@
-use Rattle.std.proofs.Common.{sym, subst, ◌∙◌}
+use Rattle.std.proofs.Common.{subst, ◌∙◌}
 use Rattle.std.proofs.lemmas.Result.{err_from_is_err_and}
 use Rattle.std.specs.FinMap as map
-use Rattle.presentation_text.specs.Meaning.{word_ops, pair_ops}
-use Rattle.sagbi_cli.specs.Loading.{StopsAs}
 use Rattle.sagbi_cli.specs.Outcome.{after_queries}
-use Rattle.sagbi_cli.specs.Output.{AreAnswered, IsAnyOutputOn, IsGiven, IsOutput}
+use Rattle.sagbi_cli.specs.Output.{IsGiven, IsOutput}
 use Rattle.sagbi_cli.specs.declared.command.Command.TheVariants.{Ask}
 use Rattle.sagbi_cli.proofs.Asked.{pair_outcome, word_outcome}
 use Rattle.sagbi_cli.proofs.Results.{if_ok}
