@@ -50,7 +50,6 @@ no_pick words x none (Ask pres bound queries) h = let e = first_is words _ (code
 no_pick words x none (Relations pres bound) h = let e = first_is words _ (codes "complete") (codes "relations") x h.0 in absurd cc
 no_pick words x none (Trial number) h = let e = first_is words _ (codes "complete") (codes "trial") x h.0 in absurd cc
 
-
 -- the words are those of `complete`
 pub are_complete : (words : List (List ℕ)) (pick : Pick) (pres : Bor (List ℕ)) (bound : ℕ) → slice_get words 0 ≡ Some (codes "complete") → IsPicked words pick →
     AreNameAndBound pres.now bound → slice_get words 1 ≡ Some pres.now → slice_get words 2 ≡ Some (decimal bound) → IsCommand words (Complete pres bound pick)

@@ -93,7 +93,8 @@ fn push_answer<F: Field, O: Order>(
     ensures unchanged { IsUnchanged c.old c.new }
     ensures line { OnOk result ((reply : Reply F F.Elem) ×
         IsAnswerTo F.ops O.order c.old.presentation c.old.degree (elements_of c.old) query.now reply ×
-        (text.new.items ≡ text.old.items ++ answer_line (F.ops c.old.presentation.field) c.old.presentation.names reply)) }
+        (text.new.items ≡ text.old.items ++
+        answer_line (F.ops c.old.presentation.field) c.old.presentation.names reply)) }
 {
     let reply = answer(alloc, c, query)?;
     push_line(alloc, text, c.presentation(), &reply)

@@ -25,9 +25,14 @@ pub enum Command<'a> {
         queries: &'a str,
     },
     /// The relations to a bound.
-    Relations { pres: &'a str, bound: u32 },
+    Relations {
+        pres: &'a str,
+        bound: u32,
+    },
     /// The summary of a completion of power sums.
-    Trial { number: u32 },
+    Trial {
+        number: u32,
+    },
 }
 
 /// Whether there is a first byte, and it is a digit from 1 on.

@@ -109,12 +109,7 @@ fn ask<H: Shelf>(
 }
 
 /// `relations`.
-fn related<H: Shelf>(
-    alloc: Global,
-    shelf: &mut H,
-    pres: &str,
-    bound: u32,
-) -> Result<Vec<u8>, Stop>
+fn related<H: Shelf>(alloc: Global, shelf: &mut H, pres: &str, bound: u32) -> Result<Vec<u8>, Stop>
     requires bound { IsUpTo bound_max bound }
     ensures output { (files : Files) → H.holds shelf.old ≡ Some files →
         IfOk result (λ text. IsOutput files (Command.Relations pres.entry bound) text.items) }
@@ -145,7 +140,11 @@ pub(crate) fn output<H: Shelf>(
 {
     match *command {
         Command::Complete { pres, bound, pick } => complete(alloc, shelf, pres, bound, pick),
-        Command::Ask { pres, bound, queries } => ask(alloc, shelf, pres, bound, queries),
+        Command::Ask {
+            pres,
+            bound,
+            queries,
+        } => ask(alloc, shelf, pres, bound, queries),
         Command::Relations { pres, bound } => related(alloc, shelf, pres, bound),
         Command::Trial { number } => Ok(trial(alloc, number)?.into_bytes()),
     }

@@ -94,7 +94,8 @@ const CASES: [Case; 26] = [
         command: "complete F 3",
         queries: "",
         status: 0,
-        output: "report 1\nbound 3\nbasis 3\n1 1 x : x + y\n2 2 x*y : x*y + y^2\n3 3 x*y^2 : x*y^2 + y^3\nmark open\nend\n",
+        output: "report 1\nbound 3\nbasis 3\n1 1 x : x + y\n2 2 x*y : x*y + y^2\n3 3 x*y^2 : x*y^2 + y^3\n\
+                 mark open\nend\n",
         line: "",
     },
     Case {

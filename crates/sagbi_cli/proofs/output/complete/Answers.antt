@@ -15,7 +15,7 @@ returns-in_ok-report-in-Word-clause-output g c files known = (
   c.in_ok-p.field-0,
   c.in_ok-p.ensures.given files known,
   subst (λ p. IsAnyOutputOn files p (Complete c.args.pres c.args.bound c.args.pick) c.in_ok-report-in-Word.field-0.items) (sym c.in-Word.is)
-  c.in_ok-report-in-Word.ensures,
+      c.in_ok-report-in-Word.ensures,
 )
 
 pub returns-in_ok-report-in-Pair-clause-output : goal.returns-in_ok-report-in-Pair-clause-output
@@ -23,5 +23,5 @@ returns-in_ok-report-in-Pair-clause-output g c files known = (
   c.in_ok-p.field-0,
   c.in_ok-p.ensures.given files known,
   subst (λ p. IsAnyOutputOn files p (Complete c.args.pres c.args.bound c.args.pick) c.in_ok-report-in-Pair.field-0.items) (sym c.in-Pair.is)
-  c.in_ok-report-in-Pair.ensures,
+      c.in_ok-report-in-Pair.ensures,
 )

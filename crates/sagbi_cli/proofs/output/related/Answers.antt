@@ -15,7 +15,7 @@ returns-in_ok-relations-in-Word-clause-output g c files known = (
   c.in_ok-p.field-0,
   c.in_ok-p.ensures.given files known,
   subst (λ p. IsAnyOutputOn files p (Relations c.args.pres c.args.bound) c.in_ok-relations-in-Word.field-0.items) (sym c.in-Word.is)
-  c.in_ok-relations-in-Word.ensures,
+      c.in_ok-relations-in-Word.ensures,
 )
 
 pub returns-in_ok-relations-in-Pair-clause-output : goal.returns-in_ok-relations-in-Pair-clause-output
@@ -23,5 +23,5 @@ returns-in_ok-relations-in-Pair-clause-output g c files known = (
   c.in_ok-p.field-0,
   c.in_ok-p.ensures.given files known,
   subst (λ p. IsAnyOutputOn files p (Relations c.args.pres c.args.bound) c.in_ok-relations-in-Pair.field-0.items) (sym c.in-Pair.is)
-  c.in_ok-relations-in-Pair.ensures,
+      c.in_ok-relations-in-Pair.ensures,
 )
