@@ -1,10 +1,8 @@
 -- Left sides of the rules of a table.
-use Rattle.std.proofs.Common.{◌≡◌, ◌≢◌, ℕ, zero, suc, ◌≤◌, ◌<◌, refl, sym, ◌∙◌, subst, List, [], ◌∷◌, length, arith, get_or, ⊎_elim}
-use Rattle.std.specs.Prelude.{Contains, map}
-use Rattle.std.proofs.lemmas.List.{get_or_default, get_or_past, length-map}
+use Rattle.std.proofs.Common.{◌≡◌, ◌≢◌, ℕ, zero, suc, ◌<◌, refl, sym, ◌∙◌, subst, List, [], ◌∷◌, length, arith, get_or}
+use Rattle.std.specs.Prelude.{Contains, map, Option, Some, IfSome}
+use Rattle.std.proofs.lemmas.List.{get_or_default, length-map}
 use Rattle.monomial_order.specs.Monomial.{Exponents, exponent, Divides}
-use Rattle.monomial_order.specs.laws.Comparing.{le_or_not}
-use Rattle.monomial_order.specs.laws.Lists.{contains_none}
 use Rattle.word_rewriting.specs.Rewriting.{RewriteRule, HasLeftDivisor}
 use Rattle.word_rules.specs.declared.word_rule.WordRule.{WordRule}
 use Rattle.word_rules.specs.declared.buckets.Buckets.{Buckets}
@@ -35,32 +33,26 @@ read_letters t i r x l e =
     (subst (AreLettersOf (list_at (lefts_of t.rules.items) i)) b
     (x.letters_are i (subst (λ n. i < n) (sym (length-map t.rules.items (λ s. s.left))) l)))
 
--- a key of an index in the buckets is one of them
-past_end : {A : Type 0} {B : Type 0} (f : A → List B) (xs : List A) (k : ℕ) → length xs ≤ k → get_or (map f xs) k [] ≡ []
-past_end f xs k l = get_or_past (map f xs) k [] (subst (λ n. n ≤ k) (sym (length-map xs f)) l)
-
-pub bucket_within : (b : Buckets) (k i n : ℕ) → length b.lists.items ≤ n → Contains (bucket b k) i → k < n
-bucket_within b k i n l h =
-    ⊎_elim (λ q. absurd (contains_none i (subst (λ xs. Contains xs i) (past_end (λ v. v.items) b.lists.items k q) h)))
-    (λ q. omega (arith, q)) (le_or_not (length b.lists.items) k)
-
-row_within : (p : PairIndex) (a b i n : ℕ) → length p.rows.items ≤ n → Contains (pair_bucket p a b) i → a < n
-row_within p a b i n l h =
-    ⊎_elim (λ q. absurd (contains_none i (subst (λ rs. Contains (get_or rs b []) i) (past_end (λ r. map (λ v. v.items) r.lists.items) p.rows.items a q) h)))
-    (λ q. omega (arith, q)) (le_or_not (length p.rows.items) a)
-
 pub row_read : (p : PairIndex) (a : ℕ) (r : Buckets) → a < length p.rows.items → r ≡ get_or p.rows.items a r → (b i : ℕ) → Contains (pair_bucket p a b) i → Contains (bucket r b) i
 row_read p a r l e b i h = subst (λ rs. Contains (get_or rs b []) i) (at_read (λ s. map (λ v. v.items) s.lists.items) [] p.rows.items a r l e) h
+
+-- the index that was found
+pub found_inside : (R : List RewriteRule) (found : Option ℕ) (i : ℕ) → found ≡ Some i → IfSome found (λ k. k < length R) → i < length R
+found_inside R found i e h = subst (λ x. IfSome x (λ k. k < length R)) e h
+
+pub found_divides : (R : List RewriteRule) (w : Exponents) (found : Option ℕ) (i : ℕ) → found ≡ Some i → IfSome found (λ k. Divides (rule_at R k).left w) →
+    Divides (rule_at R i).left w
+found_divides R w found i e h = subst (λ x. IfSome x (λ k. Divides (rule_at R k).left w)) e h
 
 module _ (t : Table) (w : Exponents) (i : ℕ) where
   pub divided_letter : (b : ℕ) → Divides (list_at (lefts_of t.rules.items) i) w → exponent (list_at (lefts_of t.rules.items) i) b ≢ 0 → exponent w b ≢ 0
   divided_letter b d e z = e (let h = d b in omega arith)
 
-  -- if no left side in a row of buckets divides the word, none does
-  pub none_divides : IsIndexed t → (n : ℕ) → length t.by_pair.rows.items ≤ n →
-      ((a : ℕ) → a < n → (b j : ℕ) → exponent w a ≢ 0 → exponent w b ≢ 0 → Contains (pair_bucket t.by_pair a b) j → j < length t.rules.items →
+  -- if no left side in the buckets of two letters of the word divides it, none does
+  pub none_divides : IsIndexed t → (letters : List ℕ) → AreLettersOf w letters →
+      ((a : ℕ) → Contains letters a → (b j : ℕ) → Contains letters b → Contains (pair_bucket t.by_pair a b) j → j < length t.rules.items →
       Divides (list_at (lefts_of t.rules.items) j) w → ⊥) → i < length t.rules.items → Divides (rule_at (rules_of t.rules.items) i).left w → ⊥
-  none_divides x n l none inside divides =
+  none_divides x letters h none inside divides =
       let d = subst (λ v. Divides v w) (sym (left_is t.rules.items i)) divides in
       let p = x.paired i (subst (λ n. i < n) (sym (length-map t.rules.items (λ s. s.left))) inside) in
-      none p.a (row_within t.by_pair p.a p.b i n l p.listed) p.b i (divided_letter p.a d p.has_a) (divided_letter p.b d p.has_b) p.listed inside d
+      none p.a ((h p.a).1 (divided_letter p.a d p.has_a)) p.b i ((h p.b).1 (divided_letter p.b d p.has_b)) p.listed inside d

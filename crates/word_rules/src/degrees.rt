@@ -1,23 +1,50 @@
 //! Degrees of critical pairs.
-ghost use Rattle.std.specs.Prelude.{◌≡◌, ◌<◌, ◌≤◌, length};
+ghost use Rattle.std.specs.Prelude.{◌≡◌, ◌<◌, ◌≤◌, length, take};
 ghost use Rattle.monomial_order.specs.Limits.{exponent_max};
 ghost use Rattle.monomial_order.specs.Monomial.{least_common_multiple, weighted_degree};
 ghost use Rattle.word_rules.specs.Rules.{rule_at};
 
 use crate::RuleTable;
-use crate::word_rule::exponent_in;
+
+/// The degree of the least common multiple by the places before n.
+fn degree_before(degrees: &[u32], a: &[u16], b: &[u16], n: usize) -> u32
+    requires inside { n ≤ length degrees.now }
+    requires first { n ≤ length a.now }
+    requires second { n ≤ length b.now }
+    requires small { weighted_degree degrees.now (least_common_multiple a.now b.now) ≤ exponent_max }
+    ensures { result ≡ weighted_degree (take n degrees.now) (least_common_multiple a.now b.now) }
+{
+    let mut sum = 0;
+    'places: for place in 0..n {
+        sum += degrees[place] * u32::from(a[place].max(b[place]));
+    }
+    sum
+}
+
+/// The degree of the least common multiple with a shorter word, or one of the same length.
+fn degree_with_shorter(degrees: &[u32], a: &[u16], b: &[u16]) -> u32
+    requires shorter { length b.now ≤ length a.now }
+    requires small { weighted_degree degrees.now (least_common_multiple a.now b.now) ≤ exponent_max }
+    ensures { result ≡ weighted_degree degrees.now (least_common_multiple a.now b.now) }
+{
+    let both = b.len().min(degrees.len());
+    let mut sum = degree_before(degrees, a, b, both);
+    'places: for place in both..a.len().min(degrees.len()) {
+        sum += degrees[place] * u32::from(a[place]);
+    }
+    sum
+}
 
 /// The degree of the least common multiple.
 fn lcm_degree(degrees: &[u32], a: &[u16], b: &[u16]) -> u32
     requires { weighted_degree degrees.now (least_common_multiple a.now b.now) ≤ exponent_max }
     ensures { result ≡ weighted_degree degrees.now (least_common_multiple a.now b.now) }
 {
-    let mut sum = 0;
-    'places: for place in 0..degrees.len() {
-        let exponent = exponent_in(a, place).max(exponent_in(b, place));
-        sum += degrees[place] * u32::from(exponent);
+    if a.len() < b.len() {
+        degree_with_shorter(degrees, b, a)
+    } else {
+        degree_with_shorter(degrees, a, b)
     }
-    sum
 }
 
 impl RuleTable {

@@ -21,15 +21,13 @@ pub(crate) fn exponent_in(word: &[u16], letter: usize) -> u16
     if letter < word.len() { word[letter] } else { 0 }
 }
 
-/// The letters of a word, rising.
-fn letters_of(alloc: Global, word: &Monomial) -> Result<Vec<usize>, Memory>
-    ensures letters { IfOk result (λ v. AreLettersOf word.now v.items) }
-    ensures some { IfOk result (λ v. word.now ≢ [] → v.items ≢ []) }
+/// The letters of the word with these exponents, rising.
+pub(crate) fn letters_of(alloc: Global, word: &[u16]) -> Result<Vec<usize>, Memory>
+    ensures { IfOk result (λ v. AreLettersOf word.now v.items) }
 {
-    let exponents = word.as_slice();
     let mut letters = Vec::new(alloc);
-    'places: for place in 0..exponents.len() {
-        if exponents[place] > 0 {
+    'places: for place in 0..word.len() {
+        if word[place] > 0 {
             letters.push(place)?;
         }
     }
@@ -61,7 +59,7 @@ impl WordRule {
         ensures letters { IfOk result HasLetters }
         ensures some { IfOk result (λ r. left ≢ [] → r.letters.items ≢ []) }
     {
-        let letters = letters_of(alloc, &left)?;
+        let letters = letters_of(alloc, left.as_slice())?;
         Ok(WordRule {
             left,
             right,

@@ -146,9 +146,9 @@ fn rules_share_letters(rt: HostRuntime) -> Result<(), Fail> {
     table.push(alloc, last.copy(alloc)?, None)?;
     ensure(shares(alloc, &table, 4, "1 2 3")?, "s1*s2")?;
     ensure(
-        table.right(4).is_none() && table.is_reducible(&last),
+        table.right(4).is_none() && table.is_reducible(alloc, &last)?,
         "a rule to zero",
     )?;
     table.truncate(4);
-    ensure(!table.is_reducible(&last), "no rule to zero")
+    ensure(!table.is_reducible(alloc, &last)?, "no rule to zero")
 }

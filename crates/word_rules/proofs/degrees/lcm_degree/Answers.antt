@@ -1,33 +1,12 @@
-use Rattle.std.proofs.Common.{◌+◌, ◌*◌, get_or, sym, ◌∙◌, ap, arith}
-use Rattle.monomial_order.specs.Monomial.{least_common_multiple}
-use Rattle.word_rules.proofs.Sums.{degree_part, lcm_degree_more}
+use Rattle.std.proofs.Common.{◌≤◌, ◌∙◌, ap, subst}
+use Rattle.monomial_order.specs.Limits.{exponent_max}
+use Rattle.monomial_order.specs.Monomial.{weighted_degree}
+use Rattle.monomial_order.specs.laws.Monomial.{least_common_multiple_comm}
 use Rattle.word_rules.proofs.degrees.lcm_degree.Goals as goal
 
-pub overflow_mul-sum : goal.overflow_mul-sum
-overflow_mul-sum c =
-    let ws = c.args.degrees.now in
-    let m = least_common_multiple c.args.a.now c.args.b.now in
-    let more = lcm_degree_more ws c.args.a.now c.args.b.now c.places.place c.exponent_in.result c.exponent_in-in-places.result c.from.result
-    c.exponent_in.ensures c.exponent_in-in-places.ensures (c.from.ensures ∙ c.max-exponent.ensures) c.places-test.true in
-    let part = degree_part ws m (c.places.place + 1) in
-    let small = c.requires in
-    omega arith
+pub degree_with_shorter-requires-clause-small : goal.degree_with_shorter-requires-clause-small
+degree_with_shorter-requires-clause-small c =
+    subst (λ m. weighted_degree c.args.degrees.now m ≤ exponent_max) (least_common_multiple_comm c.args.a.now c.args.b.now) c.requires
 
-pub overflow_add-sum : goal.overflow_add-sum
-overflow_add-sum c =
-    let ws = c.args.degrees.now in
-    let m = least_common_multiple c.args.a.now c.args.b.now in
-    let more = lcm_degree_more ws c.args.a.now c.args.b.now c.places.place c.exponent_in.result c.exponent_in-in-places.result c.from.result
-    c.exponent_in.ensures c.exponent_in-in-places.ensures (c.from.ensures ∙ c.max-exponent.ensures) c.places-test.true in
-    let part = degree_part ws m (c.places.place + 1) in
-    let small = c.requires in
-    let sum = c.places.invariant in
-    omega arith
-
-pub places-preserved : goal.places-preserved
-places-preserved c =
-    let ws = c.args.degrees.now in
-    let m = least_common_multiple c.args.a.now c.args.b.now in
-    let more = lcm_degree_more ws c.args.a.now c.args.b.now c.places.place c.exponent_in.result c.exponent_in-in-places.result c.from.result
-    c.exponent_in.ensures c.exponent_in-in-places.ensures (c.from.ensures ∙ c.max-exponent.ensures) c.places-test.true in
-    ap (λ s. s + get_or ws c.places.place 0 * c.from.result) c.places.invariant ∙ sym more
+pub returns-then-a-b : goal.returns-then-a-b
+returns-then-a-b c = c.degree_with_shorter.ensures ∙ ap (weighted_degree c.args.degrees.now) (least_common_multiple_comm c.args.b.now c.args.a.now)

@@ -1,17 +1,13 @@
-use Rattle.std.proofs.Common.{◌≡◌, length, refl, subst, below_more, rules, arith}
+use Rattle.std.proofs.Common.{◌≡◌, refl, sym, ◌∙◌, subst, get_or, below_more, arith}
+use Rattle.std.specs.Prelude.{Contains}
+use Rattle.std.proofs.lemmas.List.{get_or_default}
 use Rattle.monomial_order.specs.Monomial.{Divides}
-use Rattle.word_rules.proofs.Lefts.{left_is, none_divides, row_read}
+use Rattle.word_rules.specs.Index.{pair_bucket}
+use Rattle.word_rules.proofs.Lefts.{left_is, none_divides}
 use Rattle.word_rules.proofs.table.Table.find.Goals as goal
-use Rattle.word_rules.proofs.table.Table.find.Goals.{then-exponent_in-gt0+in-None, else-exponent_in-gt0}
 
 pub letters-preserved : goal.letters-preserved
-letters-preserved c = below_more _ _ c.letters.invariant (elim c.if-exponent_in-gt0.branch [
-  | then-exponent_in-gt0+in-None w ↦ λ b i ea eb k.
-      let n : c.len-a-end.result ≡ length c.args.self.now.by_pair.rows.items = search rules in
-      let l = c.letters-test.true in
-      w.in-None.ensures.none refl b i eb (row_read c.args.self.now.by_pair c.letters.a w.index.result.now (omega arith) w.index.ensures b i k)
-  | else-exponent_in-gt0 w ↦ λ b i ea. absurd (ea (let z = w.if-exponent_in-gt0.false in let q = c.exponent_in.ensures in omega arith))
-])
+letters-preserved c = below_more _ _ c.letters.invariant (c.in-None.ensures.none refl)
 
 pub returns-in-Some-clause-divides : goal.returns-in-Some-clause-divides
 returns-in-Some-clause-divides c =
@@ -19,6 +15,8 @@ returns-in-Some-clause-divides c =
 
 pub returns-clause-none : goal.returns-clause-none
 returns-clause-none c = λ e i.
-    let n : c.len-a-end.result ≡ length c.args.self.now.by_pair.rows.items = search rules in
-    let l = c.letters-test.false in
-    none_divides c.args.self.now c.args.word.now i c.requires c.letters.a (omega arith) c.letters.invariant
+    none_divides c.args.self.now c.args.word.now i c.requires.indexed c.args.letters.now c.requires.letters
+    (λ a h b j hb k.
+    let q : get_or c.args.letters.now h.0 0 ≡ a = get_or_default c.args.letters.now h.0 0 a h.1 ∙ h.2 in
+    c.letters.invariant h.0 (let l = h.1 in let t = c.letters-test.false in omega arith) b j hb
+    (subst (λ x. Contains (pair_bucket c.args.self.now.by_pair x b) j) (sym q) k))

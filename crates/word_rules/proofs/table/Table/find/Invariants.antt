@@ -1,10 +1,10 @@
-use Rattle.std.proofs.Common.{ℕ, ◌<◌, ◌≢◌, length}
+use Rattle.std.proofs.Common.{ℕ, ◌<◌, length, get_or}
 use Rattle.std.specs.Prelude.{Contains}
-use Rattle.monomial_order.specs.Monomial.{exponent, Divides}
+use Rattle.monomial_order.specs.Monomial.{Divides}
 use Rattle.word_rules.specs.Index.{pair_bucket, lefts_of, list_at}
 use Rattle.word_rules.proofs.table.Table.find.Given as goal
 
 -- none in the rows so far
 abbrev pub invariant-letters : goal.invariant-letters
-invariant-letters l = (a : ℕ) → a < l.a → (b i : ℕ) → exponent l.word a ≢ 0 → exponent l.word b ≢ 0 → Contains (pair_bucket l.self.by_pair a b) i →
+invariant-letters l = (k : ℕ) → k < l.a-index → (b i : ℕ) → Contains l.letters b → Contains (pair_bucket l.self.by_pair (get_or l.letters k 0) b) i →
     i < length l.self.rules.items → Divides (list_at (lefts_of l.self.rules.items) i) l.word → ⊥

@@ -1,10 +1,10 @@
-use Rattle.std.proofs.Common.{ℕ, ◌<◌, ◌≢◌, length}
+use Rattle.std.proofs.Common.{ℕ, ◌<◌, length, get_or}
 use Rattle.std.specs.Prelude.{Contains}
-use Rattle.monomial_order.specs.Monomial.{exponent, Divides}
+use Rattle.monomial_order.specs.Monomial.{Divides}
 use Rattle.word_rules.specs.Index.{bucket, lefts_of, list_at}
 use Rattle.word_rules.proofs.table.Table.find_in_row.Given as goal
 
 -- none in the buckets so far
 abbrev pub invariant-letters : goal.invariant-letters
-invariant-letters l = (b : ℕ) → b < l.b → (i : ℕ) → exponent l.word b ≢ 0 → Contains (bucket l.row b) i →
+invariant-letters l = (k : ℕ) → k < l.b-index → (i : ℕ) → Contains (bucket l.row (get_or l.letters k 0)) i →
     i < length l.self.rules.items → Divides (list_at (lefts_of l.self.rules.items) i) l.word → ⊥

@@ -1,6 +1,6 @@
 use Rattle.std.proofs.Common.{◌≡◌, take}
 use Rattle.monomial_order.specs.Monomial.{least_common_multiple, weighted_degree}
-use Rattle.word_rules.proofs.degrees.lcm_degree.Given as goal
+use Rattle.word_rules.proofs.degrees.degree_with_shorter.Given as goal
 
 -- the degree by the places so far
 abbrev pub invariant-places : goal.invariant-places
