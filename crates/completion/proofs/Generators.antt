@@ -21,7 +21,7 @@ use Rattle.subduction.specs.Subduced.{witness_sum, CanSubduce, IsSubduced}
 use Rattle.subduction.specs.laws.WitnessWords.{sum_letters, HasNoLetterBefore}
 use Rattle.completion.specs.Candidates.{IsGeneratorAt}
 use Rattle.completion.specs.Insertion.{IsRestOf}
-use Rattle.completion.specs.laws.Rests.{less_rest}
+use Rattle.subduction.specs.laws.Rests.{less_rest}
 use Rattle.completion.proofs.Inserting.{Combinations}
 
 generator_degree_of : {E : Type 0} (O : MonomialOrder) (p : Polynomial E) → p ≢ [] → generator_degree O p ≡ degree_of O p

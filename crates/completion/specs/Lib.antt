@@ -6,4 +6,3 @@ pub mod Closed
 pub mod Closing
 pub mod Report
 pub mod Taking
-pub mod laws

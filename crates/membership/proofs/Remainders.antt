@@ -18,7 +18,7 @@ use Rattle.subduction.specs.declared.subduction.Subduced.{Subduced}
 use Rattle.subduction.specs.Subduced.{IsSubduced}
 use Rattle.subduction.specs.laws.Elements.{monic_elements}
 use Rattle.subduction.specs.laws.Degrees.{degrees_to}
-use Rattle.completion.specs.laws.Rests.{less_rest}
+use Rattle.subduction.specs.laws.Rests.{less_rest}
 use Rattle.membership.specs.Answer.{IsWithin}
 
 -- what is known of the leads of a reduced basis

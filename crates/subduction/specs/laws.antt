@@ -3,3 +3,4 @@ pub mod Elements
 pub mod WitnessWords
 pub mod Decisions
 pub mod Degrees
+pub mod Rests

@@ -20,19 +20,10 @@ use Rattle.subduction.specs.Basis.{BasisState, IsBasisOf}
 use Rattle.subduction.specs.declared.subduction.Subduced.{Subduced}
 use Rattle.subduction.specs.Subduced.{witness_sum, IsSubduced}
 use Rattle.subduction.specs.laws.Elements.{monic_elements}
+use Rattle.subduction.specs.laws.Rests.{less_back}
 use Rattle.subduction.specs.laws.WitnessWords.{sum_letters, HasNoLetterBefore}
 use Rattle.tete_lift.specs.Lifting.{CanLift, IsFresh, IsRightSide, IsTrackedWord}
 use Rattle.tete_lift.proofs.Words.{single, word_graded, word_tracks}
-
--- a sum less its second part is the first
-less_back : {E : Type 0} (K : FieldOps E) (F : IsField K) (p q : Polynomial E) → Same K (minus K (p ++ q) q) p
-less_back K F p q m =
-    let a = coefficient K p m in
-    let d = coefficient K q m in
-    coefficient-minus K F (p ++ q) q m ∙
-    (ap (λ x. K.plus x (K.negate d)) (coefficient-append K F p q m) ∙
-    (F.plus_assoc a d (K.negate d) ∙
-    (ap (K.plus a) (F.plus_negate d) ∙ (F.plus_zero a ∙ coefficient_value K F p m))))
 
 module _ {F E : Type 0} (P : Presented E) (H : IsPresentation P) (b : BasisState F E) (B : IsBasisOf P b)
     (u : Exponents) (can : CanLift P b u) (t : Tracked F E) (h : IsTrackedWord P b u t)

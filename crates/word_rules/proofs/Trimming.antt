@@ -74,12 +74,12 @@ module _ (O : MonomialOrder) (LO : IsMonomialOrder O) (R : List RewriteRule) (de
   rest_exponent : (p : ℕ) → exponent w p ≡ exponent (rule_at R i).left p + exponent rest.0 p
   rest_exponent p = sym (exponent-trim w p) ∙ (ap (λ m. exponent m p) (sym rest.2) ∙ exponent-product (rule_at R i).left rest.0 p)
 
-  pub in_place_fits : (p : ℕ) → (exponent w p - exponent (rule_at R i).left p) + exponent v p ≤ exponent_max
+  in_place_fits : (p : ℕ) → (exponent w p - exponent (rule_at R i).left p) + exponent v p ≤ exponent_max
   in_place_fits p =
       let f = result_fits O LO R decreasing i (trim w) rest.0 v inside small rest.1 (product_comm rest.0 (rule_at R i).left ∙ rest.2) h p in
       let e = rest_exponent p in omega arith
 
-  pub step_in_place : (u : List ℕ) → ((p : ℕ) → exponent u p ≡ (exponent w p - exponent (rule_at R i).left p) + exponent v p) → RewritesBy (rule_at R i) (trim w) (Some (trim u))
+  step_in_place : (u : List ℕ) → ((p : ℕ) → exponent u p ≡ (exponent w p - exponent (rule_at R i).left p) + exponent v p) → RewritesBy (rule_at R i) (trim w) (Some (trim u))
   step_in_place u e = record {
     cofactor = rest.0;
     trimmed = rest.1;
@@ -87,3 +87,20 @@ module _ (O : MonomialOrder) (LO : IsMonomialOrder O) (R : List RewriteRule) (de
     result = ap (multiple rest.0) h ∙ ap Some (same_exponents (product rest.0 v) (trim u) (IsTrimmed-product rest.0 v rest.1 right_word.trimmed) (trim_trimmed u)
         (λ p. let a = exponent-product rest.0 v p in let b = exponent-trim u p in let c = e p in let q = rest_exponent p in omega arith));
   }
+
+  -- the words that divide and multiply w are the sides of the rule
+  pub quotient_fits : (by right next : List ℕ) → by ≡ (rule_at R i).left → right ≡ v → ((p : ℕ) → exponent next p ≡ exponent w p - exponent by p) →
+      (p : ℕ) → exponent next p + exponent right p ≤ exponent_max
+  quotient_fits by right next eb er hn p =
+      let a = hn p in
+      let e = ap (λ m. exponent m p) eb in
+      let f = ap (λ m. exponent m p) er in
+      let fits = in_place_fits p in omega arith
+
+  pub rewritten_in_place : (by right next u : List ℕ) → by ≡ (rule_at R i).left → right ≡ v → ((p : ℕ) → exponent next p ≡ exponent w p - exponent by p) →
+      ((p : ℕ) → exponent u p ≡ exponent next p + exponent right p) → RewritesBy (rule_at R i) (trim w) (Some (trim u))
+  rewritten_in_place by right next u eb er hn hu = step_in_place u (λ p.
+      (let a = hn p in
+      let b = hu p in
+      let e = ap (λ m. exponent m p) eb in
+      let f = ap (λ m. exponent m p) er in omega arith))

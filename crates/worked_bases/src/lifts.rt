@@ -49,8 +49,8 @@ fn lifted(
     }
 }
 
-/// Fails unless the word of a row has the lift of its last part, over the generators to the degree of its first part, in
-/// a basis to the degree of its second.
+/// Fails unless the word of a row has the lift of its last part, over the generators to the degree of its first part,
+/// in a basis to the degree of its second.
 fn check(alloc: Global, presentation: &str, row: &str) -> Result<(), Fail> {
     let p = ring(alloc, presentation)?;
     let mut b = basis(alloc, &p, number(part(row, 0))?)?;

@@ -14,7 +14,7 @@ use Rattle.subduction.specs.declared.subduction.Subduced.{Subduced}
 use Rattle.subduction.specs.Subduced.{IsSubduced}
 
 -- a sum less its second part is the first
-less_back : {E : Type 0} (K : FieldOps E) (F : IsField K) (p q : Polynomial E) → Same K (minus K (p ++ q) q) p
+pub less_back : {E : Type 0} (K : FieldOps E) (F : IsField K) (p q : Polynomial E) → Same K (minus K (p ++ q) q) p
 less_back K F p q m =
     let a = coefficient K p m in
     let d = coefficient K q m in

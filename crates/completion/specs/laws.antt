@@ -1,2 +1,0 @@
--- Lemmas that proofs here and in the crates above cite.
-pub mod Rests
