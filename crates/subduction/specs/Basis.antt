@@ -1,8 +1,8 @@
 -- Elements with their witnesses, beside what is known of the ideal and of the words in their leads.
-use Rattle.std.specs.Prelude.{◌≡◌, ◌≢◌, ℕ, ◌+◌, ◌≤◌, ◌<◌, ◌⊎◌, ◌↔◌, List, [], ◌∷◌, ◌++◌, length, map, get_or, Contains, All, Bool, true}
+use Rattle.std.specs.Prelude.{◌≡◌, ◌≢◌, ℕ, ◌+◌, ◌≤◌, ◌<◌, ◌↔◌, List, [], ◌∷◌, ◌++◌, length, map, get_or, Contains, All, true}
 use Rattle.word_field.specs.Field.{IsValue}
 use Rattle.monomial_order.specs.Monomial.{Exponents, exponent}
-use Rattle.monomial_order.specs.MonomialOrder.{IsIncreasing, MonomialOrder}
+use Rattle.monomial_order.specs.MonomialOrder.{IsIncreasing}
 use Rattle.monomial_order.specs.declared.word_order.WordOrder.{WordOrder}
 use Rattle.polynomials.specs.Polynomial.{Polynomial, coefficient, first_coefficient, AllAt, IsCanonical, Same, degree_of, lead_monomial}
 use Rattle.polynomials.specs.Ideal.{Congruent}
