@@ -4,5 +4,6 @@ pub mod Loading
 pub mod Message
 pub mod Outcome
 pub mod Output
+pub mod SameCommand
 pub mod SinkChange
 pub mod TrialText
