@@ -1,12 +1,7 @@
 pub mod Asked
-pub mod Completed
 pub mod Decimal
 pub mod Endings
-pub mod Lines
 pub mod Loads
-pub mod Printing
+pub mod OneCommand
 pub mod Putting
-pub mod Queries
-pub mod Results
-pub mod Unchanged
 pub mod Words

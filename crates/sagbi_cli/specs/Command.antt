@@ -1,6 +1,7 @@
 -- The words of a command line, and what they ask for.
 use Rattle.std.specs.Prelude.{◌≡◌, ◌≢◌, ℕ, ◌<◌, ◌≤◌, List, [], ◌∷◌, length, codes, slice_get, unwrap_or, Some}
 use Rattle.std.specs.Fmt.{decimal}
+use Rattle.completion.specs.declared.completion.TheConstants.{BOUND_MAX}
 use Rattle.completion.specs.declared.pick.Pick.{Pick}
 use Rattle.completion.specs.declared.pick.Pick.TheVariants.{First, Last}
 use Rattle.sagbi_cli.specs.declared.command.Command.{Command}
@@ -12,17 +13,14 @@ use Rattle.sagbi_cli.specs.declared.stop.Input.TheVariants.{Presentation, Querie
 abbrev pub IsUpTo : ℕ → ℕ → Type 0
 IsUpTo most n = (1 ≤ n) × (n ≤ most)
 
--- the greatest bound of a computation, and the greatest number of a trial
-abbrev pub bound_max : ℕ
-bound_max = 15000
-
+-- the greatest number of a trial
 abbrev pub trial_max : ℕ
 trial_max = 8
 
 -- a name and a bound, which come after the word of a command
 pub record AreNameAndBound (pres : List ℕ) (bound : ℕ) : Type 0 where
   pub named : 0 < length pres
-  pub bounded : IsUpTo bound_max bound
+  pub bounded : IsUpTo BOUND_MAX bound
 
 -- the words behind the bound say that the first or the last candidate is taken
 abbrev pub IsPicked : List (List ℕ) → Pick → Type 0
@@ -44,9 +42,9 @@ IsCommand words (Trial number) = (words ≡ codes "trial" ∷ decimal number ∷
 
 -- the numbers of a command are in range
 abbrev pub AreInRange : Command → Type 0
-AreInRange (Complete pres bound pick) = IsUpTo bound_max bound
-AreInRange (Ask pres bound queries) = IsUpTo bound_max bound
-AreInRange (Relations pres bound) = IsUpTo bound_max bound
+AreInRange (Complete pres bound pick) = IsUpTo BOUND_MAX bound
+AreInRange (Ask pres bound queries) = IsUpTo BOUND_MAX bound
+AreInRange (Relations pres bound) = IsUpTo BOUND_MAX bound
 AreInRange (Trial number) = IsUpTo trial_max number
 
 abbrev pub IsNoCommand : List (List ℕ) → Type 0

@@ -1,11 +1,9 @@
-pub mod Answers
 pub mod Command
-pub mod Completing
 pub mod Ending
 pub mod Loading
 pub mod Message
 pub mod Outcome
 pub mod Output
-pub mod RelationLines
+pub mod SameCommand
 pub mod SinkChange
 pub mod TrialText

@@ -1,7 +1,7 @@
 //! The words of a command.
 ghost use Rattle.std.specs.Prelude.{◌≡◌, ◌≢◌, ℕ, ◌≤◌, ◌↔◌, IsTrue, IfSome, IfNone, List, Some, length, codes, slice_get};
 ghost use Rattle.std.specs.Fmt.{decimal};
-ghost use Rattle.sagbi_cli.specs.Command.{bound_max, AreNameAndBound, BeginsWithDigit, IsCommand, IsNoCommand, IsPicked, IsUpTo};
+ghost use Rattle.sagbi_cli.specs.Command.{AreNameAndBound, BeginsWithDigit, IsCommand, IsNoCommand, IsPicked, IsUpTo};
 
 use crate::WordList;
 use completion::{BOUND_MAX, Pick};
@@ -47,7 +47,7 @@ fn begins_with_digit(word: &[u8]) -> bool
 
 /// The number from 1 to `most` whose decimal the word is.
 fn number_of(word: &str, most: u32) -> Option<u32>
-    requires { most ≤ bound_max }
+    requires { most ≤ BOUND_MAX }
     ensures some { IfSome result (λ n. IsUpTo most n × (word.now ≡ decimal n)) }
     ensures none { IfNone result ((n : ℕ) → IsUpTo most n → word.now ≢ decimal n) }
 {

@@ -1,15 +1,13 @@
 //! The program: a presentation is read and completed to a degree, and what is asked of it is printed.
 #![tactic(auto)]
 
-mod answers;
 mod command;
-mod completing;
+pub mod laws;
 mod loading;
 mod message;
 mod outcome;
 mod output;
 mod put;
-mod relation_lines;
 mod run;
 mod stop;
 #[cfg(test)]

@@ -1,44 +1,26 @@
 //! The text that a command prints.
 ghost use Rattle.std.specs.Prelude.{◌≡◌, ◌≤◌, IfErr, IfOk, IsErrOf, Some};
-ghost use Rattle.poly_core.specs.Presentation.{presented, weight_order_of, IsValid};
+ghost use Rattle.poly_core.specs.Presentation.{weight_order_of, IsValid};
 ghost use Rattle.shelf_io.specs.Counts.{HasRisen};
 ghost use Rattle.shelf_io.specs.Shelf.{Files};
 ghost use Rattle.std.specs.FinMap as map;
 ghost use Rattle.presentation_text.specs.Reading.{queries as queries_of};
-ghost use Rattle.completion.specs.Report.{IsReport};
-ghost use Rattle.sagbi_cli.specs.Command.{bound_max, AreInRange, IsUpTo};
+ghost use Rattle.sagbi_cli.specs.Command.{AreInRange, IsUpTo};
 ghost use Rattle.sagbi_cli.specs.Loading.{StopsAs};
 ghost use Rattle.sagbi_cli.specs.Outcome.{after_loading, outcome_of};
 ghost use Rattle.sagbi_cli.specs.Output.{AreAnswered, IsOutput};
 
-use crate::answers::answers;
-use crate::completing::completed;
 use crate::loading::{presentation, queries};
-use crate::relation_lines::relations;
 use crate::trial::trial;
 use crate::{Command, Input, Outcome, Stop};
-use completion::Pick;
-use monomial_order::{Memory, Order, WeightOrder};
+use completion::{BOUND_MAX, Pick};
+use monomial_order::WeightOrder;
+use outputs::{answers, relations, report};
 use poly_core::Presentation;
 use presentation_text::AnyPresentation;
 use shelf_io::Shelf;
 use std::alloc::Global;
 use word_field::Field;
-
-/// The report on a presentation to a bound.
-fn report<F: Field, O: Order>(
-    alloc: Global,
-    p: Presentation<F, O>,
-    bound: u32,
-    pick: Pick,
-) -> Result<Vec<u8>, Memory>
-    requires valid { IsValid F.ops O.order p }
-    requires bound { IsUpTo bound_max bound }
-    ensures { IfOk result (λ text. IsReport (presented F.ops O.order p) p.names bound text.items) }
-{
-    let mut c = completed(alloc, p, bound, pick)?;
-    c.report(alloc)
-}
 
 /// `complete`.
 fn complete<H: Shelf>(
@@ -48,7 +30,7 @@ fn complete<H: Shelf>(
     bound: u32,
     pick: Pick,
 ) -> Result<Vec<u8>, Stop>
-    requires bound { IsUpTo bound_max bound }
+    requires bound { IsUpTo BOUND_MAX bound }
     ensures output { (files : Files) → H.holds shelf.old ≡ Some files →
         IfOk result (λ text. IsOutput files (Command.Complete pres.entry bound pick) text.items) }
     ensures stops { (files : Files) → H.holds shelf.old ≡ Some files →
@@ -71,7 +53,7 @@ fn answered<F: Field, H: Shelf>(
     name: &str,
 ) -> Result<Vec<u8>, Stop>
     requires valid { IsValid F.ops weight_order_of p }
-    requires bound { IsUpTo bound_max bound }
+    requires bound { IsUpTo BOUND_MAX bound }
     ensures output { (files : Files) → H.holds shelf.old ≡ Some files →
         IfOk result (λ text. AreAnswered F.ops p files name.now bound text.items) }
     ensures stops { (files : Files) → H.holds shelf.old ≡ Some files → IfErr result (StopsAs
@@ -93,7 +75,7 @@ fn ask<H: Shelf>(
     bound: u32,
     asked: &str,
 ) -> Result<Vec<u8>, Stop>
-    requires bound { IsUpTo bound_max bound }
+    requires bound { IsUpTo BOUND_MAX bound }
     ensures output { (files : Files) → H.holds shelf.old ≡ Some files →
         IfOk result (λ text. IsOutput files (Command.Ask pres.entry bound asked.entry) text.items) }
     ensures stops { (files : Files) → H.holds shelf.old ≡ Some files →
@@ -110,7 +92,7 @@ fn ask<H: Shelf>(
 
 /// `relations`.
 fn related<H: Shelf>(alloc: Global, shelf: &mut H, pres: &str, bound: u32) -> Result<Vec<u8>, Stop>
-    requires bound { IsUpTo bound_max bound }
+    requires bound { IsUpTo BOUND_MAX bound }
     ensures output { (files : Files) → H.holds shelf.old ≡ Some files →
         IfOk result (λ text. IsOutput files (Command.Relations pres.entry bound) text.items) }
     ensures stops { (files : Files) → H.holds shelf.old ≡ Some files →

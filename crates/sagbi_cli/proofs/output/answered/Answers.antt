@@ -1,7 +1,7 @@
 use Rattle.std.proofs.Common.{subst}
 use Rattle.std.proofs.lemmas.Result.{err_from_is_err_and}
 use Rattle.poly_core.specs.Presentation.{weight_order_of}
-use Rattle.sagbi_cli.specs.Answers.{IsAnswerText}
+use Rattle.outputs.specs.Answers.{IsAnswerText}
 use Rattle.sagbi_cli.proofs.output.answered.Goals as goal
 
 pub returns-in_err-list-clause-stops : goal.returns-in_err-list-clause-stops

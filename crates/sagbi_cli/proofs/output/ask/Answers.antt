@@ -5,7 +5,7 @@ use Rattle.sagbi_cli.specs.Outcome.{after_queries}
 use Rattle.sagbi_cli.specs.Output.{IsGiven, IsOutput}
 use Rattle.sagbi_cli.specs.declared.command.Command.TheVariants.{Ask}
 use Rattle.sagbi_cli.proofs.Asked.{pair_outcome, word_outcome}
-use Rattle.sagbi_cli.proofs.Results.{if_ok}
+use Rattle.outputs.specs.laws.Results.{if_ok}
 use Rattle.sagbi_cli.proofs.output.ask.Goals as goal
 
 pub returns-in_err-given-clause-stops : goal.returns-in_err-given-clause-stops

@@ -1,11 +1,12 @@
 use Rattle.std.proofs.Common.{◌+◌, subst}
 use Rattle.std.specs.Prelude.{string_bytes}
-use Rattle.sagbi_cli.specs.TrialText.{IsSummary, IsTrialText}
-use Rattle.sagbi_cli.proofs.Results.{if_ok}
+use Rattle.outputs.specs.Summary.{IsSummary}
+use Rattle.sagbi_cli.specs.TrialText.{IsTrialText}
+use Rattle.outputs.specs.laws.Results.{if_ok}
 use Rattle.sagbi_cli.proofs.trial.trial.Goals as goal
 
 pub returns : goal.returns
 returns c =
     if_ok _ (λ s. IsTrialText c.args.number (string_bytes s))
     (λ s k. subst (λ P. IsSummary P c.args.number (c.args.number + 2) (string_bytes s)) c.in_ok-p.ensures.presents k)
-    c.summary_to.result c.summary_to.ensures
+    c.summary.result c.summary.ensures

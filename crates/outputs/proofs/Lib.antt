@@ -1,0 +1,5 @@
+pub mod Completed
+pub mod Lines
+pub mod Printing
+pub mod Queries
+pub mod Unchanged

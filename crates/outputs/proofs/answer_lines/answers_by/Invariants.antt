@@ -1,0 +1,13 @@
+use Rattle.std.proofs.Common.{take}
+use Rattle.completion.specs.Completion.{elements_of, IsCompletion, IsUnchanged}
+use Rattle.outputs.specs.Answers.{AreAnswers}
+use Rattle.outputs.proofs.answer_lines.answers_by.Given as goal
+
+-- the queries so far are answered, and the completion is as before
+abbrev pub invariant-queries : goal.invariant-queries
+invariant-queries g l = record {
+  completion : IsCompletion g.F.Field.ops g.O.Order.order l.c;
+  unchanged : IsUnchanged l.initial.c l.c;
+  answers : AreAnswers g.F.Field.ops g.O.Order.order l.initial.c.presentation l.initial.c.degree
+      (elements_of l.initial.c) (take l.query-index l.queries) l.text.items;
+}

@@ -1,0 +1,5 @@
+pub mod Answers
+pub mod Completing
+pub mod RelationLines
+pub mod Summary
+pub mod laws

@@ -1,0 +1,2 @@
+-- Lemmas that proofs here and in the crates above cite.
+pub mod Results

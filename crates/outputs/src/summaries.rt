@@ -1,0 +1,49 @@
+//! The summary of a completion.
+ghost use Rattle.std.specs.Prelude.{◌≡◌, ◌≤◌, ◌++◌, codes, string_bytes, IfOk};
+ghost use Rattle.std.specs.Fmt.{decimal};
+ghost use Rattle.poly_core.specs.Presentation.{presented, IsValid};
+ghost use Rattle.completion.specs.Report.{mark_text};
+ghost use Rattle.outputs.specs.Summary.{trial_text, IsSummary};
+
+use crate::completing::completed;
+use completion::{BOUND_MAX, Pick};
+use monomial_order::{Memory, Order};
+use poly_core::Presentation;
+use std::alloc::{AllocError, Global};
+use word_field::Field;
+
+fn mark_of(complete: bool) -> &'static str
+    ensures { result.now ≡ mark_text complete }
+{
+    if complete { "complete" } else { "open" }
+}
+
+fn summary_text(
+    alloc: Global,
+    number: u32,
+    bound: u32,
+    count: usize,
+    mark: &str,
+) -> Result<String, AllocError>
+    ensures { IfOk result (λ s. string_bytes s ≡ trial_text number bound count mark.now) }
+{
+    format!(in alloc; "trial {number}\nbound {bound}\nbasis {count}\nmark {mark}\nend\n")
+}
+
+/// The summary of a completion to a bound, with the number of a trial.
+pub fn summary<F: Field, O: Order>(
+    alloc: Global,
+    p: Presentation<F, O>,
+    number: u32,
+    bound: u32,
+) -> Result<String, Memory>
+    requires valid { IsValid F.ops O.order p }
+    requires some { 1 ≤ bound }
+    requires small { bound ≤ BOUND_MAX }
+    ensures { IfOk result (λ s. IsSummary (presented F.ops O.order p) number bound (string_bytes s)) }
+{
+    completion::laws::later_is_open::<F>();
+    let mut c = completed(alloc, p, bound, Pick::First)?;
+    let mark = mark_of(c.is_complete(alloc)?);
+    Ok(summary_text(alloc, number, bound, c.basis().len(), mark)?)
+}

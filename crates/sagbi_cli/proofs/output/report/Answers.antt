@@ -1,8 +1,0 @@
-use Rattle.sagbi_cli.proofs.Completed.{report_printed}
-use Rattle.sagbi_cli.proofs.Results.{if_ok}
-use Rattle.sagbi_cli.proofs.output.report.Goals as goal
-
-pub returns : goal.returns
-returns g c =
-    if_ok _ _ (λ text k. report_printed g.F.Field.ops g.O.Order.order c.args.p c.args.bound c.in_ok-c.c c.in_ok-c.ensures text.items k)
-    c.report.result c.report.ensures.report

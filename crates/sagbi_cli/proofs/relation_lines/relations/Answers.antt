@@ -1,8 +1,0 @@
-use Rattle.sagbi_cli.proofs.Completed.{relations_printed}
-use Rattle.sagbi_cli.proofs.Results.{if_ok}
-use Rattle.sagbi_cli.proofs.relation_lines.relations.Goals as goal
-
-pub returns : goal.returns
-returns g c =
-    if_ok _ _ (λ text k. relations_printed g.F.Field.ops g.O.Order.order c.args.p c.args.bound c.in_ok-c.c c.in_ok-c.ensures text.items k)
-    c.lines_of.result c.lines_of.ensures
