@@ -1,5 +1,5 @@
 use Rattle.std.proofs.Common.{refl, sym, ◌∙◌, ap, subst, Some, None}
-use Rattle.core.specs.Option.{is_some}
+use Rattle.std.specs.Prelude.{is_some}
 use Rattle.monomial_order.specs.Monomial.{exponent, Divides}
 use Rattle.monomial_order.specs.laws.Rank.{rank_falls}
 use Rattle.word_rewriting.specs.Rewriting.{HasLeftDivisor, IsNormalForm, RewritesBy, stays}
