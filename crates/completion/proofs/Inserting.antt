@@ -1,6 +1,6 @@
 -- An element is added at the end of a basis: what differs from a multiple of it by a combination is one.
 use Rattle.std.proofs.Common.{◌≡◌, ◌≢◌, ℕ, ◌≤◌, refl, sym, ◌∙◌, ap, subst, List, [], ◌∷◌, ◌++◌, append-nil, ⊎_elim, arith}
-use Rattle.std.specs.Prelude.{map, Contains, Result, Ok, Err, OnOk}
+use Rattle.std.specs.Prelude.{map, Contains}
 use Rattle.std.proofs.lemmas.List.{map-append}
 use Rattle.std.proofs.lemmas.List.Elements.{All-cons, All-nil}
 use Rattle.word_field.specs.Field.{FieldOps, IsValue}
@@ -40,11 +40,6 @@ GrowingValues E = (P : Presented E) (S T : List (Polynomial E)) (table : Table E
 
 abbrev pub GrowingWords : Type 0 → Type 0
 GrowingWords E = (P : Presented E) (S T : List (Polynomial E)) (table : Table E) (d : ℕ) → AreValues P S table → AreWordsTo P S d table → AreWordsTo P (S ++ T) d table
-
--- what follows from the fact of an answer
-pub on_ok : {A B : Type 0} (r : Result A B) (X Y : Type 0) → (X → Y) → OnOk r X → OnOk r Y
-on_ok (Ok a) X Y f h = f h
-on_ok (Err e) X Y f h = tt
 
 pub values_grown : {F E : Type 0} (old new more : List (Tracked F E)) → new ≡ old ++ more → values_of new ≡ values_of old ++ values_of more
 values_grown {F} {E} old new more e = ap values_of e ∙ map-append (λ (t : Tracked F E). t.value) old more

@@ -5,6 +5,7 @@ use Rattle.std.proofs.lemmas.Grind.{in_remove}
 use Rattle.std.proofs.lemmas.List.{length-map, map-append, get_or-append-add, get_or-map}
 use Rattle.std.proofs.lemmas.List.Elements.{All-append, All-contains, All-drop, All-get_or, All-set, All-take}
 use Rattle.std.proofs.lemmas.Option.{get_or_from_slice_get, slice_get_within}
+use Rattle.std.proofs.lemmas.Result.{on_ok_weaker}
 use Rattle.word_field.specs.Field.{FieldOps}
 use Rattle.degree_queue.specs.DegreeQueue.{list_of, SameElsewhere}
 use Rattle.monomial_order.specs.Monomial.{Exponents}
@@ -35,7 +36,7 @@ use Rattle.completion.specs.Completion.{elements_of, pending_of, AreKept, AreSho
 use Rattle.completion.specs.Insertion.{IsInserted}
 use Rattle.tete_lift.specs.Lifting.{IsRightSide}
 use Rattle.completion.specs.Taking.{IsTreated}
-use Rattle.completion.proofs.Inserting.{on_ok, values_grown}
+use Rattle.completion.proofs.Inserting.{values_grown}
 use Rattle.completion.proofs.WordDegrees.{word_value_graded, word_value_poly}
 
 -- products of leads are products of more leads
@@ -444,4 +445,4 @@ module _ {F Q E : Type 0} (ops : F → FieldOps E) (order : Q → MonomialOrder)
       word_treated stays r h =
           subst (λ (y : CompletionState F Q E). OnOk r (IsTreated (presented ops order y.presentation) after x)) same
           (subst (λ (y : Candidate). OnOk r (IsTreated P after y)) (sym is)
-          (on_ok r _ _ (added_treated P H s C.standing in_degree_too b v n to I (slice_set s.found j new) words rights minimal (stays P (elements_of s)) j old within here) h))
+          (on_ok_weaker r (added_treated P H s C.standing in_degree_too b v n to I (slice_set s.found j new) words rights minimal (stays P (elements_of s)) j old within here) h))

@@ -6,3 +6,4 @@ pub mod Closed
 pub mod Closing
 pub mod Report
 pub mod Taking
+pub mod laws

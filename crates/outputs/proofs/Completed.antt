@@ -1,5 +1,5 @@
 -- What is printed of a completion at a bound.
-use Rattle.std.proofs.Common.{◌≡◌, ℕ, Bool, true, false, List, length, refl, sym, ap, subst, ◌∙◌, inl, inr}
+use Rattle.std.proofs.Common.{◌≡◌, ℕ, Bool, true, false, List, length, sym, ap, subst, ◌∙◌}
 use Rattle.std.proofs.lemmas.List.{length-map}
 use Rattle.std.specs.Prelude.{All}
 use Rattle.word_field.specs.Field.{FieldOps}
@@ -13,17 +13,12 @@ use Rattle.subalgebra_laws.specs.Bases.{IsClosedAt}
 use Rattle.witness.specs.declared.tracked.Tracked.{Tracked}
 use Rattle.completion.specs.Closed.{HasLater}
 use Rattle.completion.specs.Completion.{elements_of, CompletionState, IsAtDegree}
+use Rattle.completion.specs.laws.Marks.{marked}
 use Rattle.completion.specs.Report.{mark_text, HasMark, IsReport}
 use Rattle.outputs.specs.Answers.{AreAnswers, IsAnswerText}
 use Rattle.outputs.specs.Completing.{IsCompletedTo}
 use Rattle.outputs.specs.RelationLines.{element_names, relations_text, IsRelationsText}
 use Rattle.outputs.specs.Summary.{trial_text, IsSummary}
-
--- the mark that belongs to what is found
-marked : {E : Type 0} (P : Presented E) (c : ℕ) (S : List (Polynomial E)) (b : Bool) → (HasLater P c S → IsClosedAt P c S → ⊥) →
-    (b ≡ true → IsClosedAt P c S) → (b ≡ false → HasLater P c S) → HasMark P c S (mark_text b)
-marked P c S true later closed further = inl (closed refl, refl)
-marked P c S false later closed further = inr (later (further refl), refl)
 
 module _ {F O E : Type 0} (ops : F → FieldOps E) (order : O → MonomialOrder) (p : Presentation F O E) (bound : ℕ) (c : CompletionState F O E)
     (h : IsCompletedTo ops order p bound c) where

@@ -2,4 +2,3 @@ pub mod Completed
 pub mod Lines
 pub mod Printing
 pub mod Queries
-pub mod Unchanged

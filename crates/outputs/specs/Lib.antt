@@ -2,4 +2,3 @@ pub mod Answers
 pub mod Completing
 pub mod RelationLines
 pub mod Summary
-pub mod laws

@@ -2,14 +2,12 @@
 use Rattle.std.proofs.Common.{◌≡◌, ◌≢◌, ℕ, sym, ◌∙◌, ap, subst, List, [], ◌++◌, append-nil, length, ⊎_elim}
 use Rattle.monomial_order.specs.Monomial.{Exponents}
 use Rattle.word_laws.specs.Words.{word_order_of}
-use Rattle.word_field.specs.Field.{FieldOps, IsField}
-use Rattle.polynomials.specs.Polynomial.{Polynomial, coefficient, minus, negated, AllAt, IsCanonical, Same}
+use Rattle.polynomials.specs.Polynomial.{Polynomial, coefficient, minus, negated, AllAt, IsCanonical}
 use Rattle.polynomials.specs.Ideal.{Congruent}
 use Rattle.polynomials.specs.Subalgebra.{Presented, IsPresentation}
-use Rattle.polynomials.specs.laws.Congruence.{coefficient-minus, congruent_plus, congruent_refl, congruent_same, congruent_trans, minus_nonzero}
+use Rattle.polynomials.specs.laws.Congruence.{congruent_plus, congruent_refl, congruent_same, congruent_trans, minus_nonzero}
 use Rattle.polynomials.specs.laws.Decreasing.{IsDecreasing_unique}
 use Rattle.polynomials.specs.laws.Degrees.{all_found}
-use Rattle.polynomials.specs.laws.Ring.{coefficient-append, coefficient_value}
 use Rattle.subalgebra_laws.specs.Statements.{ForMonicElements, RestsDecideCombinations}
 use Rattle.subalgebra_laws.specs.Words.{combination_value, word_value, HasSumAndRest, IsCombination}
 use Rattle.witness.specs.declared.tracked.Tracked.{Tracked}

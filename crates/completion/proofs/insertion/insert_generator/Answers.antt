@@ -1,6 +1,7 @@
 use Rattle.std.proofs.Common.{◌≡◌, true, false, not, refl, sym, ◌∙◌, ap}
+use Rattle.std.proofs.lemmas.Result.{on_ok_weaker}
 use Rattle.completion.proofs.Generators.{generator_combined}
-use Rattle.completion.proofs.Inserting.{none_inserted, on_ok, then_inserted}
+use Rattle.completion.proofs.Inserting.{none_inserted, then_inserted}
 use Rattle.completion.proofs.insertion.insert_generator.Goals as goal
 
 pub returns-in_err-rest-clause-inserted : goal.returns-in_err-rest-clause-inserted
@@ -31,7 +32,7 @@ returns-clause-inserted g c =
 
 pub returns-clause-combination : goal.returns-clause-combination
 returns-clause-combination g c =
-    on_ok c.push_rest.result _ _
+    on_ok_weaker c.push_rest.result
     (generator_combined _ c.requires.presentation.presentation _ c.requires.basis c.args.i c.requires.generator
     c.in_ok-rest.rest.value c.in_ok-rest.ensures.rest.difference c.push_rest.new.basis)
     c.push_rest.ensures.combinations

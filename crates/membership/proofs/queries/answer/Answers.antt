@@ -1,12 +1,13 @@
 use Rattle.std.proofs.Common.{◌≡◌, ◌≢◌, ℕ, ◌≤◌, ◌∙◌, IfOk}
+use Rattle.std.proofs.lemmas.Result.{IfOk-weaker}
 use Rattle.poly_core.specs.Presentation.{presented}
 use Rattle.polynomials.specs.Polynomial.{degree_of, IsCanonical}
 use Rattle.witness.specs.Tracking.{by_order, values_of}
 use Rattle.subduction.specs.Subduced.{IsInReach}
 use Rattle.completion.specs.Closed.{HasLater}
+use Rattle.completion.specs.laws.Unchanged.{after, before, unchanged_twice}
 use Rattle.membership.specs.Answer.{IsAnswer, IsCanonicalReply, IsWithin}
 use Rattle.membership.specs.declared.reply.Reply.TheVariants.{Beyond}
-use Rattle.membership.proofs.Reach.{after, before, ok_map, unchanged_twice}
 use Rattle.membership.proofs.queries.answer.Goals as goal
 
 pub answer_within-requires-clause-not_begun : goal.answer_within-requires-clause-not_begun
@@ -49,7 +50,7 @@ returns-in-None-clause-answer g c =
 pub returns-in-None-clause-later : goal.returns-in-None-clause-later
 returns-in-None-clause-later g c =
     let P = presented g.F.Field.ops g.O.Order.order c.args.c.now.presentation in
-    ok_map c.answer_within.result (λ r. (d : ℕ) → r ≢ Beyond d)
+    IfOk-weaker c.answer_within.result (λ r. (d : ℕ) → r ≢ Beyond d)
     (λ r. (d : ℕ) → r ≡ Beyond d → HasLater P c.args.c.now.degree (values_of c.args.c.now.basis.elements))
     (λ r k d e. absurd (k d e)) c.answer_within.ensures.not_beyond
 

@@ -1,5 +1,5 @@
 use Rattle.outputs.proofs.Completed.{answers_printed, queries_canonical, queries_low}
-use Rattle.outputs.specs.laws.Results.{if_ok}
+use Rattle.std.proofs.lemmas.Result.{IfOk-weaker}
 use Rattle.outputs.proofs.answer_lines.answers.Goals as goal
 
 pub answers_by-requires-clause-canonical : goal.answers_by-requires-clause-canonical
@@ -14,6 +14,6 @@ answers_by-requires-clause-low g c =
 
 pub returns : goal.returns
 returns g c =
-    if_ok _ _ (λ text k. answers_printed g.F.Field.ops g.O.Order.order c.args.p c.args.bound c.in_ok-c.c c.in_ok-c.ensures
+    IfOk-weaker c.answers_by.result _ _ (λ text k. answers_printed g.F.Field.ops g.O.Order.order c.args.p c.args.bound c.in_ok-c.c c.in_ok-c.ensures
     c.args.queries.now text.items k)
-    c.answers_by.result c.answers_by.ensures
+    c.answers_by.ensures

@@ -3,7 +3,7 @@ use Rattle.witness.specs.Tracking.{values_of}
 use Rattle.completion.specs.Completion.{elements_of}
 use Rattle.outputs.specs.Answers.{answer_line, IsAnswerTo}
 use Rattle.outputs.proofs.Lines.{one_more}
-use Rattle.outputs.proofs.Unchanged.{before, unchanged_twice}
+use Rattle.completion.specs.laws.Unchanged.{before, unchanged_twice}
 use Rattle.outputs.proofs.answer_lines.answers_by.Goals as goal
 
 pub queries-preserved : goal.queries-preserved

@@ -1,7 +1,7 @@
 use Rattle.std.proofs.Common.{◌≡◌, ◌∙◌, ◌++◌, subst}
 use Rattle.poly_core.specs.declared.presentations.Presentation.{Presentation}
 use Rattle.outputs.specs.Answers.{answer_line}
-use Rattle.outputs.specs.laws.Results.{on_ok}
+use Rattle.std.proofs.lemmas.Result.{on_ok_weaker}
 use Rattle.outputs.proofs.Queries.{low_degree}
 use Rattle.outputs.proofs.answer_lines.push_answer.Goals as goal
 
@@ -18,7 +18,7 @@ pub returns-clause-line : goal.returns-clause-line
 returns-clause-line g c =
     let reply = c.in_ok-reply.reply in
     let same = c.presentation.ensures ∙ c.in_ok-reply.ensures.unchanged.presentation in
-    on_ok c.push_line.result _ _
+    on_ok_weaker c.push_line.result
     (λ e. (
       reply,
       record { answer = c.in_ok-reply.ensures.answer; canonical = c.in_ok-reply.ensures.canonical },

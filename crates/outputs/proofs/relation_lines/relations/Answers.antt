@@ -1,8 +1,8 @@
 use Rattle.outputs.proofs.Completed.{relations_printed}
-use Rattle.outputs.specs.laws.Results.{if_ok}
+use Rattle.std.proofs.lemmas.Result.{IfOk-weaker}
 use Rattle.outputs.proofs.relation_lines.relations.Goals as goal
 
 pub returns : goal.returns
 returns g c =
-    if_ok _ _ (λ text k. relations_printed g.F.Field.ops g.O.Order.order c.args.p c.args.bound c.in_ok-c.c c.in_ok-c.ensures text.items k)
-    c.lines_of.result c.lines_of.ensures
+    IfOk-weaker c.lines_of.result _ _ (λ text k. relations_printed g.F.Field.ops g.O.Order.order c.args.p c.args.bound c.in_ok-c.c c.in_ok-c.ensures text.items k)
+    c.lines_of.ensures

@@ -1,11 +1,10 @@
 use Rattle.std.proofs.Common.{subst, ◌∙◌}
-use Rattle.std.proofs.lemmas.Result.{err_from_is_err_and}
+use Rattle.std.proofs.lemmas.Result.{IfOk-weaker, err_from_is_err_and}
 use Rattle.std.specs.FinMap as map
 use Rattle.sagbi_cli.specs.Outcome.{after_queries}
 use Rattle.sagbi_cli.specs.Output.{IsGiven, IsOutput}
 use Rattle.sagbi_cli.specs.declared.command.Command.TheVariants.{Ask}
 use Rattle.sagbi_cli.proofs.Asked.{pair_outcome, word_outcome}
-use Rattle.outputs.specs.laws.Results.{if_ok}
 use Rattle.sagbi_cli.proofs.output.ask.Goals as goal
 
 pub returns-in_err-given-clause-stops : goal.returns-in_err-given-clause-stops
@@ -16,9 +15,8 @@ returns-in_err-given-clause-stops g c files known =
 pub returns-in-Word-clause-output : goal.returns-in-Word-clause-output
 returns-in-Word-clause-output g c files known =
     let given = subst (IsGiven files c.args.pres.now) c.in-Word.is (c.in_ok-given.ensures.given files known) in
-    if_ok _ (λ text. IsOutput files (Ask c.args.pres c.args.bound c.args.asked) text.items)
-    (λ text k. (_, given, k))
-    c.answered.result (c.answered.ensures.output files (c.presentation.ensures.map ∙ known))
+    IfOk-weaker c.answered.result _ (λ text. IsOutput files (Ask c.args.pres c.args.bound c.args.asked) text.items)
+    (λ text k. (_, given, k)) (c.answered.ensures.output files (c.presentation.ensures.map ∙ known))
 
 pub returns-in-Word-clause-stops : goal.returns-in-Word-clause-stops
 returns-in-Word-clause-stops g c files known =
@@ -29,9 +27,8 @@ returns-in-Word-clause-stops g c files known =
 pub returns-in-Pair-clause-output : goal.returns-in-Pair-clause-output
 returns-in-Pair-clause-output g c files known =
     let given = subst (IsGiven files c.args.pres.now) c.in-Pair.is (c.in_ok-given.ensures.given files known) in
-    if_ok _ (λ text. IsOutput files (Ask c.args.pres c.args.bound c.args.asked) text.items)
-    (λ text k. (_, given, k))
-    c.answered-in-Pair.result (c.answered-in-Pair.ensures.output files (c.presentation.ensures.map ∙ known))
+    IfOk-weaker c.answered-in-Pair.result _ (λ text. IsOutput files (Ask c.args.pres c.args.bound c.args.asked) text.items)
+    (λ text k. (_, given, k)) (c.answered-in-Pair.ensures.output files (c.presentation.ensures.map ∙ known))
 
 pub returns-in-Pair-clause-stops : goal.returns-in-Pair-clause-stops
 returns-in-Pair-clause-stops g c files known =

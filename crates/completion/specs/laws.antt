@@ -1,2 +1,3 @@
 -- Lemmas that proofs here and in the crates above cite.
-pub mod Results
+pub mod Marks
+pub mod Unchanged
