@@ -20,7 +20,7 @@ use Rattle.completion.specs.Candidates.{AreWordsAt}
 use Rattle.completion.specs.Relations.{AreRelations}
 use Rattle.tete_lift.specs.Lifting.{IsRightSide}
 use Rattle.completion.proofs.LongerWords.{right_stays, same_compare, same_degree}
-use Rattle.completion.proofs.Parts.{all_members}
+use Rattle.subduction.specs.laws.Parts.{contains-All}
 
 increasing_over : (O N : MonomialOrder) (ms : List Exponents) → ((v w : Exponents) → Contains ms v → Contains ms w → N.compare v w ≡ O.compare v w) → IsIncreasing O ms → IsIncreasing N ms
 increasing_over O N [] same h = tt
@@ -87,7 +87,7 @@ module _ {E : Type 0} (P : Presented E) (H : IsPresentation P) (S T : List (Poly
         (le_or_not (word_degree P S u) c))
 
     old_rights : All (λ r. IsRightSide P (S ++ T) r.word r.right) old
-    old_rights = all_members (λ (r : Relation F E). IsRightSide P (S ++ T) r.word r.right) old
+    old_rights = contains-All (λ (r : Relation F E). IsRightSide P (S ++ T) r.word r.right) old
         (λ r k.
         let x = old_word r.word (contains_map word_of old r k) in
         let l = x.1 in

@@ -8,7 +8,7 @@ use Rattle.completion.specs.declared.candidates.Found.{Found}
 use Rattle.completion.specs.declared.relations.Relation.{Relation}
 use Rattle.completion.specs.Closing.{relations_of, AreSides}
 use Rattle.tete_lift.specs.Lifting.{IsRightSide}
-use Rattle.completion.proofs.Parts.{all_members}
+use Rattle.subduction.specs.laws.Parts.{contains-All}
 
 module _ {F E : Type 0} (P : Presented E) (S : List (Polynomial E)) where
   -- one more word with its side
@@ -39,7 +39,7 @@ module _ {F E : Type 0} (P : Presented E) (S : List (Polynomial E)) where
       ⊎_elim (λ q. subst HasSide q h.0) (each_side fs es h.1 r) (contains_cases (record { word = (let f : Found F E = g in f.word); right = unwrap_or (let f : Found F E = g in f.right) x }) (relations_of fs es) r k)
 
   pub sides_rights : (fs : List (Found F E)) (es : List (Polynomial E)) → AreSides P S fs es → All (λ (r : Relation F E). IsRightSide P S r.word r.right) (relations_of fs es)
-  sides_rights fs es h = all_members HasSide (relations_of fs es) (each_side fs es h)
+  sides_rights fs es h = contains-All HasSide (relations_of fs es) (each_side fs es h)
 
 -- a side that is kept, or made
 pub side_kept : {A : Type 0} (Q : A → Type 0) (r : Option A) (e : A) → is_some r ≡ true → IfSome r Q → Q (unwrap_or r e)

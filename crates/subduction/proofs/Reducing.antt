@@ -1,23 +1,16 @@
 -- Elements reduced by each other.
-use Rattle.std.proofs.Common.{◌≡◌, ◌≢◌, ℕ, ◌+◌, ◌<◌, ◌≤◌, length, get_or, take, drop, Bool, true, false, arith, refl, sym, ◌∙◌, ap, subst, List, [], ◌∷◌, ◌++◌, append_assoc, append-nil, ⊎_elim, ◌⊎◌, inl, inr}
-use Rattle.std.specs.Prelude.{Contains, map, All}
-use Rattle.std.proofs.lemmas.List.{drop_all, drop_more, get_or-map, length-map, take_all, take_more, take-append-drop}
-use Rattle.std.proofs.lemmas.List.Elements.{All-contains}
-use Rattle.monomial_order.specs.laws.Lists.{contains_at, contains_cases, contains_either, contains_none}
-use Rattle.word_field.specs.Field.{FieldOps, IsField, IsValue}
+use Rattle.std.proofs.Common.{◌≡◌, ◌≢◌, ℕ, ◌+◌, ◌<◌, ◌≤◌, length, get_or, take, arith, refl, sym, ◌∙◌, ap, subst, List, [], ◌∷◌, ◌++◌, append_assoc, append-nil, ⊎_elim}
+use Rattle.std.specs.Prelude.{Contains, map}
+use Rattle.std.proofs.lemmas.List.{get_or-map, length-map, take_all, take_more}
+use Rattle.monomial_order.specs.laws.Lists.{contains_cases, contains_either, contains_none}
+use Rattle.word_field.specs.Field.{FieldOps, IsField}
 use Rattle.word_field.specs.laws.Field.{negate-zero, zero-times}
-use Rattle.monomial_order.specs.declared.terms.Term.{Term}
 use Rattle.monomial_order.specs.Monomial.{Exponents}
-use Rattle.monomial_order.specs.MonomialOrder.{IsMonomialOrder, MonomialOrder}
-use Rattle.polynomials.specs.Polynomial.{Polynomial, coefficient, lead_monomial, same_monomial, Same, term_of, IsCanonical, IsDecreasing}
+use Rattle.monomial_order.specs.MonomialOrder.{MonomialOrder}
+use Rattle.polynomials.specs.Polynomial.{Polynomial, coefficient, lead_monomial, Same}
 use Rattle.polynomials.specs.Subalgebra.{Presented}
 use Rattle.polynomials.specs.laws.Ring.{coefficient-append, coefficient_value}
-use Rattle.polynomials.specs.laws.Same.{same_refl, same_true}
-use Rattle.polynomials.specs.laws.Coefficients.{nothing_at, no_coefficient, single_term}
-use Rattle.polynomials.specs.laws.Decreasing.{coefficient_first}
-use Rattle.word_field.specs.laws.Field.{zero-plus}
 use Rattle.witness.specs.declared.tracked.Tracked.{Tracked}
-use Rattle.witness.specs.Tracking.{IsCanonicalPair}
 use Rattle.subduction.specs.Settling.{AreLess, AreMadeFrom, IsDifference, IsLess, IsMadeFrom}
 
 module _ {E : Type 0} (K : FieldOps E) (F : IsField K) where
@@ -55,9 +48,6 @@ module _ {F E : Type 0} (P : Presented E) (W : MonomialOrder) where
   made_next old ms i m us t u l e a k d h =
       subst (λ xs. AreMadeFrom P W old [] xs (us ++ u ∷ [])) (sym (take_more ms i m l ∙ ap (λ x. take i ms ++ x ∷ []) (sym e)))
       (made_more old [] (take i ms) us m u a (record { element = t; is_old = k; lead = d; less = h }))
-
-pub contains-All : {A : Type 0} (Q : A → Type 0) (xs : List A) → ((x : A) → Contains xs x → Q x) → All Q xs
-contains-All Q xs h i d l = h (get_or xs i d) (contains_at xs i d l)
 
 module _ {F E : Type 0} where
   abbrev leads : List (Tracked F E) → List Exponents

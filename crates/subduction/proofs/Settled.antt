@@ -19,7 +19,7 @@ use Rattle.subalgebra_laws.specs.Words.{linear_sum}
 use Rattle.subalgebra_laws.specs.Bases.{AreReducedByEachOther}
 use Rattle.witness.specs.declared.tracked.Tracked.{Tracked}
 use Rattle.witness.specs.Tracking.{values_of, IsCanonicalPair, IsGradedPair, IsShort, Tracks}
-use Rattle.subduction.proofs.Reducing.{contains-All}
+use Rattle.subduction.specs.laws.Parts.{contains-All}
 use Rattle.subduction.specs.Settling.{lead_share, AreLess, AreMadeFrom, IsDifference, IsLess, IsMadeFrom}
 
 abbrev pub leads_of : {F E : Type 0} → List (Tracked F E) → List Exponents

@@ -20,7 +20,7 @@ use Rattle.witness.specs.Tracking.{by_order, values_of, IsCanonicalPair, IsGrade
 use Rattle.witness.specs.laws.Letters.{by_laws, by_places}
 use Rattle.subduction.specs.Basis.{BasisState, AreInParts, AreSettled, IsBasisElement, IsBasisOf, IsLinearSum}
 use Rattle.subduction.specs.Settling.{AreMadeFrom}
-use Rattle.subduction.proofs.Reducing.{contains-All}
+use Rattle.subduction.specs.laws.Parts.{contains-All}
 use Rattle.subduction.proofs.Settled.{all_made, both_ways, AreDone, AreOld, HasSum, IsLastPart, leads_of}
 
 pub last_place : (m : Exponents) (k : ℕ) → IsTrimmed m → k < length m → (i : ℕ) × (k ≤ i) × (i < length m) × (exponent m i ≢ 0)

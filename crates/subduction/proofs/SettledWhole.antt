@@ -19,7 +19,7 @@ use Rattle.witness.specs.Tracking.{by_order, values_of, IsWitnessOrder}
 use Rattle.subduction.specs.Basis.{BasisState, AreInParts, AreSettled, AreShortAt, IsBasisOf}
 use Rattle.subduction.specs.Settling.{AreMadeInOrder}
 use Rattle.subduction.proofs.Elements.{places_is}
-use Rattle.subduction.proofs.Reducing.{contains-All}
+use Rattle.subduction.specs.laws.Parts.{contains-All, unique_parts}
 use Rattle.subduction.proofs.Settled.{all_made, AreDone, leads_of}
 use Rattle.subduction.proofs.SettledBasis.{are_old, are_settled, comparable, last_leads, leads_are, new_elements, one_lead, low, equal}
 
@@ -36,23 +36,6 @@ distinct_right : (xs ys : List Exponents) → AllPairs (λ m n. m ≢ n) (xs ++ 
 distinct_right xs ys h i j d l k e =
     h (length xs + i) (length xs + j) d (omega arith) (let a = length-append xs ys in omega arith)
     (get_or-append-add xs ys i d ∙ (e ∙ sym (get_or-append-add xs ys j d)))
-
--- a list has one way to stand in parts by degrees
-unique_parts : (f : Exponents → ℕ) (d : ℕ) (xs ys us vs : List Exponents) → xs ++ ys ≡ us ++ vs →
-    ((m : Exponents) → Contains xs m → f m < d) → ((m : Exponents) → Contains ys m → f m ≡ d) →
-    ((m : Exponents) → Contains us m → f m < d) → ((m : Exponents) → Contains vs m → f m ≡ d) → (xs ≡ us) × (ys ≡ vs)
-unique_parts f d [] ys [] vs e a b g h = (refl, e)
-unique_parts f d [] ys (u ∷ us) vs e a b g h =
-    let p = b u (subst (λ zs. Contains zs u) (sym e) (contains_here u (us ++ vs))) in
-    let q = g u (contains_here u us) in absurd (omega arith)
-unique_parts f d (x ∷ xs) ys [] vs e a b g h =
-    let p = h x (subst (λ zs. Contains zs x) e (contains_here x (xs ++ ys))) in
-    let q = a x (contains_here x xs) in absurd (omega arith)
-unique_parts f d (x ∷ xs) ys (u ∷ us) vs e a b g h =
-    let first : x ≡ u = cc in
-    let rest : xs ++ ys ≡ us ++ vs = cc in
-    let r = unique_parts f d xs ys us vs rest (λ m k. a m (contains_there x xs m k)) b (λ m k. g m (contains_there u us m k)) h in
-    (ap (λ z. z ∷ xs) first ∙ ap (λ zs. u ∷ zs) r.0, r.1)
 
 letters_are : (l : Letters) (ds : List ℕ) (ms : List Exponents) → l.degrees ≡ ds → l.leads ≡ ms → l ≡ record { degrees = ds; leads = ms }
 letters_are l ds ms e f =

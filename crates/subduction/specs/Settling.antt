@@ -7,7 +7,7 @@ use Rattle.polynomials.specs.Polynomial.{Polynomial, coefficient, lead_monomial}
 use Rattle.polynomials.specs.Subalgebra.{Presented}
 use Rattle.toric_ideal.specs.Increasing.{IsSorted}
 use Rattle.witness.specs.declared.tracked.Tracked.{Tracked}
-use Rattle.witness.specs.Tracking.{values_of, IsCanonicalPair, IsGradedPair, Tracks}
+use Rattle.witness.specs.Tracking.{IsCanonicalPair, IsGradedPair, Tracks}
 
 -- the coefficient of t at the lead of u
 abbrev pub lead_share : {F E : Type 0} → Presented E → Tracked F E → Tracked F E → E

@@ -4,3 +4,4 @@ pub mod WitnessWords
 pub mod Decisions
 pub mod Degrees
 pub mod Rests
+pub mod Parts

@@ -1,13 +1,13 @@
-use Rattle.std.proofs.Common.{◌≡◌, sym, ◌∙◌, subst, take, [], ap}
-use Rattle.std.specs.Prelude.{Contains, map}
+use Rattle.std.proofs.Common.{sym, ◌∙◌, subst, []}
+use Rattle.std.specs.Prelude.{Contains}
 use Rattle.std.proofs.lemmas.List.{take_all}
 use Rattle.std.proofs.lemmas.List.Elements.{All-push}
 use Rattle.monomial_order.specs.laws.Lists.{contains_at, contains_none}
 use Rattle.poly_core.specs.Presentation.{presented}
-use Rattle.polynomials.specs.Polynomial.{lead_monomial}
-use Rattle.witness.specs.Tracking.{by_order, values_of, IsCanonicalPair}
+use Rattle.witness.specs.Tracking.{by_order, IsCanonicalPair}
 use Rattle.subduction.specs.Settling.{AreLess, AreMadeFrom}
-use Rattle.subduction.proofs.Reducing.{contains-All, made_next}
+use Rattle.subduction.specs.laws.Parts.{contains-All}
+use Rattle.subduction.proofs.Reducing.{made_next}
 use Rattle.subduction.proofs.settling.reduced_by_each_other.Goals as goal
 
 pub leads-init : goal.leads-init

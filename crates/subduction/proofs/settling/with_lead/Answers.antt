@@ -1,4 +1,4 @@
-use Rattle.std.proofs.Common.{◌≡◌, sym, ◌∙◌, true≢false}
+use Rattle.std.proofs.Common.{sym, ◌∙◌, true≢false}
 use Rattle.monomial_order.specs.laws.Lists.{contains_none}
 use Rattle.subduction.proofs.Reducing.{lead_end, lead_next}
 use Rattle.subduction.proofs.settling.with_lead.Goals as goal

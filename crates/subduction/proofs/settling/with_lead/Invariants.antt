@@ -1,4 +1,4 @@
-use Rattle.std.proofs.Common.{◌≢◌, take}
+use Rattle.std.proofs.Common.{take}
 use Rattle.std.specs.Prelude.{map, Contains}
 use Rattle.polynomials.specs.Polynomial.{lead_monomial}
 use Rattle.witness.specs.Tracking.{values_of}

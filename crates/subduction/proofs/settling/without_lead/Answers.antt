@@ -1,8 +1,7 @@
-use Rattle.std.proofs.Common.{◌≡◌, sym, ◌∙◌, ap, subst, refl}
+use Rattle.std.proofs.Common.{sym, ◌∙◌, ap, subst}
 use Rattle.word_field.specs.Field.{IsValue}
-use Rattle.poly_core.specs.Presentation.{presented}
 use Rattle.polynomials.specs.Polynomial.{lead_monomial}
-use Rattle.polynomials.specs.laws.Ring.{coefficient_value, coefficient-append}
+use Rattle.polynomials.specs.laws.Ring.{coefficient_value}
 use Rattle.subduction.proofs.Reducing.{difference_is, difference_nothing}
 use Rattle.witness.specs.Tracking.{by_order}
 use Rattle.subduction.proofs.settling.without_lead.Goals as goal
