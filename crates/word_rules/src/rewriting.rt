@@ -23,7 +23,8 @@ impl RuleTable {
         requires word { IsSmallWord (O.order o.now) (trim word.items) }
         ensures { IfOk result (IsNormalForm self.now (Some (trim word.items))) }
     {
-        'rewrite: while let Some(i) = self.find(alloc, word.as_slice())? {
+        let mut letters = Vec::new(alloc);
+        'rewrite: while let Some(i) = self.find(&mut letters, word.as_slice())? {
             let Some(right) = self.right(i) else {
                 return Ok(None);
             };

@@ -8,7 +8,7 @@ ghost use Rattle.word_rules.specs.Rules.{rule_at};
 use crate::RuleTable;
 use crate::buckets::Buckets;
 use crate::table::Table;
-use crate::word_rule::letters_of;
+use crate::word_rule::list_letters;
 use monomial_order::{Memory, Monomial};
 use std::alloc::Global;
 
@@ -91,13 +91,17 @@ impl Table {
 }
 
 impl RuleTable {
-    /// The index of a rule whose left side divides the word with these exponents.
-    pub(crate) fn find(&self, alloc: Global, word: &[u16]) -> Result<Option<usize>, Memory>
+    /// The index of a rule whose left side divides the word with these exponents. The list is scratch.
+    pub(crate) fn find(
+        &self,
+        letters: &mut Vec<usize>,
+        word: &[u16],
+    ) -> Result<Option<usize>, Memory>
         ensures inside { IfOk result (λ found. IfSome found (λ i. i < length self.now)) }
         ensures divides { IfOk result (λ found. IfSome found (λ i. Divides (rule_at self.now i).left word.now)) }
         ensures none { IfOk result (λ found. IsNone found → ¬ HasLeftDivisor self.now word.now) }
     {
-        let letters = letters_of(alloc, word)?;
+        list_letters(letters, word)?;
         Ok(self.table.find(letters.as_slice(), word))
     }
 
@@ -107,7 +111,8 @@ impl RuleTable {
         ensures divides { IfOk result (λ found. IfSome found (λ i. Divides (rule_at self.now i).left word.now)) }
         ensures none { IfOk result (λ found. IsNone found → ¬ HasLeftDivisor self.now word.now) }
     {
-        self.find(alloc, word.as_slice())
+        let mut letters = Vec::new(alloc);
+        self.find(&mut letters, word.as_slice())
     }
 
     /// Whether a rule rewrites the word.

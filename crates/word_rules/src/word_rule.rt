@@ -1,5 +1,5 @@
 //! Rules with the letters of their left sides.
-ghost use Rattle.std.specs.Prelude.{◌≡◌, ◌≢◌, ◌↔◌, ◌≤◌, ◌<◌, ◌+◌, ◌^◌, ℕ, [], length, Contains, IfOk, IsTrue};
+ghost use Rattle.std.specs.Prelude.{◌≡◌, ◌≢◌, ◌↔◌, ◌≤◌, ◌<◌, ◌+◌, ◌^◌, ℕ, [], length, Contains, IfOk, OnOk, IsTrue};
 ghost use Rattle.monomial_order.specs.Monomial.{exponent, Divides};
 ghost use Rattle.word_rules.specs.Index.{rule_of, AreLettersOf, HasLetters};
 
@@ -21,16 +21,25 @@ pub(crate) fn exponent_in(word: &[u16], letter: usize) -> u16
     if letter < word.len() { word[letter] } else { 0 }
 }
 
-/// The letters of the word with these exponents, rising.
-pub(crate) fn letters_of(alloc: Global, word: &[u16]) -> Result<Vec<usize>, Memory>
-    ensures { IfOk result (λ v. AreLettersOf word.now v.items) }
+/// Replaces the list by the letters of the word with these exponents, rising.
+pub(crate) fn list_letters(letters: &mut Vec<usize>, word: &[u16]) -> Result<(), Memory>
+    ensures { OnOk result (AreLettersOf word.now letters.new.items) }
 {
-    let mut letters = Vec::new(alloc);
+    letters.clear();
     'places: for place in 0..word.len() {
         if word[place] > 0 {
             letters.push(place)?;
         }
     }
+    Ok(())
+}
+
+/// The letters of the word with these exponents, rising.
+pub(crate) fn letters_of(alloc: Global, word: &[u16]) -> Result<Vec<usize>, Memory>
+    ensures { IfOk result (λ v. AreLettersOf word.now v.items) }
+{
+    let mut letters = Vec::new(alloc);
+    list_letters(&mut letters, word)?;
     Ok(letters)
 }
 

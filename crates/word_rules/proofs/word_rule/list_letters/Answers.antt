@@ -1,8 +1,8 @@
 use Rattle.std.proofs.Common.{◌≡◌, ◌+◌, ◌≢◌, ◌∷◌, ◌++◌, [], sym, subst, ap, arith, ◌∙◌}
 use Rattle.monomial_order.specs.Monomial.{exponent}
 use Rattle.word_rules.proofs.Letters.{AreLettersBefore, letter_added, letter_skipped, letters_whole}
-use Rattle.word_rules.proofs.word_rule.letters_of.Goals as goal
-use Rattle.word_rules.proofs.word_rule.letters_of.Goals.{then-word-place-gt0+in_ok-push, else-word-place-gt0}
+use Rattle.word_rules.proofs.word_rule.list_letters.Goals as goal
+use Rattle.word_rules.proofs.word_rule.list_letters.Goals.{then-word-place-gt0+in_ok-push, else-word-place-gt0}
 
 pub places-preserved : goal.places-preserved
 places-preserved c =
