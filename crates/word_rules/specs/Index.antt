@@ -1,5 +1,5 @@
 -- The index of a table of rules.
-use Rattle.std.specs.Prelude.{◌≢◌, ◌↔◌, ℕ, ◌<◌, List, [], length, map, slice_index_or, Contains}
+use Rattle.std.specs.Prelude.{◌≢◌, ℕ, ◌≤◌, ◌<◌, List, [], length, map, slice_index_or, Contains}
 use Rattle.monomial_order.specs.Monomial.{Exponents, exponent}
 use Rattle.word_rewriting.specs.Rewriting.{RewriteRule}
 use Rattle.word_rules.specs.declared.word_rule.WordRule.{WordRule}
@@ -24,41 +24,34 @@ rule_of r = record { left = r.left; right = r.right }
 abbrev pub rules_of : List WordRule → List RewriteRule
 rules_of rules = map rule_of rules
 
--- the letters of a word are the places with an exponent other than 0
-abbrev pub AreLettersOf : Exponents → List ℕ → Type 0
-AreLettersOf w letters = (a : ℕ) → Contains letters a ↔ (exponent w a ≢ 0)
+-- a and b are letters of the word, and b is not the greater one
+pub record AreTwoLetters (w : Exponents) (a b : ℕ) : Type 0 where
+  pub has_first : exponent w a ≢ 0
+  pub has_second : exponent w b ≢ 0
+  pub ordered : b ≤ a
 
-abbrev pub HasLetters : WordRule → Type 0
-HasLetters r = AreLettersOf r.left r.letters.items
-
--- the left side of a rule has the letters a and b, and its index is in the bucket of these
+-- the index is in the bucket of two letters of the left side of a rule
 pub record IsPaired (p : PairIndex) (i : ℕ) (w : Exponents) : Type 0 where
   pub a : ℕ
   pub b : ℕ
-  pub has_a : exponent w a ≢ 0
-  pub has_b : exponent w b ≢ 0
+  pub letters : AreTwoLetters w a b
   pub listed : Contains (pair_bucket p a b) i
 
 abbrev pub lefts_of : List WordRule → List Exponents
 lefts_of rules = map (λ r. r.left) rules
 
-abbrev pub letter_lists : List WordRule → List (List ℕ)
-letter_lists rules = map (λ r. r.letters.items) rules
-
 -- the member at an index
 abbrev pub list_at : List (List ℕ) → ℕ → List ℕ
 list_at lists i = slice_index_or lists i []
 
--- Each of the left sides has its letters in the other list. Its index is in the bucket of each of its letters, and in
--- that of two letters. Buckets may have further indexes.
-pub record IsIndexFor (lefts : List Exponents) (letters : List (List ℕ)) (by_letter : Buckets) (by_pair : PairIndex) :
-    Type 0 where
-  pub letters_are : (i : ℕ) → i < length lefts → AreLettersOf (list_at lefts i) (list_at letters i)
+-- The index of each left side is in the bucket of each of its letters, and in that of two letters. Buckets may have
+-- further indexes.
+pub record IsIndexFor (lefts : List Exponents) (by_letter : Buckets) (by_pair : PairIndex) : Type 0 where
   pub listed : (i a : ℕ) → i < length lefts → exponent (list_at lefts i) a ≢ 0 → Contains (bucket by_letter a) i
   pub paired : (i : ℕ) → i < length lefts → IsPaired by_pair i (list_at lefts i)
 
 abbrev pub IsIndexed : Table → Type 0
-IsIndexed t = IsIndexFor (lefts_of t.rules.items) (letter_lists t.rules.items) t.by_letter t.by_pair
+IsIndexed t = IsIndexFor (lefts_of t.rules.items) t.by_letter t.by_pair
 
 -- no bucket loses an index
 abbrev pub KeepsIndexes : Buckets → Buckets → Type 0
@@ -66,7 +59,3 @@ KeepsIndexes old new = (key i : ℕ) → Contains (bucket old key) i → Contain
 
 abbrev pub KeepsPairs : PairIndex → PairIndex → Type 0
 KeepsPairs old new = (a b i : ℕ) → Contains (pair_bucket old a b) i → Contains (pair_bucket new a b) i
-
--- the index is in the bucket of two of the letters
-abbrev pub HasPair : PairIndex → List ℕ → ℕ → Type 0
-HasPair p letters i = (a : ℕ) × Contains letters a × (b : ℕ) × Contains letters b × Contains (pair_bucket p a b) i

@@ -42,3 +42,7 @@ pub record ArePairForms (R : List RewriteRule) (r s : RewriteRule) (u v : WordOr
   pub pair : IsCriticalPair r s first second
   pub first_form : IsNormalForm R first u
   pub second_form : IsNormalForm R second v
+
+-- one word, or zero, is a normal form of both members of the critical pair of r and s
+abbrev pub HasOneForm : List RewriteRule → RewriteRule → RewriteRule → Type 0
+HasOneForm R r s = (u : WordOrZero) × ArePairForms R r s u u

@@ -1,6 +1,7 @@
 -- Words with zeros at the end.
-use Rattle.std.specs.Prelude.{ℕ, zero, suc, List, [], ◌∷◌}
+use Rattle.std.specs.Prelude.{ℕ, zero, suc, List, [], ◌∷◌, Option, None, Some}
 use Rattle.monomial_order.specs.Monomial.{Exponents}
+use Rattle.word_rewriting.specs.Rewriting.{WordOrZero}
 
 -- an exponent in front of a word
 abbrev pub begun_by : ℕ → Exponents → Exponents
@@ -12,3 +13,8 @@ begun_by (suc d) m = suc d ∷ m
 abbrev pub trim : List ℕ → Exponents
 trim [] = []
 trim (e ∷ w) = begun_by e (trim w)
+
+-- the same of a word or zero
+abbrev pub trimmed : Option (List ℕ) → WordOrZero
+trimmed None = None
+trimmed (Some w) = Some (trim w)

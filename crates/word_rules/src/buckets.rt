@@ -2,6 +2,7 @@
 ghost use Rattle.std.specs.Prelude.{◌≡◌, ◌<◌, ℕ, [], length, Contains, OnOk};
 ghost use Rattle.word_rules.specs.Index.{bucket, KeepsIndexes};
 
+use crate::factor::Factor;
 use monomial_order::Memory;
 use std::alloc::Global;
 
@@ -50,18 +51,18 @@ impl Buckets {
         Ok(())
     }
 
-    /// Puts an index into the lists of some keys. No index is taken out, even if memory runs out.
+    /// Puts an index into the lists of some letters. No index is taken out, even if memory runs out.
     pub(crate) fn push_each(
         &mut self,
         alloc: Global,
-        keys: &[usize],
+        factors: &[Factor],
         index: usize,
     ) -> Result<(), Memory>
         ensures keeps { KeepsIndexes self.old self.new }
-        ensures ok { OnOk result ((key : ℕ) → Contains keys.now key → Contains (bucket self.new key) index) }
+        ensures ok { OnOk result ((f : Factor) → Contains factors.now f → Contains (bucket self.new f.letter) index) }
     {
-        'keys: for key in keys {
-            self.push(alloc, *key, index)?;
+        'letters: for factor in factors {
+            self.push(alloc, factor.letter, index)?;
         }
         Ok(())
     }

@@ -2,6 +2,7 @@
 ghost use Rattle.std.specs.Prelude.{◌≡◌, ◌≢◌, ◌<◌, ◌++◌, ◌∷◌, [], length, take, set, None, Some, IsNone, IfSome, OnOk, OnErr};
 ghost use Rattle.word_rules.specs.Rules.{rule_at};
 
+use crate::RuleSide;
 use crate::table::Table;
 use monomial_order::{Memory, Monomial};
 use std::alloc::Global;
@@ -48,6 +49,13 @@ impl RuleTable {
         requires { i < length self.now }
         ensures { result.now ≡ (rule_at self.now i).left }
     {
+        self.left_side(i).word()
+    }
+
+    pub(crate) fn left_side(&self, i: usize) -> &RuleSide
+        requires { i < length self.now }
+        ensures { result.now ≡ (rule_at self.now i).left }
+    {
         &self.table.rules[i].left
     }
 
@@ -58,7 +66,7 @@ impl RuleTable {
         ensures none { IsNone result → (rule_at self.now i).right ≡ None }
     {
         match &self.table.rules[i].right {
-            Some(word) => Some(word),
+            Some(side) => Some(side.word()),
             None => None,
         }
     }
@@ -76,6 +84,11 @@ impl RuleTable {
         // If memory runs out, nothing changes.
         ensures unchanged { OnErr result (self.new ≡ self.old) }
     {
+        let left = RuleSide::new(alloc, left)?;
+        let right = match right {
+            Some(word) => Some(RuleSide::new(alloc, word)?),
+            None => None,
+        };
         self.table.push(alloc, left, right)
     }
 
@@ -87,7 +100,7 @@ impl RuleTable {
     }
 
     /// Replaces the right side of a rule. It takes no memory.
-    pub fn set_right(&mut self, i: usize, right: Option<Monomial>)
+    pub fn set_right(&mut self, i: usize, right: Option<RuleSide>)
         requires { i < length self.old }
         ensures { self.new ≡ set self.old i (record { left = (rule_at self.old i).left; right = right }) }
     {

@@ -1,16 +1,14 @@
 //! Left sides that divide a word.
-ghost use Rattle.std.specs.Prelude.{◌≡◌, ◌≢◌, ◌↔◌, ◌<◌, ℕ, length, Contains, IsNone, IsTrue, IfOk, IfSome};
+ghost use Rattle.std.specs.Prelude.{◌↔◌, ◌≤◌, ◌<◌, ℕ, length, Contains, IsNone, IsTrue, IfSome};
 ghost use Rattle.monomial_order.specs.Monomial.{Divides};
 ghost use Rattle.word_rewriting.specs.Rewriting.{HasLeftDivisor};
-ghost use Rattle.word_rules.specs.Index.{bucket, lefts_of, list_at, pair_bucket, rules_of, AreLettersOf, IsIndexed};
+ghost use Rattle.word_rules.specs.Index.{bucket, lefts_of, list_at, pair_bucket, rules_of, IsIndexed};
 ghost use Rattle.word_rules.specs.Rules.{rule_at};
 
 use crate::RuleTable;
 use crate::buckets::Buckets;
+use crate::scratch::ScratchWord;
 use crate::table::Table;
-use crate::word_rule::list_letters;
-use monomial_order::{Memory, Monomial};
-use std::alloc::Global;
 
 impl Table {
     /// Whether the index is one of a rule, and its left side divides the word.
@@ -19,7 +17,7 @@ impl Table {
         ensures { IsTrue result ↔ ((i < length self.now.rules.items)
             × Divides (list_at (lefts_of self.now.rules.items) i) word.now) }
     {
-        i < self.rules.len() && self.rules[i].divides(word)
+        i < self.rules.len() && self.rules[i].left.divides(word)
     }
 
     /// The first of these indexes that is one of a rule whose left side divides the word.
@@ -38,15 +36,18 @@ impl Table {
         None
     }
 
-    /// The same with the indexes in the buckets of a row that have one of the letters.
-    fn find_in_row(&self, row: &Buckets, letters: &[usize], word: &[u16]) -> Option<usize>
+    /// The same with the indexes in the buckets of a row that have one of the letters up to a.
+    fn find_in_row(&self, row: &Buckets, a: usize, letters: &[usize], word: &[u16]) -> Option<usize>
         requires { IsIndexed self.now }
         ensures inside { IfSome result (λ i. i < length self.now.rules.items) }
         ensures divides { IfSome result (λ i. Divides (list_at (lefts_of self.now.rules.items) i) word.now) }
-        ensures none { IsNone result → (b i : ℕ) → Contains letters.now b → Contains (bucket row.now b) i
+        ensures none { IsNone result → (b i : ℕ) → Contains letters.now b → b ≤ a → Contains (bucket row.now b) i
             → i < length self.now.rules.items → ¬ Divides (list_at (lefts_of self.now.rules.items) i) word.now }
     {
         'letters: for b in letters {
+            if *b > a {
+                continue;
+            }
             match self.find_among(row.get(*b), word) {
                 Some(i) => return Some(i),
                 None => {}
@@ -55,33 +56,33 @@ impl Table {
         None
     }
 
-    /// The same with the indexes in the buckets of letter a and one of the letters.
+    /// The same with the indexes in the buckets of letter a and one of the letters up to it.
     fn find_by_letter(&self, a: usize, letters: &[usize], word: &[u16]) -> Option<usize>
         requires { IsIndexed self.now }
         ensures inside { IfSome result (λ i. i < length self.now.rules.items) }
         ensures divides { IfSome result (λ i. Divides (list_at (lefts_of self.now.rules.items) i) word.now) }
-        ensures none { IsNone result → (b i : ℕ) → Contains letters.now b
+        ensures none { IsNone result → (b i : ℕ) → Contains letters.now b → b ≤ a
             → Contains (pair_bucket self.now.by_pair a b) i → i < length self.now.rules.items
             → ¬ Divides (list_at (lefts_of self.now.rules.items) i) word.now }
     {
         if a < self.by_pair.rows.len() {
-            self.find_in_row(&self.by_pair.rows[a], letters, word)
+            self.find_in_row(&self.by_pair.rows[a], a, letters, word)
         } else {
             None
         }
     }
 
-    /// The index of a rule whose left side divides the word, which has these letters.
-    fn find(&self, letters: &[usize], word: &[u16]) -> Option<usize>
-        requires indexed { IsIndexed self.now }
-        requires letters { AreLettersOf word.now letters.now }
+    /// The index of a rule whose left side divides the word.
+    fn find(&self, word: &ScratchWord) -> Option<usize>
+        requires { IsIndexed self.now }
         ensures inside { IfSome result (λ i. i < length self.now.rules.items) }
         ensures divides { IfSome result (λ i. Divides (rule_at (rules_of self.now.rules.items) i).left word.now) }
         ensures none { IsNone result → (i : ℕ) → i < length self.now.rules.items
             → ¬ Divides (rule_at (rules_of self.now.rules.items) i).left word.now }
     {
+        let letters = word.letters();
         'letters: for a in letters {
-            match self.find_by_letter(*a, letters, word) {
+            match self.find_by_letter(*a, letters, word.exponents()) {
                 Some(i) => return Some(i),
                 None => {}
             }
@@ -91,34 +92,12 @@ impl Table {
 }
 
 impl RuleTable {
-    /// The index of a rule whose left side divides the word with these exponents. The list is scratch.
-    pub(crate) fn find(
-        &self,
-        letters: &mut Vec<usize>,
-        word: &[u16],
-    ) -> Result<Option<usize>, Memory>
-        ensures inside { IfOk result (λ found. IfSome found (λ i. i < length self.now)) }
-        ensures divides { IfOk result (λ found. IfSome found (λ i. Divides (rule_at self.now i).left word.now)) }
-        ensures none { IfOk result (λ found. IsNone found → ¬ HasLeftDivisor self.now word.now) }
+    /// The index of a rule whose left side divides the word.
+    pub(crate) fn find(&self, word: &ScratchWord) -> Option<usize>
+        ensures inside { IfSome result (λ i. i < length self.now) }
+        ensures divides { IfSome result (λ i. Divides (rule_at self.now i).left word.now) }
+        ensures none { IsNone result → ¬ HasLeftDivisor self.now word.now }
     {
-        list_letters(letters, word)?;
-        Ok(self.table.find(letters.as_slice(), word))
-    }
-
-    /// The index of a rule whose left side divides the word, if there is one.
-    pub fn find_left_divisor(&self, alloc: Global, word: &Monomial) -> Result<Option<usize>, Memory>
-        ensures inside { IfOk result (λ found. IfSome found (λ i. i < length self.now)) }
-        ensures divides { IfOk result (λ found. IfSome found (λ i. Divides (rule_at self.now i).left word.now)) }
-        ensures none { IfOk result (λ found. IsNone found → ¬ HasLeftDivisor self.now word.now) }
-    {
-        let mut letters = Vec::new(alloc);
-        self.find(&mut letters, word.as_slice())
-    }
-
-    /// Whether a rule rewrites the word.
-    pub fn is_reducible(&self, alloc: Global, word: &Monomial) -> Result<bool, Memory>
-        ensures { IfOk result (λ reducible. IsTrue reducible ↔ HasLeftDivisor self.now word.now) }
-    {
-        Ok(self.find_left_divisor(alloc, word)?.is_some())
+        self.table.find(word)
     }
 }

@@ -19,7 +19,7 @@ impl Table {
         ensures { OnOk result (AddsAll (lefts_of self.now.rules.items) letter marks.old marks.new) }
     {
         'indexes: for i in self.by_letter.get(letter) {
-            if *i < marks.seen.len() && self.rules[*i].left.exponent(letter) > 0 {
+            if *i < marks.seen.len() && self.rules[*i].left.word().exponent(letter) > 0 {
                 marks.add(*i)?;
             }
         }
@@ -33,8 +33,8 @@ impl Table {
         ensures { IfOk result (λ v. AreSharing (rules_of self.now.rules.items) j v.items) }
     {
         let mut marks = Marks::new(alloc, j)?;
-        'letters: for letter in self.rules[j].letters.as_slice() {
-            self.mark_letter(*letter, &mut marks)?;
+        'letters: for factor in self.rules[j].left.factors() {
+            self.mark_letter(factor.letter, &mut marks)?;
         }
         Ok(marks.list)
     }

@@ -1,21 +1,37 @@
 //! Rules with their index.
 ghost use Rattle.std.specs.Prelude.{◌≡◌, ◌≢◌, ◌<◌, ◌++◌, ◌∷◌, ℕ, [], length, take, set, Contains, OnOk, OnErr};
-ghost use Rattle.word_rules.specs.Index.{bucket, rules_of, HasPair, IsIndexed, KeepsIndexes, KeepsPairs};
+ghost use Rattle.monomial_order.specs.Monomial.{exponent};
+ghost use Rattle.word_rules.specs.Index.{bucket, rules_of, AreTwoLetters, IsIndexed, IsPaired, KeepsIndexes, KeepsPairs};
 ghost use Rattle.word_rules.specs.Rules.{rule_at};
 
+use crate::RuleSide;
 use crate::buckets::Buckets;
 use crate::pairs::PairIndex;
-use crate::word_rule::{WordRule, last_two};
-use monomial_order::{Memory, Monomial};
+use crate::word_rule::WordRule;
+use monomial_order::Memory;
 use std::alloc::Global;
 
-/// The rules, their indexes by each letter, and their indexes by two letters. Indexes of rules that are gone may stay
-/// in the buckets.
+/// The rules, their indexes by each letter, and their indexes by two letters, the greater one first. Indexes of rules
+/// that are gone may stay in the buckets.
 #[derive(Drop)]
 pub(crate) struct Table {
     pub(crate) rules: Vec<WordRule>,
     pub(crate) by_letter: Buckets,
     pub(crate) by_pair: PairIndex,
+}
+
+/// The two last letters of a word, the last one first, or the only one twice.
+fn last_two(word: &RuleSide) -> (usize, usize)
+    requires { word.now ≢ [] }
+    ensures { AreTwoLetters word.now result.0 result.1 }
+{
+    let factors = word.factors();
+    let last = factors[factors.len() - 1].letter;
+    if factors.len() == 1 {
+        (last, last)
+    } else {
+        (last, factors[factors.len() - 2].letter)
+    }
 }
 
 impl Table {
@@ -31,17 +47,17 @@ impl Table {
     }
 
     /// Puts an index into the buckets of the letters of a left side. No index is taken out.
-    fn push_index(&mut self, alloc: Global, letters: &[usize], i: usize) -> Result<(), Memory>
-        requires { letters.now ≢ [] }
+    fn push_index(&mut self, alloc: Global, left: &RuleSide, i: usize) -> Result<(), Memory>
+        requires { left.now ≢ [] }
         ensures rules { self.new.rules ≡ self.old.rules }
         ensures keeps { KeepsIndexes self.old.by_letter self.new.by_letter }
         ensures keeps_pairs { KeepsPairs self.old.by_pair self.new.by_pair }
         ensures listed { OnOk result
-            ((a : ℕ) → Contains letters.now a → Contains (bucket self.new.by_letter a) i) }
-        ensures paired { OnOk result (HasPair self.new.by_pair letters.now i) }
+            ((a : ℕ) → exponent left.now a ≢ 0 → Contains (bucket self.new.by_letter a) i) }
+        ensures paired { OnOk result (IsPaired self.new.by_pair i left.now) }
     {
-        self.by_letter.push_each(alloc, letters, i)?;
-        let (last, next) = last_two(letters);
+        self.by_letter.push_each(alloc, left.factors(), i)?;
+        let (last, next) = last_two(left);
         self.by_pair.push(alloc, last, next, i)?;
         Ok(())
     }
@@ -50,8 +66,8 @@ impl Table {
     pub(crate) fn push(
         &mut self,
         alloc: Global,
-        left: Monomial,
-        right: Option<Monomial>,
+        left: RuleSide,
+        right: Option<RuleSide>,
     ) -> Result<(), Memory>
         requires indexed { IsIndexed self.old }
         requires left { left ≢ [] }
@@ -60,11 +76,10 @@ impl Table {
             ≡ rules_of self.old.rules.items ++ record { left = left; right = right } ∷ []) }
         ensures unchanged { OnErr result (self.new.rules.items ≡ self.old.rules.items) }
     {
-        let rule = WordRule::new(alloc, left, right)?;
         self.rules.reserve(1)?;
         let i = self.rules.len();
-        self.push_index(alloc, rule.letters.as_slice(), i)?;
-        self.rules.push_reserved(rule);
+        self.push_index(alloc, &left, i)?;
+        self.rules.push_reserved(WordRule { left, right });
         Ok(())
     }
 
@@ -78,7 +93,7 @@ impl Table {
     }
 
     /// Replaces the right side of a rule.
-    pub(crate) fn set_right(&mut self, i: usize, right: Option<Monomial>)
+    pub(crate) fn set_right(&mut self, i: usize, right: Option<RuleSide>)
         requires indexed { IsIndexed self.old }
         requires inside { i < length self.old.rules.items }
         ensures indexed { IsIndexed self.new }
