@@ -1,5 +1,5 @@
 -- Left sides of the rules of a table.
-use Rattle.std.proofs.Common.{◌≡◌, ◌≢◌, ℕ, zero, suc, ◌<◌, refl, sym, ◌∙◌, subst, List, [], ◌∷◌, length, arith, get_or}
+use Rattle.std.proofs.Common.{◌≡◌, ◌≢◌, ℕ, zero, suc, ◌≤◌, ◌<◌, refl, sym, ◌∙◌, subst, List, [], ◌∷◌, length, arith, get_or}
 use Rattle.std.specs.Prelude.{Contains, map, Option, Some, IfSome}
 use Rattle.std.proofs.lemmas.List.{get_or_default, length-map}
 use Rattle.monomial_order.specs.Monomial.{Exponents, exponent, Divides}
@@ -8,7 +8,7 @@ use Rattle.word_rules.specs.declared.word_rule.WordRule.{WordRule}
 use Rattle.word_rules.specs.declared.buckets.Buckets.{Buckets}
 use Rattle.word_rules.specs.declared.pairs.PairIndex.{PairIndex}
 use Rattle.word_rules.specs.declared.table.Table.{Table}
-use Rattle.word_rules.specs.Index.{AreLettersOf, HasLetters, IsIndexed, lefts_of, letter_lists, bucket, list_at, pair_bucket, rules_of}
+use Rattle.word_rules.specs.Index.{IsIndexed, lefts_of, bucket, list_at, pair_bucket, rules_of}
 use Rattle.word_rules.specs.Rules.{no_rule, rule_at}
 use Rattle.word_rules.proofs.Listing.{at_read}
 
@@ -23,15 +23,6 @@ divisor_index R w d =
     let k = d.1 in
     let e : get_or R k.0 no_rule ≡ d.0 = get_or_default R k.0 no_rule d.0 k.1 ∙ k.2 in
     (k.0, k.1, subst (λ (r : RewriteRule). Divides r.left w) (sym e) d.2)
-
--- the letters of a rule that is read
-pub read_letters : (t : Table) (i : ℕ) (r : WordRule) → IsIndexed t → i < length t.rules.items → r ≡ get_or t.rules.items i r → HasLetters r
-read_letters t i r x l e =
-    let a : list_at (lefts_of t.rules.items) i ≡ r.left = at_read (λ s. s.left) [] t.rules.items i r l e in
-    let b : list_at (letter_lists t.rules.items) i ≡ r.letters.items = at_read (λ s. s.letters.items) [] t.rules.items i r l e in
-    subst (λ w. AreLettersOf w r.letters.items) a
-    (subst (AreLettersOf (list_at (lefts_of t.rules.items) i)) b
-    (x.letters_are i (subst (λ n. i < n) (sym (length-map t.rules.items (λ s. s.left))) l)))
 
 pub row_read : (p : PairIndex) (a : ℕ) (r : Buckets) → a < length p.rows.items → r ≡ get_or p.rows.items a r → (b i : ℕ) → Contains (pair_bucket p a b) i → Contains (bucket r b) i
 row_read p a r l e b i h = subst (λ rs. Contains (get_or rs b []) i) (at_read (λ s. map (λ v. v.items) s.lists.items) [] p.rows.items a r l e) h
@@ -49,10 +40,10 @@ module _ (t : Table) (w : Exponents) (i : ℕ) where
   divided_letter b d e z = e (let h = d b in omega arith)
 
   -- if no left side in the buckets of two letters of the word divides it, none does
-  pub none_divides : IsIndexed t → (letters : List ℕ) → AreLettersOf w letters →
-      ((a : ℕ) → Contains letters a → (b j : ℕ) → Contains letters b → Contains (pair_bucket t.by_pair a b) j → j < length t.rules.items →
+  pub none_divides : IsIndexed t → (letters : List ℕ) → ((a : ℕ) → exponent w a ≢ 0 → Contains letters a) →
+      ((a : ℕ) → Contains letters a → (b j : ℕ) → Contains letters b → b ≤ a → Contains (pair_bucket t.by_pair a b) j → j < length t.rules.items →
       Divides (list_at (lefts_of t.rules.items) j) w → ⊥) → i < length t.rules.items → Divides (rule_at (rules_of t.rules.items) i).left w → ⊥
   none_divides x letters h none inside divides =
       let d = subst (λ v. Divides v w) (sym (left_is t.rules.items i)) divides in
       let p = x.paired i (subst (λ n. i < n) (sym (length-map t.rules.items (λ s. s.left))) inside) in
-      none p.a ((h p.a).1 (divided_letter p.a d p.has_a)) p.b i ((h p.b).1 (divided_letter p.b d p.has_b)) p.listed inside d
+      none p.a (h p.a (divided_letter p.a d p.letters.has_first)) p.b i (h p.b (divided_letter p.b d p.letters.has_second)) p.letters.ordered p.listed inside d

@@ -1,9 +1,10 @@
 pub mod Listing
 pub mod Grown
-pub mod Letters
+pub mod LetterLists
+pub mod Factors
 pub mod Indexes
 pub mod Lefts
 pub mod Steps
 pub mod Shared
-pub mod Sums
 pub mod Trimming
+pub mod PairForms

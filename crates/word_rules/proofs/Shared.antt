@@ -9,10 +9,11 @@ use Rattle.word_rules.specs.declared.marks.Marks.{Marks}
 use Rattle.word_rules.specs.declared.buckets.Buckets.{Buckets}
 use Rattle.word_rules.specs.declared.pairs.PairIndex.{PairIndex}
 use Rattle.word_rules.specs.declared.word_rule.WordRule.{WordRule}
-use Rattle.word_rules.specs.Index.{AreLettersOf, IsIndexFor, bucket, lefts_of, list_at, rules_of}
+use Rattle.word_rules.specs.Index.{IsIndexFor, bucket, lefts_of, list_at, rules_of}
 use Rattle.word_rules.specs.Rules.{AreSharing, rule_at}
 use Rattle.word_rules.specs.Sharing.{AddsAll, AddsLetter, AreMarks, HasLetter, IsMarked}
 use Rattle.word_rules.proofs.Lefts.{left_is}
+use Rattle.word_rules.proofs.LetterLists.{AreLettersOf}
 
 contains_or_not : (xs : List ℕ) (i : ℕ) → Contains xs i ⊎ (Contains xs i → ⊥)
 contains_or_not xs i =
@@ -87,9 +88,9 @@ module _ (lefts : List Exponents) (letter : ℕ) where
       AreMarkedSoFar items (n + 1) start m
   more_skipped items n start m h none = (h.0, below_more _ _ h.1 (λ l e. absurd (none l e)))
 
-  pub all_marked : (letters : List (List ℕ)) (b : Buckets) (p : PairIndex) (n : ℕ) (start m : Marks) → IsIndexFor lefts letters b p → length (bucket b letter) ≤ n →
+  pub all_marked : (b : Buckets) (p : PairIndex) (n : ℕ) (start m : Marks) → IsIndexFor lefts b p → length (bucket b letter) ≤ n →
       AreMarkedSoFar (bucket b letter) n start m → AddsAll lefts letter start m
-  all_marked letters b p n start m x l h = record {
+  all_marked b p n start m x l h = record {
     adds = h.0;
     all = λ k inside known has.
         let c = x.listed k letter known has in

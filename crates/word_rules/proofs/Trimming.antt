@@ -1,9 +1,9 @@
 -- Words with zeros at the end, and steps of rewriting in place.
-use Rattle.std.proofs.Common.{◌≡◌, ℕ, zero, suc, ◌+◌, ◌-◌, ◌≤◌, ◌<◌, refl, sym, ◌∙◌, ap, subst, List, [], ◌∷◌, length, replicate, arith, Some, None}
+use Rattle.std.proofs.Common.{◌≡◌, ℕ, zero, suc, ◌+◌, ◌-◌, ◌≤◌, ◌<◌, refl, sym, ◌∙◌, ap, subst, List, [], ◌∷◌, length, replicate, max, arith, Some, None}
 use Rattle.monomial_order.specs.Limits.{exponent_max}
-use Rattle.monomial_order.specs.Monomial.{Exponents, exponent, product, Divides, IsTrimmed, IsMonomial}
+use Rattle.monomial_order.specs.Monomial.{Exponents, exponent, least_common_multiple, product, Divides, IsTrimmed, IsMonomial}
 use Rattle.monomial_order.specs.MonomialOrder.{MonomialOrder, IsMonomialOrder}
-use Rattle.monomial_order.specs.laws.Monomial.{exponent-product, product_comm, IsTrimmed-product}
+use Rattle.monomial_order.specs.laws.Monomial.{exponent-least_common_multiple, exponent-product, product_comm, IsTrimmed-product}
 use Rattle.monomial_order.specs.laws.Cofactors.{cofactor, same_exponents}
 use Rattle.monomial_order.specs.laws.Lists.{contains_at}
 use Rattle.word_rewriting.specs.Rewriting.{RewriteRule, RewritesBy, multiple}
@@ -49,8 +49,18 @@ zero_in_place r w t d h =
     let k = cofactor r.left (trim w) t (trim_trimmed w) (divides_trim r.left w d) in
     record { cofactor = k.0; trimmed = k.1; word = product_comm k.0 r.left ∙ k.2; result = ap (multiple k.0) h }
 
+pub left_word : (O : MonomialOrder) (R : List RewriteRule) → AreDecreasing O R → (i : ℕ) → i < length R → IsMonomial O.places (rule_at R i).left
+left_word O R decreasing i inside = (decreasing (rule_at R i) (contains_at R i no_rule inside)).left
+
 pub left_is_trimmed : (O : MonomialOrder) (R : List RewriteRule) → AreDecreasing O R → (i : ℕ) → i < length R → IsTrimmed (rule_at R i).left
-left_is_trimmed O R decreasing i inside = (decreasing (rule_at R i) (contains_at R i no_rule inside)).left.trimmed
+left_is_trimmed O R decreasing i inside = (left_word O R decreasing i inside).trimmed
+
+-- a word with the exponents of the least common multiple
+pub multiple_is : (a b w : List ℕ) → IsTrimmed (least_common_multiple a b) → ((p : ℕ) → exponent w p ≡ max (exponent a p) (exponent b p)) → trim w ≡ least_common_multiple a b
+multiple_is a b w t h = trim_is (least_common_multiple a b) w t (λ p. exponent-least_common_multiple a b p ∙ sym (h p))
+
+pub divides_multiple : (a b w : List ℕ) → ((p : ℕ) → exponent w p ≡ max (exponent a p) (exponent b p)) → Divides a w
+divides_multiple a b w h p = let e = h p in omega arith
 
 pub exponent-zeros : (n i : ℕ) → exponent (replicate n 0) i ≡ 0
 exponent-zeros zero i = refl
@@ -63,7 +73,7 @@ module _ (O : MonomialOrder) (LO : IsMonomialOrder O) (R : List RewriteRule) (de
   left = (rule_at R i).left
 
   left_trimmed : IsTrimmed (rule_at R i).left
-  left_trimmed = (decreasing (rule_at R i) (contains_at R i no_rule inside)).left.trimmed
+  left_trimmed = left_is_trimmed O R decreasing i inside
 
   pub right_word : IsMonomial O.places v
   right_word = (subst (IsBelow O (rule_at R i).left) h (decreasing (rule_at R i) (contains_at R i no_rule inside)).right).0

@@ -45,11 +45,10 @@ impl RuleTable {
         ensures next { IfOk result (λ r. r ≡ true
             → RewritesBy (rule_at self.now i) (trim word.old) (Some (trim word.new))) }
     {
-        let rule = &self.table.rules[i];
-        let Some(right) = &rule.right else {
+        let Some(right) = self.right_side(i) else {
             return Ok(false);
         };
-        word.divide(&rule.left);
+        word.divide(self.left_side(i));
         word.multiply(right)?;
         Ok(true)
     }

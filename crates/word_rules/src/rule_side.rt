@@ -1,6 +1,6 @@
 //! Sides of rules.
 ghost use Rattle.std.specs.Prelude.{◌≡◌, ◌≢◌, ◌↔◌, [], IfOk, IsTrue};
-ghost use Rattle.monomial_order.specs.Monomial.{Divides};
+ghost use Rattle.monomial_order.specs.Monomial.{exponent, Divides};
 ghost use Rattle.word_rules.specs.Factors.{factors_of};
 
 use crate::factor::Factor;
@@ -24,6 +24,13 @@ impl Model for RuleSide {
     ghost view = { λ s. s.word };
 
     ghost invariant = { λ s. IsSide s.word s.factors.items };
+}
+
+/// The exponent of a letter in the word with these exponents.
+fn exponent_in(word: &[u16], letter: usize) -> u16
+    ensures { result ≡ exponent word.now letter }
+{
+    if letter < word.len() { word[letter] } else { 0 }
 }
 
 /// The letters of the word with these exponents, rising.
@@ -67,7 +74,7 @@ impl RuleSide {
         ensures { IsTrue result ↔ Divides self.now word.now }
     {
         'letters: for factor in self.factors.as_slice() {
-            if factor.letter >= word.len() || word[factor.letter] < factor.exponent {
+            if exponent_in(word, factor.letter) < factor.exponent {
                 return false;
             }
         }

@@ -65,8 +65,19 @@ impl RuleTable {
         ensures some { IfSome result (λ v. (rule_at self.now i).right ≡ Some v.now) }
         ensures none { IsNone result → (rule_at self.now i).right ≡ None }
     {
-        match &self.table.rules[i].right {
+        match self.right_side(i) {
             Some(side) => Some(side.word()),
+            None => None,
+        }
+    }
+
+    pub(crate) fn right_side(&self, i: usize) -> Option<&RuleSide>
+        requires { i < length self.now }
+        ensures some { IfSome result (λ v. (rule_at self.now i).right ≡ Some v.now) }
+        ensures none { IsNone result → (rule_at self.now i).right ≡ None }
+    {
+        match &self.table.rules[i].right {
+            Some(side) => Some(side),
             None => None,
         }
     }

@@ -52,16 +52,16 @@ impl ScratchWord {
     }
 
     /// Replaces the exponent of a letter by another one that is not 0.
-    fn set_exponent(&mut self, letter: usize, exponent: u16) -> Result<(), Memory>
+    fn set_exponent(&mut self, letter: usize, e: u16) -> Result<(), Memory>
         requires inside { letter < length self.old }
         ensures long { length self.new ≡ length self.old }
-        ensures here { OnOk result (exponent self.new letter ≡ exponent) }
+        ensures here { OnOk result (exponent self.new letter ≡ e) }
         ensures others { OnOk result ((p : ℕ) → p ≢ letter → exponent self.new p ≡ exponent self.old p) }
     {
         if self.exponents[letter] == 0 {
             self.letters.push(letter)?;
         }
-        self.exponents[letter] = exponent;
+        self.exponents[letter] = e;
         Ok(())
     }
 
