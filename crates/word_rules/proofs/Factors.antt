@@ -1,6 +1,7 @@
 -- Words by their letters, one after the other.
 use Rattle.std.proofs.Common.{◌≡◌, ◌≢◌, ℕ, zero, suc, ◌+◌, ◌≤◌, ◌<◌, refl, sym, ◌∙◌, ap, subst, List, [], ◌∷◌, ◌++◌, length, arith, get_or, take, drop, ⊎_elim}
 use Rattle.std.specs.Prelude.{Contains}
+use Rattle.std.proofs.lemmas.List.{length-take}
 use Rattle.monomial_order.specs.Monomial.{Exponents, exponent, Divides}
 use Rattle.monomial_order.specs.laws.Comparing.{le_or_not, numbers_or_not}
 use Rattle.monomial_order.specs.laws.Monomial.{exponent_past}
@@ -114,3 +115,16 @@ factors_after k [] e = ap (λ m. factors_from m (e ∷ [])) (let q : k ≡ k + 0
 factors_after k (zero ∷ w) e = factors_after (suc k) w e ∙ ap (λ m. factors_from (suc k) w ++ factors_from m (e ∷ [])) (let q : suc k + length w ≡ k + suc (length w) = omega arith in q)
 factors_after k (suc x ∷ w) e = ap (λ fs. record { letter = k; exponent = suc x } ∷ fs)
     (factors_after (suc k) w e ∙ ap (λ m. factors_from (suc k) w ++ factors_from m (e ∷ [])) (let q : suc k + length w ≡ k + suc (length w) = omega arith in q))
+
+take_place : (w : List ℕ) (n : ℕ) → n < length w → take (suc n) w ≡ take n w ++ exponent w n ∷ []
+take_place [] n l = absurd (omega arith)
+take_place (e ∷ w) zero l = refl
+take_place (e ∷ w) (suc n) l = ap (λ v. e ∷ v) (take_place w n (omega arith))
+
+-- the same of the places before n + 1
+pub factors_to : (w : Exponents) (n : ℕ) → n < length w → factors_of (take (n + 1) w) ≡ factors_of (take n w) ++ factors_from n (exponent w n ∷ [])
+factors_to w n l =
+    ap (λ m. factors_of (take m w)) (let q : n + 1 ≡ suc n = omega arith in q)
+    ∙ (ap factors_of (take_place w n l)
+    ∙ (factors_after 0 (take n w) (exponent w n)
+    ∙ ap (λ m. factors_of (take n w) ++ factors_from m (exponent w n ∷ [])) (let q : 0 + length (take n w) ≡ n = grind (arith, length-take) in q)))
