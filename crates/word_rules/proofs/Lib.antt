@@ -5,5 +5,5 @@ pub mod Indexes
 pub mod Lefts
 pub mod Steps
 pub mod Shared
-pub mod Sums
 pub mod Trimming
+pub mod FactorDegrees
