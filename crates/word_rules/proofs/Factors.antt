@@ -11,14 +11,14 @@ use Rattle.word_rules.specs.Factors.{factors_from, factors_of}
 use Rattle.word_rules.proofs.LetterLists.{factor_of, letters_are}
 
 -- the exponent of a place in a power of one letter
-pub at : ℕ → ℕ → ℕ → ℕ
+abbrev pub at : ℕ → ℕ → ℕ → ℕ
 at zero e zero = e
 at zero e (suc p) = 0
 at (suc a) e zero = 0
 at (suc a) e (suc p) = at a e p
 
 -- the exponent of a place in the product of these powers
-pub exponent_of : List Factor → ℕ → ℕ
+abbrev pub exponent_of : List Factor → ℕ → ℕ
 exponent_of [] p = 0
 exponent_of (f ∷ fs) p = at f.letter f.exponent p + exponent_of fs p
 
@@ -128,3 +128,11 @@ factors_to w n l =
     ∙ (ap factors_of (take_place w n l)
     ∙ (factors_after 0 (take n w) (exponent w n)
     ∙ ap (λ m. factors_of (take n w) ++ factors_from m (exponent w n ∷ [])) (let q : 0 + length (take n w) ≡ n = grind (arith, length-take) in q)))
+
+pub factor_here : (n e : ℕ) → 0 < e → factors_from n (e ∷ []) ≡ record { letter = n; exponent = e } ∷ []
+factor_here n zero l = absurd (omega arith)
+factor_here n (suc e) l = refl
+
+pub factor_none : (n e : ℕ) → e ≤ 0 → factors_from n (e ∷ []) ≡ []
+factor_none n zero l = refl
+factor_none n (suc e) l = absurd (omega arith)

@@ -8,3 +8,4 @@ pub mod Steps
 pub mod Shared
 pub mod Trimming
 pub mod PairForms
+pub mod FactorDegrees

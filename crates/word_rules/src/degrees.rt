@@ -1,7 +1,7 @@
 //! Degrees of critical pairs.
 ghost use Rattle.std.specs.Prelude.{◌≡◌, ◌+◌, ◌++◌, ◌<◌, ◌≤◌, length, slice_index_or};
 ghost use Rattle.monomial_order.specs.Limits.{exponent_max};
-ghost use Rattle.monomial_order.specs.Monomial.{least_common_multiple, weighted_degree};
+ghost use Rattle.monomial_order.specs.Monomial.{exponent, least_common_multiple, weighted_degree};
 ghost use Rattle.word_rules.specs.Rules.{rule_at};
 
 use crate::{RuleSide, RuleTable};
@@ -17,6 +17,13 @@ fn letter_degree(x_degrees: &[u32], s_degrees: &[u32], letter: usize) -> u32
     if place < s_degrees.len() { s_degrees[place] } else { 0 }
 }
 
+/// The exponent of a letter in a word.
+fn exponent_of(word: &[u16], letter: usize) -> u16
+    ensures { result ≡ exponent word.now letter }
+{
+    if letter < word.len() { word[letter] } else { 0 }
+}
+
 /// What a word adds to the degree of another one in their least common multiple.
 fn added_degree(x_degrees: &[u32], s_degrees: &[u32], word: &RuleSide, other: &[u16]) -> u32
     requires small { weighted_degree (x_degrees.now ++ s_degrees.now) (least_common_multiple other.now word.now)
@@ -26,12 +33,8 @@ fn added_degree(x_degrees: &[u32], s_degrees: &[u32], word: &RuleSide, other: &[
 {
     let mut sum = 0;
     'letters: for factor in word.factors() {
-        let exponent = if factor.letter < other.len() {
-            factor.exponent.saturating_sub(other[factor.letter])
-        } else {
-            factor.exponent
-        };
-        sum += letter_degree(x_degrees, s_degrees, factor.letter) * u32::from(exponent);
+        let excess = factor.exponent.saturating_sub(exponent_of(other, factor.letter));
+        sum += letter_degree(x_degrees, s_degrees, factor.letter) * u32::from(excess);
     }
     sum
 }

@@ -1,9 +1,8 @@
-use Rattle.std.proofs.Common.{◌≡◌, ◌<◌, ◌+◌, ◌∷◌, ◌++◌, [], ℕ, sym, subst, ap, arith, ◌∙◌, length, get_or, take, List, refl}
-use Rattle.std.proofs.lemmas.List.{append-nil, length-take, take_all}
-use Rattle.monomial_order.specs.Monomial.{Exponents, exponent}
-use Rattle.word_rules.specs.declared.factor.Factor.{Factor}
-use Rattle.word_rules.specs.Factors.{factors_from, factors_of}
-use Rattle.word_rules.proofs.Factors.{factors_to}
+use Rattle.std.proofs.Common.{sym, ap, ◌∙◌, ◌++◌, take, arith}
+use Rattle.std.proofs.lemmas.List.{append-nil, take_all}
+use Rattle.monomial_order.specs.Monomial.{exponent}
+use Rattle.word_rules.specs.Factors.{factors_of}
+use Rattle.word_rules.proofs.Factors.{factor_here, factor_none, factors_to}
 use Rattle.word_rules.proofs.rule_side.list_factors.Goals as goal
 use Rattle.word_rules.proofs.rule_side.list_factors.Goals.{then-exponent-gt0+in_ok-push, else-exponent-gt0}
 
@@ -11,10 +10,15 @@ pub places-preserved : goal.places-preserved
 places-preserved c =
     let w = c.args.word.now in
     let n = c.places.letter in
+    let to = factors_to w n c.places-test.true in
     elim c.if-exponent-gt0.branch [
-      | then-exponent-gt0+in_ok-push b ↦ ?
-      | else-exponent-gt0 b ↦ ?
+      | then-exponent-gt0+in_ok-push b ↦
+          ap (λ v. v.items) b.factors-is ∙ (b.in_ok-push.ensures.items ∙ (ap (λ fs. fs ++ _) c.places.invariant
+          ∙ sym (to ∙ ap (λ fs. factors_of (take n w) ++ fs) (factor_here n (exponent w n) b.if-exponent-gt0.true))))
+      | else-exponent-gt0 b ↦
+          ap (λ v. v.items) b.factors-is ∙ (c.places.invariant
+          ∙ sym (to ∙ (ap (λ fs. factors_of (take n w) ++ fs) (factor_none n (exponent w n) b.if-exponent-gt0.false) ∙ append-nil (factors_of (take n w)))))
     ]
 
 pub returns : goal.returns
-returns c = ?
+returns c = c.places.invariant ∙ ap factors_of (take_all c.args.word.now c.places.letter c.places-test.false)
