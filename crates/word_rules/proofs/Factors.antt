@@ -136,3 +136,20 @@ factor_here n (suc e) l = refl
 pub factor_none : (n e : ℕ) → e ≤ 0 → factors_from n (e ∷ []) ≡ []
 factor_none n zero l = refl
 factor_none n (suc e) l = absurd (omega arith)
+
+-- the letters rise
+rising_from : (k : ℕ) (w : Exponents) (i j : ℕ) (d : Factor) → i < j → j < length (factors_from k w) → (get_or (factors_from k w) i d).letter < (get_or (factors_from k w) j d).letter
+rising_from k [] i j d lt l = absurd (omega arith)
+rising_from k (zero ∷ w) i j d lt l = rising_from (suc k) w i j d lt l
+rising_from k (suc e ∷ w) i zero d lt l = absurd (omega arith)
+rising_from k (suc e ∷ w) zero (suc j) d lt l =
+    let m = member_exponent (suc k) w (get_or (factors_from (suc k) w) j d) (contains_at (factors_from (suc k) w) j d (omega arith)) in
+    let q = m.1 in omega (arith, q)
+rising_from k (suc e ∷ w) (suc i) (suc j) d lt l = rising_from (suc k) w i j d (omega arith) (omega arith)
+
+pub rising : (w : Exponents) (i j : ℕ) (d : Factor) → i < j → j < length (factors_of w) → (get_or (factors_of w) i d).letter < (get_or (factors_of w) j d).letter
+rising w i j d lt l = rising_from 0 w i j d lt l
+
+-- the letter of a member is one of the word
+pub letter_of : (w : Exponents) (f : Factor) → Contains (factors_of w) f → exponent w f.letter ≢ 0
+letter_of w f h = (letters_are w f.letter).0 (contains_map (λ (g : Factor). g.letter) (factors_of w) f h)

@@ -9,3 +9,4 @@ pub mod Shared
 pub mod Trimming
 pub mod PairForms
 pub mod FactorDegrees
+pub mod Scratching

@@ -51,7 +51,14 @@ impl ScratchWord {
         self.letters.as_slice()
     }
 
-    /// Replaces the exponent of a letter by another one that is not 0.
+    fn exponent(&self, letter: usize) -> u16
+        requires { letter < length self.now }
+        ensures { result ≡ exponent self.now letter }
+    {
+        self.exponents[letter]
+    }
+
+    /// Replaces the exponent of a letter.
     fn set_exponent(&mut self, letter: usize, e: u16) -> Result<(), Memory>
         requires inside { letter < length self.old }
         ensures long { length self.new ≡ length self.old }
@@ -89,7 +96,7 @@ impl ScratchWord {
             ((p : ℕ) → exponent self.new p ≡ exponent self.old p + exponent by.now p) }
     {
         'letters: for factor in by.factors() {
-            let exponent = self.exponents[factor.letter] + factor.exponent;
+            let exponent = self.exponent(factor.letter) + factor.exponent;
             self.set_exponent(factor.letter, exponent)?;
         }
         Ok(())
@@ -103,9 +110,8 @@ impl ScratchWord {
             ((p : ℕ) → exponent self.new p ≡ max (exponent self.old p) (exponent by.now p)) }
     {
         'letters: for factor in by.factors() {
-            if self.exponents[factor.letter] < factor.exponent {
-                self.set_exponent(factor.letter, factor.exponent)?;
-            }
+            let exponent = self.exponent(factor.letter).max(factor.exponent);
+            self.set_exponent(factor.letter, exponent)?;
         }
         Ok(())
     }
@@ -151,6 +157,7 @@ impl ScratchWord {
     pub(crate) fn to_monomial(&self, alloc: Global) -> Result<Monomial, Memory>
         ensures { IfOk result (λ m. m ≡ trim self.now) }
     {
-        Monomial::from_places(alloc, self.exponents.as_slice())
+        let word = Monomial::from_places(alloc, self.exponents.as_slice())?;
+        Ok(word)
     }
 }

@@ -1,4 +1,4 @@
-use Rattle.std.proofs.Common.{sym, ap, ◌∙◌, ◌++◌, take, arith}
+use Rattle.std.proofs.Common.{sym, ap, ◌∙◌, ◌++◌, ◌∷◌, [], take, arith}
 use Rattle.std.proofs.lemmas.List.{append-nil, take_all}
 use Rattle.monomial_order.specs.Monomial.{exponent}
 use Rattle.word_rules.specs.Factors.{factors_of}
@@ -13,7 +13,7 @@ places-preserved c =
     let to = factors_to w n c.places-test.true in
     elim c.if-exponent-gt0.branch [
       | then-exponent-gt0+in_ok-push b ↦
-          ap (λ v. v.items) b.factors-is ∙ (b.in_ok-push.ensures.items ∙ (ap (λ fs. fs ++ _) c.places.invariant
+          ap (λ v. v.items) b.factors-is ∙ (b.in_ok-push.ensures.items ∙ (ap (λ fs. fs ++ record { letter = n; exponent = exponent w n } ∷ []) c.places.invariant
           ∙ sym (to ∙ ap (λ fs. factors_of (take n w) ++ fs) (factor_here n (exponent w n) b.if-exponent-gt0.true))))
       | else-exponent-gt0 b ↦
           ap (λ v. v.items) b.factors-is ∙ (c.places.invariant
@@ -21,4 +21,4 @@ places-preserved c =
     ]
 
 pub returns : goal.returns
-returns c = c.places.invariant ∙ ap factors_of (take_all c.args.word.now c.places.letter c.places-test.false)
+returns c = c.places.invariant ∙ ap factors_of (take_all c.places.letter c.args.word.now c.places-test.false)
