@@ -1,13 +1,17 @@
 //! The letters of words.
-ghost use Rattle.std.specs.Prelude.{◌≡◌, true, IfOk};
-ghost use Rattle.monomial_order.specs.Limits.{degree_max};
+ghost use Rattle.std.specs.Prelude.{◌≡◌, ◌≤◌, ◌<◌, true, length, IfOk};
+ghost use Rattle.monomial_order.specs.Limits.{degree_max, exponent_max};
+ghost use Rattle.monomial_order.specs.Monomial.{least_common_multiple};
 ghost use Rattle.monomial_order.specs.Ranges.{all_between};
-ghost use Rattle.toric_ideal.specs.Alphabet.{IsAlphabet};
+ghost use Rattle.word_laws.specs.Words.{word_order_of};
+ghost use Rattle.word_rules.specs.Rules.{rule_at};
+ghost use Rattle.toric_ideal.specs.Alphabet.{letters_of, IsAlphabet};
 ghost use Rattle.toric_ideal.specs.Leads.{AreLetterLeads};
 
 use crate::copies::copy_monomials;
 use monomial_order::{Memory, Monomial, Order, WordOrder};
 use std::alloc::Global;
+use word_rules::RuleTable;
 
 /// The letters x_1, .., x_n, and s_1, .., s_r for the leads. Each s has the degree of its lead.
 #[derive(Drop)]
@@ -44,5 +48,19 @@ impl Alphabet {
     {
         let leads = copy_monomials(alloc, self.leads.as_slice())?;
         Alphabet::new(alloc, self.order.x_degrees.as_slice(), leads)
+    }
+
+    /// The degree of the least common multiple of the left sides of two rules.
+    pub(crate) fn lcm_degree(&self, table: &RuleTable, i: usize, j: usize) -> u32
+        requires alphabet { IsAlphabet self.now }
+        requires first { i < length table.now }
+        requires second { j < length table.now }
+        requires small { (word_order_of (letters_of self.now)).degree
+            (least_common_multiple (rule_at table.now i).left (rule_at table.now j).left) ≤ exponent_max }
+        ensures { result ≡ (word_order_of (letters_of self.now)).degree
+            (least_common_multiple (rule_at table.now i).left (rule_at table.now j).left) }
+    {
+        let x_degrees = self.order.x_degrees.as_slice();
+        table.lcm_degree(x_degrees, self.order.s_degrees.as_slice(), i, j)
     }
 }

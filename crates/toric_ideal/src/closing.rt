@@ -1,5 +1,5 @@
 //! Whether the rules divide every reducible word.
-ghost use Rattle.std.specs.Prelude.{◌≡◌, ◌↔◌, ◌≤◌, ◌<◌, ℕ, true, false, length, IsOk, IfOk, OnErr, IsTrue};
+ghost use Rattle.std.specs.Prelude.{◌≡◌, ◌≤◌, ◌<◌, ℕ, true, false, length, IsOk, IfOk, OnErr};
 ghost use Rattle.word_laws.specs.Words.{word_order_of};
 ghost use Rattle.toric_ideal.specs.Alphabet.{letters_of, IsAlphabet};
 ghost use Rattle.toric_ideal.specs.Closing.{closing_max, with_closed, CanClose, HasMissedWord, IsPairJoined, JoinsPairsOf, ShowsMissedWord};
@@ -8,20 +8,9 @@ ghost use Rattle.toric_ideal.specs.State.{listing_of, IsSound};
 
 use crate::alphabet::Alphabet;
 use crate::completion::Completion;
-use monomial_order::{Memory, Monomial, Order};
+use monomial_order::{Memory, Monomial};
 use std::alloc::Global;
 use word_rules::RuleTable;
-
-/// Whether the words, or zeros, are the same.
-fn are_same(u: &Option<Monomial>, v: &Option<Monomial>) -> bool
-    ensures { IsTrue result ↔ (u.now ≡ v.now) }
-{
-    match (u, v) {
-        (None, None) => true,
-        (Some(u), Some(v)) => u == v,
-        _ => false,
-    }
-}
 
 /// Whether the pair of two rules is joined, if its degree is above c.
 fn is_joined(
@@ -40,12 +29,11 @@ fn is_joined(
     ensures yes { IfOk result (λ r. r ≡ true → IsPairJoined (word_order_of (letters_of alphabet.now)) c table.now i j) }
     ensures no { IfOk result (λ r. r ≡ false → ShowsMissedWord (letters_of alphabet.now) zeros.now table.now) }
 {
-    let degree = alphabet.order.degree(&table.lcm(alloc, i, j)?);
-    if degree <= c {
+    if alphabet.lcm_degree(table, i, j) <= c {
         return Ok(true);
     }
-    let (u, v) = table.pair_normal_forms(alloc, &alphabet.order, i, j)?;
-    Ok(are_same(&u, &v))
+    let forms = table.different_forms(alloc, &alphabet.order, i, j)?;
+    Ok(forms.is_none())
 }
 
 /// Whether the pairs of a rule with those before it are joined.

@@ -77,7 +77,9 @@ pub(crate) fn join_pair(
     ensures growing { OnOk result (IsGrowing (letters_of alphabet.now) zeros.now c first table.new) }
     ensures joined { OnOk result (HasJoinablePair table.new (rule_at table.old i) (rule_at table.old j)) }
 {
-    let (u, v) = table.pair_normal_forms(alloc, &alphabet.order, i, j)?;
+    let Some((u, v)) = table.different_forms(alloc, &alphabet.order, i, j)? else {
+        return Ok(());
+    };
     if let Some(rule) = oriented(&alphabet.order, u, v) {
         table.push(alloc, rule.word, rule.least)?;
     }

@@ -8,14 +8,13 @@ ghost use Rattle.toric_ideal.specs.Step.{AreSmallWords};
 use crate::alphabet::Alphabet;
 use crate::index_pair::IndexPair;
 use degree_queue::{DEGREE_MAX, DegreeQueue};
-use monomial_order::{Memory, Order};
+use monomial_order::Memory;
 use std::alloc::Global;
 use word_rules::RuleTable;
 
 /// Puts the pair of two rules into the queue, if its degree is above c and at most the greatest one, and the rules do
 /// not both go to zero.
 fn queue_pair(
-    alloc: Global,
     alphabet: &Alphabet,
     c: u32,
     table: &RuleTable,
@@ -32,7 +31,7 @@ fn queue_pair(
     if table.right(i).is_none() && table.right(j).is_none() {
         return Ok(());
     }
-    let degree = alphabet.order.degree(&table.lcm(alloc, i, j)?);
+    let degree = alphabet.lcm_degree(table, i, j);
     if degree <= c || degree > DEGREE_MAX {
         return Ok(());
     }
@@ -65,7 +64,7 @@ fn queue_pairs_of(
 {
     let sharing = table.sharing(alloc, j)?;
     'sharing: for i in &sharing {
-        queue_pair(alloc, alphabet, c, table, pairs, *i, j)?;
+        queue_pair(alphabet, c, table, pairs, *i, j)?;
     }
     Ok(())
 }

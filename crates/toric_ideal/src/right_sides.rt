@@ -8,7 +8,7 @@ ghost use Rattle.toric_ideal.specs.Step.{AreSmallRules, IsCleaned, IsRewrittenAt
 use crate::alphabet::Alphabet;
 use monomial_order::{Memory, Monomial};
 use std::alloc::Global;
-use word_rules::RuleTable;
+use word_rules::{RuleSide, RuleTable};
 
 /// The normal form of a right side.
 fn right_form(
@@ -29,6 +29,16 @@ fn right_form(
     }
 }
 
+/// A word as a right side, or none.
+fn right_side(alloc: Global, word: Option<Monomial>) -> Result<Option<RuleSide>, Memory>
+    ensures { IfOk result (λ s. s ≡ word) }
+{
+    match word {
+        Some(word) => Ok(Some(RuleSide::new(alloc, word)?)),
+        None => Ok(None),
+    }
+}
+
 /// Rewrites one right side.
 fn rewrite_right_side(
     alloc: Global,
@@ -44,7 +54,7 @@ fn rewrite_right_side(
     ensures err { OnErr result (table.new ≡ table.old) }
 {
     let rewritten = right_form(alloc, alphabet, zeros, table, i)?;
-    table.set_right(i, rewritten);
+    table.set_right(i, right_side(alloc, rewritten)?);
     Ok(())
 }
 

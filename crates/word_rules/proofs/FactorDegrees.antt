@@ -26,10 +26,11 @@ first_place vs us k zero v a w h g = let z : v * (0 - a) ≡ v * 0 = ap (λ x. v
     none a = omega arith
 first_place vs us k (suc e) v a w h g =
     sum_by-cons (added_by vs us) (record { letter = k; exponent = suc e }) (factors_from (suc k) w)
-        ∙ ap (λ x. x + rest) same
+    ∙ ap (λ x. x + rest) same
   where
     rest : ℕ
     rest = sum_by (added_by vs us) (factors_from (suc k) w)
+
     same : get_or vs k 0 * (suc e - get_or us k 0) ≡ v * (suc e - a)
     same = ap (λ x. x * (suc e - get_or us k 0)) h ∙ ap (λ x. v * (suc e - x)) g
 
@@ -44,7 +45,7 @@ here xs ys k h = let i : k ≡ k + 0 = omega arith in ap (λ i. get_or xs i 0) i
 -- ws and o are the parts of all weights and of all exponents from the place k on
 sum_from : (vs us ws o w : List ℕ) (k : ℕ) → ((p : ℕ) → get_or vs (k + p) 0 ≡ get_or ws p 0) →
     ((p : ℕ) → get_or us (k + p) 0 ≡ get_or o p 0) → weighted_degree ws o
-        + sum_by (added_by vs us) (factors_from k w) ≡ weighted_degree ws (least_common_multiple o w)
+    + sum_by (added_by vs us) (factors_from k w) ≡ weighted_degree ws (least_common_multiple o w)
 sum_from vs us ws [] [] k h g = omega arith
 sum_from vs us ws (a ∷ o) [] k h g = omega arith
 sum_from vs us [] [] (e ∷ w) k h g =

@@ -1,11 +1,11 @@
 -- Words by their letters, one after the other.
-use Rattle.std.proofs.Common.{◌≡◌, ◌≢◌, ℕ, zero, suc, ◌+◌, ◌≤◌, ◌<◌, refl, sym, ◌∙◌, ap, subst, List, [], ◌∷◌, ◌++◌, length, arith, get_or, take, drop, ⊎_elim}
+use Rattle.std.proofs.Common.{◌≡◌, ◌≢◌, ℕ, zero, suc, ◌+◌, ◌≤◌, ◌<◌, refl, sym, ◌∙◌, ap, subst, List, [], ◌∷◌, ◌++◌, length, arith, get_or, take, ⊎_elim}
 use Rattle.std.specs.Prelude.{Contains}
 use Rattle.std.proofs.lemmas.List.{length-take}
 use Rattle.monomial_order.specs.Monomial.{Exponents, exponent, Divides}
 use Rattle.monomial_order.specs.laws.Comparing.{le_or_not, numbers_or_not}
 use Rattle.monomial_order.specs.laws.Monomial.{exponent_past}
-use Rattle.monomial_order.specs.laws.Lists.{contains_at, contains_cases, contains_here, contains_map, contains_none, contains_there}
+use Rattle.monomial_order.specs.laws.Lists.{contains_at, contains_cases, contains_map, contains_none}
 use Rattle.word_rules.specs.declared.factor.Factor.{Factor}
 use Rattle.word_rules.specs.Factors.{factors_from, factors_of}
 use Rattle.word_rules.proofs.LetterLists.{factor_of, letters_are}

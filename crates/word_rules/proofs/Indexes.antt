@@ -1,5 +1,5 @@
 -- The index of a table, when the table changes.
-use Rattle.std.proofs.Common.{◌≡◌, ◌≢◌, ℕ, suc, ◌<◌, refl, sym, ◌∙◌, subst, List, [], ◌∷◌, ◌++◌, length, arith, take, ⊎_elim}
+use Rattle.std.proofs.Common.{◌≡◌, ◌≢◌, ℕ, suc, ◌<◌, refl, sym, subst, List, [], ◌∷◌, ◌++◌, length, arith, take, ⊎_elim}
 use Rattle.std.specs.Prelude.{Contains}
 use Rattle.std.proofs.lemmas.List.{get_or-take, get_or_append_left, get_or_push, length-map, length_push, length-take, map-append, take-map}
 use Rattle.monomial_order.specs.Monomial.{Exponents, exponent}

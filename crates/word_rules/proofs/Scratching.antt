@@ -8,7 +8,7 @@ use Rattle.monomial_order.specs.laws.Lists.{contains_at, contains_either, contai
 use Rattle.word_rules.specs.declared.factor.Factor.{Factor}
 use Rattle.word_rules.specs.Factors.{factors_of}
 use Rattle.word_rules.specs.Scratch.{IsListed}
-use Rattle.word_rules.proofs.Factors.{at, at_here, at_other, exponent_of, exponent_of_word, factors_divide, has_exponent, letter_inside, take_more, take_part, take_whole}
+use Rattle.word_rules.proofs.Factors.{at_here, at_other, exponent_of, exponent_of_word, has_exponent, letter_inside, take_more, take_part, take_whole}
 
 -- one exponent is replaced
 pub listed_set : (es ls : List ℕ) (a e : ℕ) → a < length es → IsListed es ls → (e ≢ 0 → Contains ls a) → IsListed (set es a e) ls
@@ -27,6 +27,7 @@ listed_pushed es ls a l x = record {
 
 pub last_listed : (ls : List ℕ) (a : ℕ) → Contains (ls ++ a ∷ []) a
 last_listed ls a = contains_right ls (a ∷ []) a (contains_here a [])
+
 -- a word that is raised to the first n letters
 pub record IsRaised (fs : List Factor) (n : ℕ) (start by word : List ℕ) : Type 0 where
   pub long : length word ≡ length start

@@ -14,7 +14,11 @@ fn letter_degree(x_degrees: &[u32], s_degrees: &[u32], letter: usize) -> u32
         return x_degrees[letter];
     }
     let place = letter - x_degrees.len();
-    if place < s_degrees.len() { s_degrees[place] } else { 0 }
+    if place < s_degrees.len() {
+        s_degrees[place]
+    } else {
+        0
+    }
 }
 
 /// The exponent of a letter in a word.
@@ -33,7 +37,9 @@ fn added_degree(x_degrees: &[u32], s_degrees: &[u32], word: &RuleSide, other: &[
 {
     let mut sum = 0;
     'letters: for factor in word.factors() {
-        let excess = factor.exponent.saturating_sub(exponent_of(other, factor.letter));
+        let excess = factor
+            .exponent
+            .saturating_sub(exponent_of(other, factor.letter));
         sum += letter_degree(x_degrees, s_degrees, factor.letter) * u32::from(excess);
     }
     sum
@@ -50,6 +56,11 @@ impl RuleTable {
             (least_common_multiple (rule_at self.now i).left (rule_at self.now j).left) }
     {
         added_degree(x_degrees, s_degrees, self.left_side(i), &[])
-            + added_degree(x_degrees, s_degrees, self.left_side(j), self.left(i).as_slice())
+            + added_degree(
+                x_degrees,
+                s_degrees,
+                self.left_side(j),
+                self.left(i).as_slice(),
+            )
     }
 }

@@ -87,7 +87,13 @@ impl RuleTable {
     }
 
     /// The least common multiple of two left sides.
-    fn multiple(&self, alloc: Global, places: usize, i: usize, j: usize) -> Result<ScratchWord, Memory>
+    fn multiple(
+        &self,
+        alloc: Global,
+        places: usize,
+        i: usize,
+        j: usize,
+    ) -> Result<ScratchWord, Memory>
         requires first { i < length self.now }
         requires second { j < length self.now }
         requires short { length (rule_at self.now i).left ≤ places }

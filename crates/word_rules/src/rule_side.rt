@@ -61,6 +61,12 @@ impl RuleSide {
         &self.word
     }
 
+    pub fn into_word(self) -> Monomial
+        ensures { result ≡ self }
+    {
+        self.word
+    }
+
     /// Its letters, rising, each with its exponent.
     pub(crate) fn factors(&self) -> &[Factor]
         ensures same { result.now ≡ factors_of self.now }

@@ -10,15 +10,15 @@ use Rattle.toric_ideal.proofs.LetterLemmas.{alphabet_letters, alphabet_order}
 use Rattle.toric_ideal.proofs.DegreeRules.{growing_decreasing, pair_small, first_small, second_small, pair_same, pair_left, pair_pushed, pair_joined}
 use Rattle.toric_ideal.proofs.degree_step.join_pair.Goals as goal
 
-pub pair_normal_forms-requires-clause-decreasing : goal.pair_normal_forms-requires-clause-decreasing
-pair_normal_forms-requires-clause-decreasing c =
+pub different_forms-requires-clause-decreasing : goal.different_forms-requires-clause-decreasing
+different_forms-requires-clause-decreasing c =
     let a = c.args.alphabet.now in
     let H = alphabet_letters a c.requires.alphabet in
     subst (λ O. AreDecreasing O c.args.table.now) (sym (alphabet_order a c.requires.alphabet))
     (growing_decreasing (letters_of a) H c.args.zeros.now c.requires.zeros c.args.c c.args.first c.args.table.now c.requires.growing)
 
-pub pair_normal_forms-requires-clause-small : goal.pair_normal_forms-requires-clause-small
-pair_normal_forms-requires-clause-small c =
+pub different_forms-requires-clause-small : goal.different_forms-requires-clause-small
+different_forms-requires-clause-small c =
     let a = c.args.alphabet.now in
     let H = alphabet_letters a c.requires.alphabet in
     subst (λ O. IsSmallWord O (least_common_multiple (rule_at c.args.table.now c.args.i).left (rule_at c.args.table.now c.args.j).left)) (sym (alphabet_order a c.requires.alphabet))

@@ -11,7 +11,7 @@ use Rattle.word_rules.proofs.degrees.added_degree.Goals as goal
 -- with the next letter, the sum is that of one letter more
 more : (c : goal.After-from) → c.letters.sum + c.letter_degree.result * c.from.result
     ≡ sum_by (added_by (c.args.x_degrees.now ++ c.args.s_degrees.now) c.args.other.now)
-        (take (c.letters.factor-index + 1) c.factors-factor-items.result.now)
+    (take (c.letters.factor-index + 1) c.factors-factor-items.result.now)
 more c =
     let ws = c.args.x_degrees.now ++ c.args.s_degrees.now in
     let o = c.args.other.now in
@@ -19,11 +19,11 @@ more c =
     let i = c.letters.factor-index in
     let f = get_or items i (record { letter = 0; exponent = 0 }) in
     let excess : c.from.result ≡ f.exponent - exponent o f.letter =
-        c.from.ensures ∙ (c.saturating_sub-excess.ensures ∙ ap (λ x. f.exponent - x) c.exponent_of.ensures) in
+    c.from.ensures ∙ (c.saturating_sub-excess.ensures ∙ ap (λ x. f.exponent - x) c.exponent_of.ensures) in
     let product : c.letter_degree.result * c.from.result ≡ added_by ws o f =
-        ap (λ x. x * c.from.result) c.letter_degree.ensures ∙ ap (λ x. get_or ws f.letter 0 * x) excess in
+    ap (λ x. x * c.from.result) c.letter_degree.ensures ∙ ap (λ x. get_or ws f.letter 0 * x) excess in
     ap (λ x. c.letters.sum + x) product ∙ (ap (λ x. x + added_by ws o f) c.letters.invariant
-        ∙ sym (sum_by_more (added_by ws o) items i (record { letter = 0; exponent = 0 }) c.letters-test.true))
+    ∙ sym (sum_by_more (added_by ws o) items i (record { letter = 0; exponent = 0 }) c.letters-test.true))
 
 -- it is at most the degree of the least common multiple
 whole : (c : goal.After-from) → c.letters.sum + c.letter_degree.result * c.from.result ≤ exponent_max
@@ -55,5 +55,5 @@ returns c =
     let F = added_by ws o in
     let items_are = take_all c.letters.factor-index items c.letters-test.false ∙ c.factors-factor-items.ensures.same in
     let all : c.letters.sum ≡ sum_by F (factors_of c.args.word.now) =
-        c.letters.invariant ∙ ap (sum_by F) items_are in
+    c.letters.invariant ∙ ap (sum_by F) items_are in
     ap (λ x. weighted_degree ws o + x) all ∙ sum_of_factors ws o c.args.word.now

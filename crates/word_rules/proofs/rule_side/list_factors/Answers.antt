@@ -1,4 +1,4 @@
-use Rattle.std.proofs.Common.{sym, ap, ◌∙◌, ◌++◌, ◌∷◌, [], take, arith}
+use Rattle.std.proofs.Common.{sym, ap, ◌∙◌, ◌++◌, ◌∷◌, [], take}
 use Rattle.std.proofs.lemmas.List.{append-nil, take_all}
 use Rattle.monomial_order.specs.Monomial.{exponent}
 use Rattle.word_rules.specs.Factors.{factors_of}

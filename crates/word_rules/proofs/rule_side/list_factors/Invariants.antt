@@ -1,4 +1,4 @@
-use Rattle.std.proofs.Common.{◌≡◌, ◌≤◌, length, take}
+use Rattle.std.proofs.Common.{◌≡◌, take}
 use Rattle.word_rules.specs.Factors.{factors_of}
 use Rattle.word_rules.proofs.rule_side.list_factors.Given as goal
 

@@ -1,4 +1,4 @@
-use Rattle.std.proofs.Common.{◌≡◌, ◌≢◌, ◌-◌, ◌<◌, ◌≤◌, ℕ, zero, suc, List, [], ◌∷◌, length, arith, get_or, subst, sym, refl}
+use Rattle.std.proofs.Common.{◌≡◌, ◌≢◌, ◌-◌, ◌<◌, ℕ, List, [], ◌∷◌, length, arith, get_or, subst, sym, refl}
 use Rattle.std.specs.Prelude.{Contains}
 use Rattle.monomial_order.specs.Monomial.{Exponents, exponent}
 use Rattle.monomial_order.specs.laws.Lists.{contains_at}

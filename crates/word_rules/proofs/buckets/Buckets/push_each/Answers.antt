@@ -1,4 +1,4 @@
-use Rattle.std.proofs.Common.{◌≡◌, get_or, subst, below_more, arith, ◌∙◌}
+use Rattle.std.proofs.Common.{◌≡◌, get_or, subst, below_more, arith}
 use Rattle.std.specs.Prelude.{Contains}
 use Rattle.std.proofs.lemmas.List.{get_or_default}
 use Rattle.word_rules.specs.Index.{bucket}

@@ -1,4 +1,4 @@
-use Rattle.std.proofs.Common.{◌≡◌, ◌≤◌, ◌<◌, ap, sym, ◌∙◌, subst, length, get_or, below_more, arith, refl, true, false}
+use Rattle.std.proofs.Common.{◌≡◌, ◌≤◌, ap, sym, ◌∙◌, subst, get_or, below_more, arith, refl, true, false}
 use Rattle.std.specs.Prelude.{Contains}
 use Rattle.std.proofs.lemmas.List.{get_or_default}
 use Rattle.monomial_order.specs.Monomial.{exponent, Divides}
@@ -11,17 +11,17 @@ pub returns-then-exponent_in-factor : goal.returns-then-exponent_in-factor
 returns-then-exponent_in-factor c = (
   λ t. absurd (let e : false ≡ true = t in cc),
   λ d.
-    let w = c.self.inside.word in
-    let fs = c.as_slice-factor-items.result.now in
-    let k = c.letters.factor-index in
-    let f : Factor = get_or fs k (record { letter = 0; exponent = 0 }) in
-    let same = c.as_slice-factor-items.ensures.value ∙ c.self.invariant.listed in
-    let h = has_exponent w f (subst (λ gs. Contains gs f) same (contains_at fs k (record { letter = 0; exponent = 0 }) c.letters-test.true)) in
-    let v = ap (λ m. exponent m f.letter) c.self.view_is in
-    let e = c.exponent_in.ensures in
-    let t = c.if-exponent_in-factor.true in
-    let q = d f.letter in
-    absurd (omega arith),
+      let w = c.self.inside.word in
+      let fs = c.as_slice-factor-items.result.now in
+      let k = c.letters.factor-index in
+      let f : Factor = get_or fs k (record { letter = 0; exponent = 0 }) in
+      let same = c.as_slice-factor-items.ensures.value ∙ c.self.invariant.listed in
+      let h = has_exponent w f (subst (λ gs. Contains gs f) same (contains_at fs k (record { letter = 0; exponent = 0 }) c.letters-test.true)) in
+      let v = ap (λ m. exponent m f.letter) c.self.view_is in
+      let e = c.exponent_in.ensures in
+      let t = c.if-exponent_in-factor.true in
+      let q = d f.letter in
+      absurd (omega arith),
 )
 
 pub letters-preserved : goal.letters-preserved

@@ -1,4 +1,4 @@
-use Rattle.std.proofs.Common.{subst, sym, ap, ◌∙◌, refl}
+use Rattle.std.proofs.Common.{subst, sym, ◌∙◌}
 use Rattle.monomial_order.specs.Monomial.{least_common_multiple}
 use Rattle.monomial_order.specs.laws.Monomial.{least_common_multiple_comm}
 use Rattle.word_rules.specs.Rules.{ArePairForms, IsFormAfter, IsSmallWord, rule_at}

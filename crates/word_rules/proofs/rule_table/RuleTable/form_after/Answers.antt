@@ -1,6 +1,6 @@
-use Rattle.std.proofs.Common.{◌≡◌, sym, ap, subst, length, arith, max, Some, None, ℕ}
+use Rattle.std.proofs.Common.{sym, subst, arith, Some, None}
 use Rattle.std.proofs.lemmas.Result.{IfOk-weaker}
-use Rattle.monomial_order.specs.Monomial.{Exponents, exponent, least_common_multiple}
+use Rattle.monomial_order.specs.Monomial.{least_common_multiple}
 use Rattle.word_rewriting.specs.Rewriting.{IsNormalForm, RewritesBy, stays}
 use Rattle.word_rules.specs.Rules.{IsFormAfter, IsSmallWord, rule_at}
 use Rattle.word_rules.specs.Trimmed.{trim, trimmed}

@@ -1,4 +1,4 @@
-use Rattle.std.proofs.Common.{◌≡◌, ◌<◌, ◌∙◌, ap, length, arith, sym}
+use Rattle.std.proofs.Common.{◌<◌, ◌∙◌, ap, length, arith}
 use Rattle.std.proofs.lemmas.List.{get_or_default}
 use Rattle.monomial_order.specs.Monomial.{exponent}
 use Rattle.word_rules.proofs.scratch.ScratchWord.exponent.Goals as goal

@@ -1,4 +1,4 @@
-use Rattle.std.proofs.Common.{ℕ, List, ◌≡◌, ◌≢◌, ◌-◌, ◌≤◌, ◌<◌, ◌∙◌, ap, refl, sym, subst, length, arith, get_or, set, vec_len, rules}
+use Rattle.std.proofs.Common.{ℕ, List, ◌≡◌, ◌-◌, ◌≤◌, ◌<◌, ◌∙◌, ap, refl, length, arith, get_or, set, vec_len, rules}
 use Rattle.std.proofs.lemmas.List.{get_or_default, get_or-set_other, get_or-set_same, length-set}
 use Rattle.monomial_order.specs.Monomial.{Exponents, exponent}
 use Rattle.word_rules.specs.declared.factor.Factor.{Factor}
@@ -32,7 +32,7 @@ overflow_sub-index_mut c =
     let q = c.requires.divides a in
     let v : exponent c.self.inside.exponents.items a ≡ exponent c.args.self.now a = ap (λ es. exponent es a) c.self.view_is in
     let value : c.index_mut.result.now ≡ exponent es a = c.index_mut.ensures.value ∙ get_or_default es a c.index_mut.result.now 0 (inside_of c.args.by.now c.args.self.now fs es
-        c.factors-factor-items.ensures.same c.letters.factor-index c.letters-test.true c.requires.short (c.letters.invariant.long ∙ ap length c.self.view_is)) in
+    c.factors-factor-items.ensures.same c.letters.factor-index c.letters-test.true c.requires.short (c.letters.invariant.long ∙ ap length c.self.view_is)) in
     omega arith
 
 pub letters-init : goal.letters-init

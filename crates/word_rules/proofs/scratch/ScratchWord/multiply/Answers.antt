@@ -1,4 +1,4 @@
-use Rattle.std.proofs.Common.{◌≡◌, ◌+◌, ◌∙◌, ap, refl, sym, length, arith, get_or}
+use Rattle.std.proofs.Common.{◌≡◌, ◌+◌, ◌∙◌, ap, refl, arith, get_or}
 use Rattle.monomial_order.specs.Monomial.{exponent}
 use Rattle.word_rules.specs.declared.factor.Factor.{Factor}
 use Rattle.word_rules.proofs.Scratching.{all_letters, multiplied_more, read_inside, read_within}
@@ -35,7 +35,7 @@ overflow_add-exponent c =
 -- the exponent of the letter grows
 grows : (c : goal.In_ok-set_exponent) → exponent c.set_exponent.new.self (get_or c.factors-factor-items.result.now c.letters.factor-index (record { letter = 0; exponent = 0 })).letter
     ≡ exponent c.letters.self (get_or c.factors-factor-items.result.now c.letters.factor-index (record { letter = 0; exponent = 0 })).letter
-      + (get_or c.factors-factor-items.result.now c.letters.factor-index (record { letter = 0; exponent = 0 })).exponent
+    + (get_or c.factors-factor-items.result.now c.letters.factor-index (record { letter = 0; exponent = 0 })).exponent
 grows c = c.in_ok-set_exponent.ensures.here ∙ ap (λ x. x + (get_or c.factors-factor-items.result.now c.letters.factor-index (record { letter = 0; exponent = 0 })).exponent) c.exponent.ensures
 
 pub letters-preserved : goal.letters-preserved

@@ -1,4 +1,4 @@
-use Rattle.std.proofs.Common.{◌≡◌, ◌≢◌, ◌<◌, ℕ, length, set, sym, ◌∙◌, ap, subst, arith, get_or, ◌++◌, ◌∷◌, []}
+use Rattle.std.proofs.Common.{◌≡◌, ◌<◌, length, sym, ◌∙◌, ap, subst, arith, get_or}
 use Rattle.std.specs.Prelude.{Contains}
 use Rattle.std.proofs.lemmas.List.{get_or_default, get_or-set_other}
 use Rattle.monomial_order.specs.Monomial.{exponent}
@@ -19,15 +19,17 @@ ready c =
     let inside : a < length es = let e = ap length c.self.view_is in let l = c.requires in omega arith in
     elim c.if-index-eq0.branch [
       | then-index-eq0+in_ok-push b ↦
-          let items = ap (λ s. s.letters.items) b.self-inside-is ∙ b.in_ok-push.ensures.items in
-          (ap (λ s. s.exponents) b.self-inside-is,
-           subst (IsListed es) (sym items) (listed_pushed es c.self.inside.letters.items a inside c.self.invariant),
-           subst (λ ls. Contains ls a) (sym items) (last_listed c.self.inside.letters.items a))
+          let items = ap (λ s. s.letters.items) b.self-inside-is ∙ b.in_ok-push.ensures.items in (
+            ap (λ s. s.exponents) b.self-inside-is,
+            subst (IsListed es) (sym items) (listed_pushed es c.self.inside.letters.items a inside c.self.invariant),
+            subst (λ ls. Contains ls a) (sym items) (last_listed c.self.inside.letters.items a),
+          )
       | else-index-eq0 b ↦
-          let items = ap (λ s. s.letters.items) b.self-inside-is in
-          (ap (λ s. s.exponents) b.self-inside-is,
-           subst (IsListed es) (sym items) c.self.invariant,
-           subst (λ ls. Contains ls a) (sym items) (c.self.invariant.all a (λ z. b.if-index-eq0.false (c.index.ensures ∙ (get_or_default es a c.index.result.now 0 inside ∙ z)))))
+          let items = ap (λ s. s.letters.items) b.self-inside-is in (
+            ap (λ s. s.exponents) b.self-inside-is,
+            subst (IsListed es) (sym items) c.self.invariant,
+            subst (λ ls. Contains ls a) (sym items) (c.self.invariant.all a (λ z. b.if-index-eq0.false (c.index.ensures ∙ (get_or_default es a c.index.result.now 0 inside ∙ z)))),
+          )
     ]
 
 pub invariant_of-self-2 : goal.invariant_of-self-2

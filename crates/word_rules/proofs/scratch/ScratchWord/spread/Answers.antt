@@ -1,4 +1,4 @@
-use Rattle.std.proofs.Common.{◌≡◌, ◌∙◌, ◌+◌, ◌≤◌, ap, sym, subst, length, arith, replicate, ⊎_elim}
+use Rattle.std.proofs.Common.{◌∙◌, ◌+◌, ◌≤◌, ap, sym, subst, length, arith, ⊎_elim}
 use Rattle.std.proofs.lemmas.List.{length-replicate}
 use Rattle.monomial_order.specs.Monomial.{exponent}
 use Rattle.monomial_order.specs.laws.Monomial.{exponent_past}

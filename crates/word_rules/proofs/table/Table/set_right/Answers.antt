@@ -1,6 +1,6 @@
 use Rattle.std.proofs.Common.{refl, sym, ◌∙◌, ap, subst, [], set}
 use Rattle.std.proofs.lemmas.List.{map-set}
-use Rattle.word_rules.specs.Index.{IsIndexFor, lefts_of, rule_of, rules_of}
+use Rattle.word_rules.specs.Index.{IsIndexFor, rule_of, rules_of}
 use Rattle.word_rules.specs.declared.word_rule.WordRule.{WordRule}
 use Rattle.word_rules.specs.Rules.{no_rule}
 use Rattle.word_rules.proofs.Listing.{at_read, map_same}

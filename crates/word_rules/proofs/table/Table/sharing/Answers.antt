@@ -1,5 +1,5 @@
-use Rattle.std.proofs.Common.{ℕ, List, ◌≡◌, ◌<◌, ◌≤◌, [], get_or, length, sym, ◌∙◌, subst, ap}
-use Rattle.std.proofs.lemmas.List.{get_or_default, length-map}
+use Rattle.std.proofs.Common.{ℕ, List, ◌≡◌, ◌<◌, ◌≤◌, [], get_or, length, sym, subst}
+use Rattle.std.proofs.lemmas.List.{length-map}
 use Rattle.word_rules.specs.Index.{lefts_of, list_at}
 use Rattle.word_rules.specs.Factors.{factors_of}
 use Rattle.word_rules.specs.declared.factor.Factor.{Factor}
