@@ -1,20 +1,20 @@
 -- Right sides that become a letter, one after the other.
-use Rattle.std.proofs.Common.{◌≡◌, ◌≢◌, ℕ, ◌+◌, ◌<◌, refl, sym, ◌∙◌, ap, subst, List, [], ◌∷◌, ◌++◌, length, set, get_or, length-append, arith, ◌⊎◌, inl, inr, ⊎_elim, Some}
+use Rattle.std.proofs.Common.{◌≡◌, ◌≢◌, ℕ, ◌+◌, ◌<◌, refl, sym, ◌∙◌, ap, subst, List, [], ◌∷◌, ◌++◌, length, set, get_or, length-append, arith, inl, inr, ⊎_elim, Some}
+use mathlib.Core.List.{append_assoc}
 use Rattle.std.specs.Prelude.{Contains}
 use Rattle.std.proofs.lemmas.List.{get_or-set_same, get_or-set_other, get_or_default, length-map, length-set}
 use Rattle.std.proofs.Math.ListN.{get_or-append, get_or-map}
 use Rattle.std.proofs.Math.Seq.{get_or-append_seam}
 use Rattle.monomial_order.specs.Monomial.{Exponents}
 use Rattle.monomial_order.specs.laws.Comparing.{numbers_or_not}
-use Rattle.monomial_order.specs.laws.Lists.{contains_at, contains_cases, contains_either, contains_here, contains_left, contains_none, contains_right}
+use Rattle.monomial_order.specs.laws.Lists.{contains_at, contains_cases, contains_either, contains_here, contains_left, contains_none, contains_right, contains_there}
 use Rattle.word_rewriting.specs.Rewriting.{RewriteRule}
 use Rattle.word_rules.specs.Rules.{no_rule, rule_at}
 use Rattle.toric_ideal.specs.declared.renaming.Renaming.{Renaming}
 use Rattle.toric_ideal.specs.declared.rule.Rule.{Rule}
-use Rattle.toric_ideal.specs.Renaming.{lead_rule, IsRenamedRule, AreRenamed, IsRenaming, AreRenamings}
+use Rattle.toric_ideal.specs.Renaming.{lead_rule, IsRenamedRule, AreRenamed, IsRenaming, AreRenamings, AreSetBy, AreWithin}
 use Rattle.toric_ideal.specs.Rewriting.{rewrite_rule, rewrite_rules}
 use Rattle.toric_ideal.proofs.Cleaning.{rule_index}
-use Rattle.toric_ideal.specs.Step.{KeepsLefts}
 
 module _ (w letter : Exponents) (R : List RewriteRule) where
   pub renamings_none : AreRenamings w letter R 0 []
@@ -33,64 +33,57 @@ module _ (w letter : Exponents) (R : List RewriteRule) where
         (λ n. let y = h.all k (omega (arith, n)) t in (y.0, contains_left list (x ∷ []) y.0 y.1, y.2)) (numbers_or_not k i);
   }
 
-  -- T is R with some right sides renamed, and the list has the others
-  pub record IsPartlyRenamed (T : List RewriteRule) (list : List Renaming) : Type 0 where
-    pub number : length T ≡ length R
-    pub each : (x : Renaming) → Contains list x → IsRenaming w letter R x
-    pub lefts : KeepsLefts R T
-    pub rights : (k : ℕ) → k < length R →
-        (((rule_at T k).right ≡ (rule_at R k).right) × ((rule_at R k).right ≡ Some w → (x : Renaming) × Contains list x × (x.index ≡ k))) ⊎
-        (((rule_at R k).right ≡ Some w) × ((rule_at T k).right ≡ Some letter))
+  pub renamings_within : (list : List Renaming) → AreRenamings w letter R (length R) list → AreWithin (length R) list
+  renamings_within list h x c = (h.each x c).within
 
-  pub partly_start : (list : List Renaming) → AreRenamings w letter R (length R) list → IsPartlyRenamed R list
-  partly_start list h = record { number = refl; each = h.each; lefts = λ k. refl; rights = λ k l. inl (refl, λ e. h.all k l e) }
-
-  pub partly_end : (T : List RewriteRule) → IsPartlyRenamed T [] → AreRenamed w letter R T
-  partly_end T h = record {
-    number = h.number;
+  pub set_renamed : (list : List Renaming) (S : List RewriteRule) → AreRenamings w letter R (length R) list → AreSetBy list R S → AreRenamed w letter R S
+  set_renamed list S h s = record {
+    number = s.number;
     each = λ k l. record {
-      left = h.lefts k;
-      right = ⊎_elim (λ a. inl (λ e. let x = a.1 e in contains_none x.0 x.1, a.0)) (λ b. inr b) (h.rights k l);
+      left = s.left k;
+      right = ⊎_elim
+          (λ a. let r = h.each a.0 a.1 in inr (subst (λ j. (rule_at R j).right ≡ Some w) a.2 r.right, a.3 ∙ ap Some r.becomes))
+          (λ b. inl (λ e. let y = h.all k l e in b.0 y.0 y.1 y.2, b.1)) (s.right k l);
     };
   }
 
-  pub partly_next : (T : List RewriteRule) (old new : List Renaming) (x : Renaming) → old ≡ new ++ x ∷ [] → IsPartlyRenamed T old →
-      IsPartlyRenamed (set T x.index (record { left = (rule_at T x.index).left; right = Some x.letter })) new
-  partly_next T old new x e h = record {
-    number = length-set T x.index t ∙ h.number;
-    each = λ y c. h.each y (subst (λ ys. Contains ys y) (sym e) (contains_left new (x ∷ []) y c));
-    lefts = λ k. ⊎_elim
-        (λ q. subst (λ j. (rule_at (set T x.index t) j).left ≡ (rule_at R j).left) (sym q) (ap (λ (s : RewriteRule). s.left) here ∙ h.lefts x.index))
-        (λ ne. ap (λ (s : RewriteRule). s.left) (get_or-set_other T x.index k t no_rule ne) ∙ h.lefts k) (numbers_or_not k x.index);
-    rights = λ k l. ⊎_elim
-        (λ q. inr (
-          subst (λ j. (rule_at R j).right ≡ Some w) (sym q) r.right,
-          subst (λ j. (rule_at (set T x.index t) j).right ≡ Some letter) (sym q) (ap (λ (s : RewriteRule). s.right) here ∙ ap Some r.becomes),
-        ))
-        (λ ne.
-        let other = ap (λ (s : RewriteRule). s.right) (get_or-set_other T x.index k t no_rule ne) in
-        ⊎_elim (λ a. inl (other ∙ a.0, λ s. left_over k ne (a.1 s))) (λ b. inr (b.0, other ∙ b.1)) (h.rights k l)) (numbers_or_not k x.index);
-  }
-    where
-      t : RewriteRule
-      t = record { left = (rule_at T x.index).left; right = Some x.letter }
+-- nothing is set by no renamings
+pub set_none : (R : List RewriteRule) → AreSetBy [] R R
+set_none R = record { number = refl; left = λ k. refl; right = λ k l. inr (λ x c. absurd (contains_none x c), refl) }
 
-      r : IsRenaming w letter R x
-      r = h.each x (subst (λ ys. Contains ys x) (sym e) (contains_right new (x ∷ []) x (contains_here x [])))
+-- one more is set
+pub set_more : (list : List Renaming) (R T : List RewriteRule) (x : Renaming) → x.index < length T → AreSetBy list R T →
+    AreSetBy (x ∷ list) R (set T x.index (record { left = (rule_at T x.index).left; right = Some x.letter }))
+set_more list R T x l h = record {
+  number = length-set T x.index t ∙ h.number;
+  left = λ k. ⊎_elim
+      (λ q. subst (λ j. (rule_at (set T x.index t) j).left ≡ (rule_at R j).left) (sym q) (ap (λ (s : RewriteRule). s.left) here ∙ h.left x.index))
+      (λ ne. ap (λ (s : RewriteRule). s.left) (get_or-set_other T x.index k t no_rule ne) ∙ h.left k) (numbers_or_not k x.index);
+  right = λ k b. ⊎_elim
+      (λ q. inl (x, contains_here x list, sym q, subst (λ j. (rule_at (set T x.index t) j).right ≡ Some x.letter) (sym q) (ap (λ (s : RewriteRule). s.right) here)))
+      (λ ne.
+      let other = ap (λ (s : RewriteRule). s.right) (get_or-set_other T x.index k t no_rule ne) in
+      ⊎_elim (λ a. inl (a.0, contains_there x list a.0 a.1, a.2, other ∙ a.3))
+      (λ a. inr (λ y c. ⊎_elim (λ e z. ne (sym (ap (λ (v : Renaming). v.index) e ∙ z))) (λ d. a.0 y d) (contains_cases x list y c), other ∙ a.1)) (h.right k b))
+      (numbers_or_not k x.index);
+}
+  where
+    t : RewriteRule
+    t = record { left = (rule_at T x.index).left; right = Some x.letter }
 
-      here : rule_at (set T x.index t) x.index ≡ t
-      here = get_or-set_same T x.index t no_rule (let a = r.within in let b = h.number in omega arith)
+    here : rule_at (set T x.index t) x.index ≡ t
+    here = get_or-set_same T x.index t no_rule l
 
-      left_over : (k : ℕ) → k ≢ x.index → (y : Renaming) × Contains old y × (y.index ≡ k) → (y : Renaming) × Contains new y × (y.index ≡ k)
-      left_over k ne y =
-          ⊎_elim (λ a. (y.0, a, y.2))
-          (λ b. ⊎_elim (λ q. absurd (ne (sym y.2 ∙ ap (λ (z : Renaming). z.index) (sym q)))) (λ z. absurd (contains_none y.0 z)) (contains_cases x [] y.0 b))
-          (contains_either new (x ∷ []) y.0 (subst (λ ys. Contains ys y.0) e y.1))
+-- the last of the renamings that are left is set
+pub set_next : (all old new done : List Renaming) (x : Renaming) → old ≡ new ++ x ∷ [] → all ≡ old ++ done → all ≡ new ++ x ∷ done
+set_next all old new done x e h = h ∙ (ap (λ xs. xs ++ done) e ∙ append_assoc new (x ∷ []) done)
 
-  pub partly_inside : (T : List RewriteRule) (old new : List Renaming) (x : Renaming) → old ≡ new ++ x ∷ [] → IsPartlyRenamed T old → x.index < length T
-  partly_inside T old new x e h =
-      let r = h.each x (subst (λ ys. Contains ys x) (sym e) (contains_right new (x ∷ []) x (contains_here x []))) in
-      let a = r.within in let b = h.number in omega arith
+-- its index is one of the rules
+pub next_within : (all old new done : List Renaming) (x : Renaming) (n : ℕ) → old ≡ new ++ x ∷ [] → all ≡ old ++ done → AreWithin n all → x.index < n
+next_within all old new done x n e h b = b x (subst (λ xs. Contains xs x) (sym (set_next all old new done x e h)) (contains_right new (x ∷ done) x (contains_here x done)))
+
+pub all_set : (all done : List Renaming) (R T : List RewriteRule) (rest : List Renaming) → rest ≡ [] → all ≡ rest ++ done → AreSetBy done R T → AreSetBy all R T
+all_set all done R T rest e h s = subst (λ xs. AreSetBy xs R T) (sym (h ∙ ap (λ xs. xs ++ done) e)) s
 
 pub rewrite_length : (rules : List Rule) → length (rewrite_rules rules) ≡ length rules
 rewrite_length rules = length-map rules rewrite_rule

@@ -25,7 +25,7 @@ use Rattle.toric_ideal.specs.Queue.{pair, IsNeedless, IsQueued}
 use Rattle.toric_ideal.specs.Step.{pair_degree}
 use Rattle.degree_queue.specs.DegreeQueue.{list_of}
 use Rattle.toric_ideal.specs.Rewriting.{rewrite_rule, rewrite_rules, AreExactRules, AreSameRules}
-use Rattle.toric_ideal.specs.Settling.{last_leads, lower_letters, AreNewRules, AreNewSides, CanRenumber, HasRightSides, IsLowerOrLetterSide}
+use Rattle.toric_ideal.specs.Settling.{last_leads, lower_letters, CanRenumber, HaveNewSides, IsLowerOrLetterSide, IsNewSide}
 use Rattle.toric_ideal.specs.SortedRules.{words_of}
 use Rattle.toric_ideal.specs.State.{IsSound}
 use Rattle.toric_ideal.proofs.Cleaning.{rule_index}
@@ -34,6 +34,7 @@ use Rattle.toric_ideal.proofs.LetterLemmas.{leads_letters}
 use Rattle.toric_ideal.proofs.Members.{contains_drop, contains_take}
 use Rattle.toric_ideal.proofs.Pairs.{increasing_distinct, pairs_append, pairs_drop, pairs_from, pairs_take, pairs_to}
 use Rattle.toric_ideal.proofs.Relettering.{closed_again}
+use Rattle.toric_ideal.proofs.Renamings.{listed_rule, rewrite_length}
 use Rattle.toric_ideal.proofs.RuleLists.{word_at, words_length}
 use Rattle.toric_ideal.proofs.Settled.{left_lower, right_lower, settled_exact, side_unique}
 use Rattle.toric_ideal.proofs.SoundListings.{sound_exact}
@@ -172,11 +173,27 @@ module _ (O : MonomialOrder) (W : IsMonomialOrder O) (w : Completion) (s : IsSou
       let q : weighted_degree xs x ≡ weighted_degree xs y = ap (weighted_degree xs) e in
       omega arith))
 
-  module _ (T : List RewriteRule) (sides : List WordOrZero) (new : List Rule) (hs : AreNewSides w.alphabet k after w.table sides) (ht : HasRightSides w.table T sides) (hr : AreNewRules w.alphabet k after w.rules.items new) where
+  module _ (T : List RewriteRule) (new : List Rule) (ht : HaveNewSides w.alphabet k after w.table T) (hr : HaveNewSides w.alphabet k after (rewrite_rules w.rules.items) (rewrite_rules new)) where
+    number_kept : length new ≡ length w.rules.items
+    number_kept = let a = hr.number in let b = rewrite_length new in let c = rewrite_length w.rules.items in omega arith
+
+    word_kept : (i : ℕ) (c d : Rule) → i < length w.rules.items → (get_or new i c).word ≡ (get_or w.rules.items i d).word
+    word_kept i c d l =
+        let a = number_kept in
+        let b = rewrite_length w.rules.items in
+        ap (λ (t : RewriteRule). t.left) (sym (listed_rule new i c (omega arith))) ∙ (hr.left i (omega arith) ∙ ap (λ (t : RewriteRule). t.left) (listed_rule w.rules.items i d l))
+
+    least_kept : (i : ℕ) (c d : Rule) → i < length w.rules.items → IsNewSide w.alphabet k after (get_or w.rules.items i d).least (get_or new i c).least
+    least_kept i c d l =
+        let a = number_kept in
+        let b = rewrite_length w.rules.items in
+        subst (λ (t : RewriteRule). IsNewSide w.alphabet k after t.right (get_or new i c).least) (listed_rule w.rules.items i d l)
+        (subst (λ (t : RewriteRule). IsNewSide w.alphabet k after (rule_at (rewrite_rules w.rules.items) i).right t.right) (listed_rule new i c (omega arith)) (hr.right i (omega arith)))
+
     renumbered_at : (i : ℕ) → i < length w.table → IsRenumberedRule L before after (rule_at w.table i) (rule_at T i)
     renumbered_at i l = (
       inl (left_lower L HL Z w.degree before after K s.standard w.table exact (rule_at w.table i) (contains_at w.table i no_rule l), sym (ht.left i l)),
-      subst (IsRenumberedSide L before after (rule_at w.table i).right) (sym (ht.right i l)) (hs.each i l),
+      ht.right i l,
     )
 
     renumbered : AreRenumberedRules L before after w.table T
@@ -200,9 +217,9 @@ module _ (O : MonomialOrder) (W : IsMonomialOrder O) (w : Completion) (s : IsSou
     -- a rule of the one list at an index, and the same rule of the other
     new_same : (i j : ℕ) (c d : Rule) → i < length w.rules.items → j < length w.table → rewrite_rule (get_or w.rules.items i d) ≡ rule_at w.table j → rewrite_rule (get_or new i c) ≡ rule_at T j
     new_same i j c d li lj e =
-        let el : (get_or new i c).word ≡ (rule_at T j).left = hr.word i c d li ∙ (ap (λ (t : RewriteRule). t.left) e ∙ sym (ht.left j lj)) in
+        let el : (get_or new i c).word ≡ (rule_at T j).left = word_kept i c d li ∙ (ap (λ (t : RewriteRule). t.left) e ∙ sym (ht.left j lj)) in
         let er : (get_or new i c).least ≡ (rule_at T j).right =
-        side_unique L HL Z w.degree before after K (get_or w.rules.items i d).least (get_or new i c).least (rule_at T j).right (hr.least i c d li)
+        side_unique L HL Z w.degree before after K (get_or w.rules.items i d).least (get_or new i c).least (rule_at T j).right (least_kept i c d li)
         (subst (λ (t : RewriteRule). IsRenumberedSide L before after t.right (rule_at T j).right) (sym e) (renumbered_at j lj).1) in
         ap (λ u. record { left = u; right = (get_or new i c).least }) el ∙ ap (λ b. record { left = (rule_at T j).left; right = b }) er
 
@@ -210,7 +227,7 @@ module _ (O : MonomialOrder) (W : IsMonomialOrder O) (w : Completion) (s : IsSou
     same_rules = record {
       there = λ r h.
           let b = h.1 in
-          let n = hr.number in
+          let n = number_kept in
           let li : h.0 < length w.rules.items = omega arith in
           let old = get_or w.rules.items h.0 r in
           let j = rule_index w.table (rewrite_rule old) (s.same.there old (contains_at w.rules.items h.0 r li)) in
@@ -225,20 +242,20 @@ module _ (O : MonomialOrder) (W : IsMonomialOrder O) (w : Completion) (s : IsSou
           let x = map_contains rewrite_rule w.rules.items (rule_at w.table j.0) (s.same.back (rule_at w.table j.0) (contains_at w.table j.0 no_rule lj)) in
           let i = x.1 in
           let li = i.1 in
-          let n = hr.number in
+          let n = number_kept in
           subst (Contains (rewrite_rules new)) (new_same i.0 j.0 x.0 x.0 li lj (ap rewrite_rule i.2 ∙ x.2) ∙ j.2)
           (contains_map rewrite_rule new (get_or new i.0 x.0) (contains_at new i.0 x.0 (omega arith)));
     }
 
     words_same : words_of new ≡ words_of w.rules.items
     words_same =
-        let n = hr.number in
+        let n = number_kept in
         let a = words_length new in
         let b = words_length w.rules.items in
         ext_get_or [] (words_of new) (words_of w.rules.items) (a ∙ (n ∙ sym b))
         (λ i l.
         let d : Rule = record { word = []; least = None } in
-        word_at new i d (omega arith) ∙ (hr.word i d d (omega arith) ∙ sym (word_at w.rules.items i d (omega arith))))
+        word_at new i d (omega arith) ∙ (word_kept i d d (omega arith) ∙ sym (word_at w.rules.items i d (omega arith))))
 
     new_rules : AreRules (with_leads L after) Z w.degree new
     new_rules =
@@ -266,12 +283,12 @@ module _ (O : MonomialOrder) (W : IsMonomialOrder O) (w : Completion) (s : IsSou
     })
 
   -- the same left sides have pairs of the same degrees, and the same of these are needless
-  module _ (P : MonomialOrder) (c n : ℕ) (T : List RewriteRule) (sides : List WordOrZero) (hs : AreNewSides w.alphabet k after w.table sides) (ht : HasRightSides w.table T sides) where
+  module _ (P : MonomialOrder) (c n : ℕ) (T : List RewriteRule) (ht : HaveNewSides w.alphabet k after w.table T) where
     degree_kept : (i j : ℕ) → i < length w.table → j < length w.table → pair_degree P T i j ≡ pair_degree P w.table i j
     degree_kept i j li lj = ap (λ u. P.degree (lcm u (rule_at T j).left)) (ht.left i li) ∙ ap (λ u. P.degree (lcm (rule_at w.table i).left u)) (ht.left j lj)
 
     none_kept : (i : ℕ) → i < length w.table → (rule_at w.table i).right ≡ None → (rule_at T i).right ≡ None
-    none_kept i l e = none (rule_at T i).right (subst (λ a. IsRenumberedSide L before after a (rule_at T i).right) e (subst (IsRenumberedSide L before after (rule_at w.table i).right) (sym (ht.right i l)) (hs.each i l)))
+    none_kept i l e = none (rule_at T i).right (subst (λ a. IsRenumberedSide L before after a (rule_at T i).right) e (ht.right i l))
       where
         none : (b : WordOrZero) → IsRenumberedSide L before after None b → b ≡ None
         none None h = refl
@@ -324,7 +341,7 @@ module _ (O : MonomialOrder) (W : IsMonomialOrder O) (w : Completion) (s : IsSou
     pub settled_standard : (m : Exponents) → Contains (drop k new) m → ¬ IsMultiple Z m
     settled_standard m c = s.standard m ((p.members m).1 (subst (λ ys. Contains ys m) (ap (drop k) e ∙ drop_taken k leads after s.within) c))
 
-    module _ (T : List RewriteRule) (sides : List WordOrZero) (hs : AreNewSides w.alphabet k after w.table sides) (ht : HasRightSides w.table T sides) where
+    module _ (T : List RewriteRule) (ht : HaveNewSides w.alphabet k after w.table T) where
       pub settled_queued : IsQueued (word_order_of (letters xs new)) w.degree w.queued_count T w.pairs
       settled_queued =
-          subst (λ P. IsQueued P w.degree w.queued_count T w.pairs) (sym (ap (λ ls. word_order_of (letters xs ls)) e ∙ order_same)) (queued_kept (word_order_of (letters_of w.alphabet)) w.degree w.queued_count T sides hs ht w.pairs s.queued)
+          subst (λ P. IsQueued P w.degree w.queued_count T w.pairs) (sym (ap (λ ls. word_order_of (letters xs ls)) e ∙ order_same)) (queued_kept (word_order_of (letters_of w.alphabet)) w.degree w.queued_count T ht w.pairs s.queued)

@@ -28,6 +28,22 @@ pub record AreRenamings (w letter : Exponents) (R : List RewriteRule) (i : ℕ) 
   pub each : (x : Renaming) → Contains list x → IsRenaming w letter R x
   pub all : (k : ℕ) → k < i → (rule_at R k).right ≡ Some w → (x : Renaming) × Contains list x × (x.index ≡ k)
 
+-- all indexes are below n
+abbrev pub AreWithin : ℕ → List Renaming → Type 0
+AreWithin n list = (x : Renaming) → Contains list x → x.index < n
+
+-- the right side at the index k becomes a letter of the list, or is not named in it and stays
+abbrev pub IsSetAt : List Renaming → List RewriteRule → List RewriteRule → ℕ → Type 0
+IsSetAt list R S k =
+    ((x : Renaming) × Contains list x × (x.index ≡ k) × ((rule_at S k).right ≡ Some x.letter)) ⊎
+    (((x : Renaming) → Contains list x → x.index ≢ k) × ((rule_at S k).right ≡ (rule_at R k).right))
+
+-- S is R with the right sides of the list
+pub record AreSetBy (list : List Renaming) (R S : List RewriteRule) : Type 0 where
+  pub number : length S ≡ length R
+  pub left : (k : ℕ) → (rule_at S k).left ≡ (rule_at R k).left
+  pub right : (k : ℕ) → k < length R → IsSetAt list R S k
+
 -- the rule of a new lead
 abbrev pub lead_rule : Exponents → Exponents → RewriteRule
 lead_rule w letter = record { left = w; right = Some letter }
@@ -36,7 +52,7 @@ lead_rule w letter = record { left = w; right = Some letter }
 abbrev pub IsLettered : Exponents → Exponents → List RewriteRule → List RewriteRule → Type 0
 IsLettered w letter R S = AreRenamed w letter (R ++ lead_rule w letter ∷ []) S
 
--- the new list has the rule at the index, and around it the old rules, renamed
-abbrev pub HasRenamedAround : Exponents → Exponents → List Rule → List Rule → ℕ → Rule → Type 0
-HasRenamedAround w letter old new i t =
-    (D : List Rule) × AreRenamed w letter (rewrite_rules old) (rewrite_rules D) × (new ≡ take i D ++ t ∷ drop i D)
+-- the new list has the rule at the index, and around it the old rules, with the right sides of the renamings
+abbrev pub HasRenamedAround : List Renaming → List Rule → List Rule → ℕ → Rule → Type 0
+HasRenamedAround list old new i t =
+    (D : List Rule) × AreSetBy list (rewrite_rules old) (rewrite_rules D) × (new ≡ take i D ++ t ∷ drop i D)

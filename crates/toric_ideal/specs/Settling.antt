@@ -1,5 +1,5 @@
 -- Rules whose last leads are numbered again.
-use Rattle.std.specs.Prelude.{◌≡◌, ◌⊎◌, ℕ, ◌+◌, ◌≤◌, ◌<◌, List, length, take, drop, get_or, Contains, Some, None}
+use Rattle.std.specs.Prelude.{◌≡◌, ◌⊎◌, ℕ, ◌+◌, ◌≤◌, ◌<◌, List, length, take, drop, Contains, Option, Some, None}
 use Rattle.monomial_order.specs.Monomial.{Exponents}
 use Rattle.word_laws.specs.Words.{Letters, IsWord}
 use Rattle.word_rewriting.specs.Rewriting.{WordOrZero, RewriteRule}
@@ -7,7 +7,7 @@ use Rattle.word_rewriting.specs.Completeness.{lead_letter}
 use Rattle.word_rewriting.specs.Renumbering.{IsRenumberedSide}
 use Rattle.word_rules.specs.Rules.{rule_at}
 use Rattle.toric_ideal.specs.declared.alphabet.Alphabet.{Alphabet}
-use Rattle.toric_ideal.specs.declared.rule.Rule.{Rule}
+use Rattle.toric_ideal.specs.declared.renaming.Renaming.{Renaming}
 use Rattle.toric_ideal.specs.Leads.{letters}
 
 -- a word over L, or a letter of one of the further leads
@@ -35,19 +35,23 @@ pub record CanRenumber (a : Alphabet) (k : ℕ) (after : List Exponents) : Type 
 abbrev pub IsNewSide : Alphabet → ℕ → List Exponents → WordOrZero → WordOrZero → Type 0
 IsNewSide a k after old new = IsRenumberedSide (lower_letters a k) (last_leads a k) after old new
 
--- the right sides of the rules with their new letters
-pub record AreNewSides (a : Alphabet) (k : ℕ) (after : List Exponents) (R : List RewriteRule) (sides : List WordOrZero) : Type 0 where
-  pub number : length sides ≡ length R
-  pub each : (i : ℕ) → i < length R → IsNewSide a k after (rule_at R i).right (get_or sides i None)
+-- the side with the new letter, or, if there is none, the side as it is
+abbrev pub IsNewLetter : Alphabet → ℕ → List Exponents → WordOrZero → Option Exponents → Type 0
+IsNewLetter a k after side None = IsNewSide a k after side side
+IsNewLetter a k after side (Some v) = IsNewSide a k after side (Some v)
 
--- the right sides of the rules are these now
-pub record HasRightSides (R S : List RewriteRule) (sides : List WordOrZero) : Type 0 where
+-- the index of a rule, and its new right side
+pub record IsNewLetterOf (a : Alphabet) (k : ℕ) (after : List Exponents) (R : List RewriteRule) (x : Renaming) : Type 0 where
+  pub within : x.index < length R
+  pub becomes : IsNewSide a k after (rule_at R x.index).right (Some x.letter)
+
+-- these, of the first i rules; other right sides of these stay
+pub record AreNewLetters (a : Alphabet) (k : ℕ) (after : List Exponents) (R : List RewriteRule) (i : ℕ) (list : List Renaming) : Type 0 where
+  pub each : (x : Renaming) → Contains list x → IsNewLetterOf a k after R x
+  pub all : (j : ℕ) → j < i → IsNewSide a k after (rule_at R j).right (rule_at R j).right ⊎ ((x : Renaming) × Contains list x × (x.index ≡ j))
+
+-- S is R with the new letters in the right sides
+pub record HaveNewSides (a : Alphabet) (k : ℕ) (after : List Exponents) (R S : List RewriteRule) : Type 0 where
   pub number : length S ≡ length R
   pub left : (i : ℕ) → i < length R → (rule_at S i).left ≡ (rule_at R i).left
-  pub right : (i : ℕ) → i < length R → (rule_at S i).right ≡ get_or sides i None
-
--- the rules with the new letters in their right sides
-pub record AreNewRules (a : Alphabet) (k : ℕ) (after : List Exponents) (old new : List Rule) : Type 0 where
-  pub number : length new ≡ length old
-  pub word : (i : ℕ) (c d : Rule) → i < length old → (get_or new i c).word ≡ (get_or old i d).word
-  pub least : (i : ℕ) (c d : Rule) → i < length old → IsNewSide a k after (get_or old i d).least (get_or new i c).least
+  pub right : (i : ℕ) → i < length R → IsNewSide a k after (rule_at R i).right (rule_at S i).right

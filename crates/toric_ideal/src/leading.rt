@@ -5,9 +5,7 @@ ghost use Rattle.word_rewriting.specs.Completeness.{with_leads};
 ghost use Rattle.toric_ideal.specs.Alphabet.{letters_of, IsAlphabet};
 ghost use Rattle.toric_ideal.specs.Leads.{IsLetterLead};
 ghost use Rattle.toric_ideal.specs.Listing.{IsNewLead};
-ghost use Rattle.monomial_order.specs.Monomial.{Exponents};
-ghost use Rattle.toric_ideal.specs.Renaming.{lead_rule, AreRenamings, HasRenamedAround};
-ghost use Rattle.toric_ideal.specs.Rewriting.{rewrite_rules};
+ghost use Rattle.toric_ideal.specs.Renaming.{lead_rule, AreWithin, HasRenamedAround};
 ghost use Rattle.toric_ideal.specs.State.{listing_of, IsSound};
 
 use crate::Rule;
@@ -82,11 +80,8 @@ fn insert_reserved(rules: &mut Vec<Rule>, index: usize, rule: Rule)
 fn rename_and_insert(rules: &mut Vec<Rule>, renamings: Vec<Renaming>, index: usize, rule: Rule)
     requires within { index ≤ vec_len rules.old }
     requires room { vec_len rules.old < vec_capacity rules.old }
-    requires renamings { (w letter : Exponents) ×
-        AreRenamings w letter (rewrite_rules rules.old.items) (length rules.old.items) renamings.items }
-    ensures { (w letter : Exponents) →
-        AreRenamings w letter (rewrite_rules rules.old.items) (length rules.old.items) renamings.items →
-        HasRenamedAround w letter rules.old.items rules.new.items index rule }
+    requires renamings { AreWithin (length rules.old.items) renamings.items }
+    ensures { HasRenamedAround renamings.items rules.old.items rules.new.items index rule }
 {
     rename_list(rules, renamings);
     insert_reserved(rules, index, rule);

@@ -1,8 +1,7 @@
 //! Right sides that become a letter.
 ghost use Rattle.std.specs.Prelude.{◌≡◌, ◌≢◌, ◌<◌, ◌≤◌, length, set, Some, true, false, IfOk};
-ghost use Rattle.monomial_order.specs.Monomial.{Exponents};
 ghost use Rattle.word_rules.specs.Rules.{rule_at};
-ghost use Rattle.toric_ideal.specs.Renaming.{AreRenamed, AreRenamings};
+ghost use Rattle.toric_ideal.specs.Renaming.{AreRenamings, AreSetBy, AreWithin};
 ghost use Rattle.toric_ideal.specs.Rewriting.{rewrite_rules};
 
 use crate::Rule;
@@ -10,7 +9,7 @@ use monomial_order::{Memory, Monomial};
 use std::alloc::Global;
 use word_rules::RuleTable;
 
-/// The index of a rule, and what its right side becomes.
+/// The index of a rule, and the letter that its right side becomes.
 #[derive(Drop)]
 pub(crate) struct Renaming {
     pub(crate) index: usize,
@@ -81,9 +80,8 @@ pub(crate) fn list_renamings(
 
 /// Renames right sides in the table. It takes no memory.
 pub(crate) fn rename_table(table: &mut RuleTable, renamings: Vec<Renaming>)
-    requires { (w letter : Exponents) × AreRenamings w letter table.old (length table.old) renamings.items }
-    ensures { (w letter : Exponents) → AreRenamings w letter table.old (length table.old) renamings.items
-        → AreRenamed w letter table.old table.new }
+    requires { AreWithin (length table.old) renamings.items }
+    ensures { AreSetBy renamings.items table.old table.new }
 {
     let mut renamings = renamings;
     'rename: while let Some(renaming) = renamings.pop() {
@@ -102,14 +100,19 @@ fn set_least(rules: &mut [Rule], index: usize, letter: Monomial)
 
 /// Renames least words in the list. It takes no memory.
 pub(crate) fn rename_list(rules: &mut [Rule], renamings: Vec<Renaming>)
-    requires { (w letter : Exponents) ×
-        AreRenamings w letter (rewrite_rules rules.old) (length rules.old) renamings.items }
-    ensures { (w letter : Exponents) →
-        AreRenamings w letter (rewrite_rules rules.old) (length rules.old) renamings.items
-        → AreRenamed w letter (rewrite_rules rules.old) (rewrite_rules rules.new) }
+    requires { AreWithin (length rules.old) renamings.items }
+    ensures { AreSetBy renamings.items (rewrite_rules rules.old) (rewrite_rules rules.new) }
 {
     let mut renamings = renamings;
     'rename: while let Some(renaming) = renamings.pop() {
         set_least(rules, renaming.index, renaming.letter);
     }
+}
+
+/// The same for a vector.
+pub(crate) fn rename_rules(rules: &mut Vec<Rule>, renamings: Vec<Renaming>)
+    requires { AreWithin (length rules.old.items) renamings.items }
+    ensures { AreSetBy renamings.items (rewrite_rules rules.old.items) (rewrite_rules rules.new.items) }
+{
+    rename_list(rules, renamings);
 }

@@ -1,17 +1,17 @@
 //! Leads of the last degree, numbered again.
-ghost use Rattle.std.specs.Prelude.{◌≡◌, ◌<◌, ◌≤◌, ℕ, [], length, get_or, Contains, IfOk, OnOk, OnErr};
-ghost use Rattle.word_rewriting.specs.Renumbering.{IsRenumbered};
+ghost use Rattle.std.specs.Prelude.{◌≡◌, ◌<◌, ◌+◌, ◌++◌, ℕ, [], Some, length, take, get_or, Contains, IfOk, OnOk, OnErr};
 ghost use Rattle.word_rules.specs.Rules.{rule_at};
 ghost use Rattle.toric_ideal.specs.Alphabet.{letters_of};
 ghost use Rattle.toric_ideal.specs.Listing.{IsSettled, OrdersByDegrees};
+ghost use Rattle.toric_ideal.specs.Rewriting.{rewrite_rules};
 ghost use Rattle.toric_ideal.specs.State.{listing_of, IsSound};
-ghost use Rattle.toric_ideal.specs.Settling.{last_leads, lower_letters, AreNewRules, AreNewSides, CanRenumber, HasRightSides, IsLowerOrLetter, IsLowerOrLetterSide, IsNewSide};
+ghost use Rattle.toric_ideal.specs.Settling.{last_leads, lower_letters, AreNewLetters, CanRenumber, IsLowerOrLetter, IsLowerOrLetterSide, IsNewLetter};
 
 use crate::Rule;
 use crate::alphabet::Alphabet;
 use crate::completion::Completion;
-use crate::copies::copy_monomials;
 use crate::increasing::sorted;
+use crate::renaming::{Renaming, rename_rules, rename_table};
 use monomial_order::{Memory, Monomial, Order};
 use std::alloc::Global;
 use word_rules::RuleTable;
@@ -29,31 +29,31 @@ fn index_of(list: &[Monomial], m: &Monomial) -> usize
     index
 }
 
-/// The new letter of a lead in place of the old one, or a copy of any other word. The leads from `first` on are in the
-/// order of `leads` now.
-fn renumbered(
+/// The new letter of a lead of the last degree, if the word is the old one. The leads from `first` on are in the order of
+/// `leads` now.
+fn new_letter(
     alloc: Global,
     alphabet: &Alphabet,
     first: usize,
     leads: &[Monomial],
     word: &Monomial,
-) -> Result<Monomial, Memory>
+) -> Result<Option<Monomial>, Memory>
     requires leads { CanRenumber alphabet.now first leads.now }
     requires word { IsLowerOrLetter (lower_letters alphabet.now first) (last_leads alphabet.now first) word.now }
-    ensures { IfOk result
-        (IsRenumbered (lower_letters alphabet.now first) (last_leads alphabet.now first) leads.now word.now) }
+    ensures { IfOk result (IsNewLetter alphabet.now first leads.now (Some word.now)) }
 {
     let x_count = alphabet.order.x_degrees.len();
     let places = word.as_slice().len();
     if places <= x_count || places - x_count <= first {
-        return word.copy(alloc);
+        return Ok(None);
     }
     let lead = &alphabet.leads[places - x_count - 1];
-    Monomial::variable(alloc, x_count + (first + index_of(leads, lead)))
+    let letter = Monomial::variable(alloc, x_count + (first + index_of(leads, lead)))?;
+    Ok(Some(letter))
 }
 
-/// The right side of a rule of the table with new letters.
-fn new_side(
+/// The new letter of a rule of the table, if its right side is the old one.
+fn table_letter(
     alloc: Global,
     alphabet: &Alphabet,
     first: usize,
@@ -65,47 +65,38 @@ fn new_side(
     requires inside { i < length table.now }
     requires side { IsLowerOrLetterSide (lower_letters alphabet.now first) (last_leads alphabet.now first)
         (rule_at table.now i).right }
-    ensures { IfOk result (IsNewSide alphabet.now first leads.now (rule_at table.now i).right) }
+    ensures { IfOk result (IsNewLetter alphabet.now first leads.now (rule_at table.now i).right) }
 {
     match table.right(i) {
         None => Ok(None),
-        Some(word) => Ok(Some(renumbered(alloc, alphabet, first, leads, word)?)),
+        Some(word) => new_letter(alloc, alphabet, first, leads, word),
     }
 }
 
-/// The right sides of the rules of the table with new letters.
-pub(crate) fn new_sides(
+/// The new letters of the rules of the table whose right sides are old ones.
+fn table_letters(
     alloc: Global,
     alphabet: &Alphabet,
     first: usize,
     leads: &[Monomial],
     table: &RuleTable,
-) -> Result<Vec<Option<Monomial>>, Memory>
+) -> Result<Vec<Renaming>, Memory>
     requires leads { CanRenumber alphabet.now first leads.now }
     requires sides { (i : ℕ) → i < length table.now → IsLowerOrLetterSide (lower_letters alphabet.now first)
         (last_leads alphabet.now first) (rule_at table.now i).right }
-    ensures { IfOk result (λ v. AreNewSides alphabet.now first leads.now table.now v.items) }
+    ensures { IfOk result (λ v. AreNewLetters alphabet.now first leads.now table.now (length table.now) v.items) }
 {
-    let mut sides = Vec::new(alloc);
-    'rules: for i in 0..table.len() {
-        sides.push(new_side(alloc, alphabet, first, leads, table, i)?)?;
+    let mut renamings = Vec::new(alloc);
+    'rules: for index in 0..table.len() {
+        if let Some(letter) = table_letter(alloc, alphabet, first, leads, table, index)? {
+            renamings.push(Renaming { index, letter })?;
+        }
     }
-    Ok(sides)
+    Ok(renamings)
 }
 
-/// Replaces the right sides of all rules.
-pub(crate) fn set_sides(table: &mut RuleTable, sides: Vec<Option<Monomial>>)
-    requires { length sides.items ≡ length table.old }
-    ensures { HasRightSides table.old table.new sides.items }
-{
-    let mut rest = sides;
-    'sides: while let Some(side) = rest.pop() {
-        table.set_right(rest.len(), side);
-    }
-}
-
-/// The least word of a rule with new letters.
-fn new_least(
+/// The new letter of a rule of the list, if its least word is the old one.
+fn list_letter(
     alloc: Global,
     alphabet: &Alphabet,
     first: usize,
@@ -114,40 +105,53 @@ fn new_least(
 ) -> Result<Option<Monomial>, Memory>
     requires leads { CanRenumber alphabet.now first leads.now }
     requires side { IsLowerOrLetterSide (lower_letters alphabet.now first) (last_leads alphabet.now first) least.now }
-    ensures { IfOk result (IsNewSide alphabet.now first leads.now least.now) }
+    ensures { IfOk result (IsNewLetter alphabet.now first leads.now least.now) }
 {
     match least {
         None => Ok(None),
-        Some(word) => Ok(Some(renumbered(alloc, alphabet, first, leads, word)?)),
+        Some(word) => new_letter(alloc, alphabet, first, leads, word),
     }
 }
 
-/// Copies of the rules with new letters in the least words.
-pub(crate) fn new_rules(
+/// The new letters of the rules of the list whose least words are old ones.
+fn list_letters(
     alloc: Global,
     alphabet: &Alphabet,
     first: usize,
     leads: &[Monomial],
     rules: &[Rule],
-) -> Result<Vec<Rule>, Memory>
+) -> Result<Vec<Renaming>, Memory>
     requires leads { CanRenumber alphabet.now first leads.now }
     requires sides { (r : Rule) → Contains rules.now r → IsLowerOrLetterSide (lower_letters alphabet.now first)
         (last_leads alphabet.now first) r.least }
-    ensures { IfOk result (λ v. AreNewRules alphabet.now first leads.now rules.now v.items) }
+    ensures { IfOk result (λ v.
+        AreNewLetters alphabet.now first leads.now (rewrite_rules rules.now) (length rules.now) v.items) }
 {
-    let mut new = Vec::new(alloc);
-    'rules: for rule in rules {
-        new.push(Rule {
-            word: rule.word.copy(alloc)?,
-            least: new_least(alloc, alphabet, first, leads, &rule.least)?,
-        })?;
+    let mut renamings = Vec::new(alloc);
+    'rules: for index in 0..rules.len() {
+        if let Some(letter) = list_letter(alloc, alphabet, first, leads, &rules[index].least)? {
+            renamings.push(Renaming { index, letter })?;
+        }
     }
-    Ok(new)
+    Ok(renamings)
+}
+
+/// Replaces the leads from `first` on by as many others. It takes no memory.
+fn replace_last(leads: &mut Vec<Monomial>, first: usize, last: Vec<Monomial>)
+    requires { first + length last.items ≡ length leads.old.items }
+    ensures { leads.new.items ≡ take first leads.old.items ++ last.items }
+{
+    let mut last = last;
+    leads.truncate(first);
+    match leads.append(&mut last) {
+        Ok(()) => {}
+        Err(_full) => unreachable!(),
+    }
 }
 
 impl Completion {
     /// Numbers the leads of the last degree again, so that they increase in the order. All that takes memory is made
-    /// first. If there are none, nothing is done.
+    /// first: the new letters, of the right sides that have one. If there are no such leads, nothing is done.
     pub(crate) fn settle<O: Order>(&mut self, alloc: Global, o: &O) -> Result<(), Memory>
         requires sound { IsSound self.old }
         requires order { OrdersByDegrees (O.order o.now) (letters_of self.old.alphabet).degrees }
@@ -164,21 +168,14 @@ impl Completion {
         if first == self.alphabet.leads.len() {
             return Ok(());
         }
-        let (lower, unsorted) = self.alphabet.leads.as_slice().split_at(first);
-        let mut last = sorted(alloc, o, unsorted)?;
-        let mut leads = copy_monomials(alloc, lower)?;
-        let sides = new_sides(alloc, &self.alphabet, first, last.as_slice(), &self.table)?;
-        let rules = new_rules(
-            alloc,
-            &self.alphabet,
-            first,
-            last.as_slice(),
-            self.rules.as_slice(),
-        )?;
-        leads.append(&mut last)?;
-        set_sides(&mut self.table, sides);
-        self.rules = rules;
-        self.alphabet.leads = leads;
+        let (_, unsorted) = self.alphabet.leads.as_slice().split_at(first);
+        let last = sorted(alloc, o, unsorted)?;
+        let leads = last.as_slice();
+        let in_table = table_letters(alloc, &self.alphabet, first, leads, &self.table)?;
+        let in_list = list_letters(alloc, &self.alphabet, first, leads, self.rules.as_slice())?;
+        rename_table(&mut self.table, in_table);
+        rename_rules(&mut self.rules, in_list);
+        replace_last(&mut self.alphabet.leads, first, last);
         Ok(())
     }
 }

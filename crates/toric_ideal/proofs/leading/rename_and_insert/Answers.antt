@@ -1,18 +1,17 @@
-use Rattle.std.proofs.Common.{◌≡◌, ◌∙◌, ◌++◌, ◌∷◌, List, ap, arith, drop, length, subst, sym, take}
+use Rattle.std.proofs.Common.{◌≡◌, ◌∙◌, ◌++◌, ◌∷◌, List, ap, arith, drop, length, subst, take}
 use Rattle.std.proofs.Math.Seq.{take-append_seam}
 use Rattle.toric_ideal.specs.declared.rule.Rule.{Rule}
-use Rattle.toric_ideal.specs.Renaming.{AreRenamed, AreRenamings}
+use Rattle.toric_ideal.specs.Renaming.{AreSetBy}
 use Rattle.toric_ideal.specs.Rewriting.{rewrite_rules}
 use Rattle.toric_ideal.proofs.Renamings.{rewrite_length}
 use Rattle.toric_ideal.proofs.leading.rename_and_insert.Goals as goal
 
 pub returns : goal.returns
-returns c w l h =
+returns c =
     let D = c.rename_list.new.rules in
     let old = c.args.rules.now.items in
-    let y : AreRenamed w l (rewrite_rules old) (rewrite_rules D) =
-    subst (λ (rs : List Rule). AreRenamed w l (rewrite_rules rs) (rewrite_rules D)) c.deref_mut.ensures.value
-    (c.rename_list.ensures w l (subst (λ (rs : List Rule). AreRenamings w l (rewrite_rules rs) (length rs) c.args.renamings.items) (sym c.deref_mut.ensures.value) h)) in
+    let y : AreSetBy c.args.renamings.items (rewrite_rules old) (rewrite_rules D) =
+    subst (λ (rs : List Rule). AreSetBy c.args.renamings.items (rewrite_rules rs) (rewrite_rules D)) c.deref_mut.ensures.value c.rename_list.ensures in
     let n : c.args.rules.now.len ≡ length D = (let a = y.number in let b = rewrite_length old in let d = rewrite_length D in let o = c.args.rules.now.ok in omega arith) in
     let e : take c.args.rules.now.len (D ++ drop (length D) old) ≡ D = ap (λ k. take k (D ++ drop (length D) old)) n ∙ take-append_seam D (drop (length D) old) in (
       D,

@@ -1,13 +1,24 @@
-use Rattle.std.proofs.Common.{sym, subst}
-use Rattle.toric_ideal.proofs.Renamings.{partly_inside, partly_next, IsPartlyRenamed}
+use Rattle.std.proofs.Common.{◌∷◌, [], append-nil, arith, sym, subst}
+use Rattle.toric_ideal.specs.Renaming.{AreSetBy}
+use Rattle.toric_ideal.proofs.Renamings.{next_within, set_more, set_next, set_none}
 use Rattle.toric_ideal.proofs.renaming.rename_table.Goals as goal
+
+pub rename-init : goal.rename-init
+rename-init c = ([], sym (append-nil c.args.renamings.items), set_none c.args.table.now)
 
 pub set_right-requires : goal.set_right-requires
 set_right-requires c =
-    let h = c.requires in
-    partly_inside h.0 h.1 c.args.table.now c.rename.table c.rename.renamings.items c.pop.new.self.items c.in-Some.renaming c.in-Some.ensures.items (c.rename.invariant h.0 h.1 h.2)
+    let i = c.rename.invariant in
+    let n = i.2.number in
+    let b = next_within c.args.renamings.items c.rename.renamings.items c.pop.new.self.items i.0 c.in-Some.renaming _ c.in-Some.ensures.items i.1 c.requires in
+    omega arith
 
 pub rename-preserved : goal.rename-preserved
-rename-preserved c w x h =
-    subst (λ T. IsPartlyRenamed w x c.args.table.now T c.pop.new.self.items) (sym c.set_right.ensures)
-    (partly_next w x c.args.table.now c.rename.table c.rename.renamings.items c.pop.new.self.items c.in-Some.renaming c.in-Some.ensures.items (c.rename.invariant w x h))
+rename-preserved c =
+    let i = c.rename.invariant in
+    let n = i.2.number in
+    let b = next_within c.args.renamings.items c.rename.renamings.items c.pop.new.self.items i.0 c.in-Some.renaming _ c.in-Some.ensures.items i.1 c.requires in (
+      c.in-Some.renaming ∷ i.0,
+      set_next c.args.renamings.items c.rename.renamings.items c.pop.new.self.items i.0 c.in-Some.renaming c.in-Some.ensures.items i.1,
+      subst (AreSetBy (c.in-Some.renaming ∷ i.0) c.args.table.now) (sym c.set_right.ensures) (set_more i.0 c.args.table.now c.rename.table c.in-Some.renaming (omega arith) i.2),
+    )

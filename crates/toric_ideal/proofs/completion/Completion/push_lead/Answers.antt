@@ -1,4 +1,4 @@
-use Rattle.std.proofs.Common.{◌≡◌, ◌≢◌, ◌≤◌, ◌+◌, ◌∙◌, ◌∷◌, [], List, Some, ap, false, length, subst, sym, take, drop}
+use Rattle.std.proofs.Common.{◌≡◌, ◌≢◌, ◌≤◌, ◌+◌, ◌∙◌, ◌∷◌, ◌++◌, [], List, Some, ap, false, length, subst, sym, take, drop}
 use Rattle.std.specs.Prelude.{Contains}
 use Rattle.monomial_order.specs.Monomial.{Exponents, IsMultiple}
 use Rattle.monomial_order.specs.MonomialOrder.{IsIncreasing}
@@ -12,11 +12,11 @@ use Rattle.toric_ideal.specs.Alphabet.{letters_of}
 use Rattle.toric_ideal.specs.Increasing.{IsInsertionIndex}
 use Rattle.toric_ideal.specs.Listing.{AreParted, IsListing}
 use Rattle.toric_ideal.specs.Queue.{IsQueued}
-use Rattle.toric_ideal.specs.Renaming.{lead_rule, AreRenamed, AreRenamings, IsLettered}
+use Rattle.toric_ideal.specs.Renaming.{lead_rule, AreRenamed, AreRenamings, AreSetBy, AreWithin, IsLettered}
 use Rattle.toric_ideal.specs.Rewriting.{rewrite_rule, rewrite_rules, AreSameRules}
 use Rattle.toric_ideal.specs.SortedRules.{words_of}
 use Rattle.toric_ideal.proofs.LetterLemmas.{alphabet_order}
-use Rattle.toric_ideal.proofs.Renamings.{renamings_pushed}
+use Rattle.toric_ideal.proofs.Renamings.{renamings_pushed, renamings_within, rewrite_length, set_renamed}
 use Rattle.toric_ideal.proofs.PushedLead.{least_small, least_some, letter_is, letter_new, new_lead, pushed_listing, pushed_parted, pushed_queued, pushed_same, pushed_within}
 use Rattle.toric_ideal.proofs.StandardLeads.{standard_pushed}
 use Rattle.toric_ideal.proofs.completion.Completion.push_lead.Goals as goal
@@ -64,12 +64,21 @@ rename_table-requires c =
     let u = c.in_ok-word.word in
     let l = c.in_ok-letter.letter in
     let el = letter_is w c.requires.sound c.args.m.now c.requires.lead c.places.result l c.places.ensures c.in_ok-letter.ensures in
-    let ne = subst (λ x. x ≢ u) (sym el) (letter_new w c.requires.sound c.args.m.now c.requires.lead u c.in_ok-word.ensures) in (
-      u,
-      l,
-      subst (λ (T : List RewriteRule). AreRenamings u l T (length T) c.in_ok-in_table.in_table.items) (sym c.in_ok-push_letter.ensures.table)
-          (renamings_pushed u l w.table c.in_ok-in_table.in_table.items ne c.in_ok-in_table.ensures),
-    )
+    let ne = subst (λ x. x ≢ u) (sym el) (letter_new w c.requires.sound c.args.m.now c.requires.lead u c.in_ok-word.ensures) in
+    subst (λ (T : List RewriteRule). AreWithin (length T) c.in_ok-in_table.in_table.items) (sym c.in_ok-push_letter.ensures.table)
+    (renamings_within u l (w.table ++ lead_rule u l ∷ []) c.in_ok-in_table.in_table.items (renamings_pushed u l w.table c.in_ok-in_table.in_table.items ne c.in_ok-in_table.ensures))
+
+pub rename_and_insert-requires-clause-renamings : goal.rename_and_insert-requires-clause-renamings
+rename_and_insert-requires-clause-renamings c =
+    let w = c.args.self.now in
+    let u = c.in_ok-word.word in
+    let l = c.in_ok-letter.letter in
+    let er = c.reserve.ensures.items in
+    let n = rewrite_length w.rules.items in
+    subst (λ (rs : List Rule). AreWithin (length rs) c.in_ok-in_list.in_list.items) (sym er)
+    (subst (λ m. AreWithin m c.in_ok-in_list.in_list.items) n (renamings_within u l (rewrite_rules w.rules.items) c.in_ok-in_list.in_list.items
+    (subst (λ m. AreRenamings u l (rewrite_rules w.rules.items) m c.in_ok-in_list.in_list.items) (sym n)
+    (subst (λ (rs : List Rule). AreRenamings u l (rewrite_rules rs) (length rs) c.in_ok-in_list.in_list.items) c.as_slice.ensures.value c.in_ok-in_list.ensures))))
 
 pub returns-clause-sound : goal.returns-clause-sound
 returns-clause-sound c =
@@ -89,8 +98,8 @@ returns-clause-sound c =
     let eL = c.in_ok-push_letter.ensures.letters in
     let x : IsLettered u k w.table T =
     subst (λ z. IsLettered u z w.table T) el (subst (λ (R : List RewriteRule). AreRenamed u l R T) eT
-    (c.rename_table.ensures u l (subst (λ (R : List RewriteRule). AreRenamings u l R (length R) c.in_ok-in_table.in_table.items) (sym eT)
-    (renamings_pushed u l w.table c.in_ok-in_table.in_table.items ne c.in_ok-in_table.ensures)))) in
+    (set_renamed u l c.push_letter.new.table c.in_ok-in_table.in_table.items T (subst (λ (R : List RewriteRule). AreRenamings u l R (length R) c.in_ok-in_table.in_table.items) (sym eT)
+    (renamings_pushed u l w.table c.in_ok-in_table.in_table.items ne c.in_ok-in_table.ensures)) c.rename_table.ensures)) in
     let t : Rule = record { word = c.in_ok-copy.field-0; least = Some c.in_ok-copy-2.field-0 } in
     let et : rewrite_rule t ≡ lead_rule u k =
     ap (λ z. record { left = z; right = Some c.in_ok-copy-2.field-0 }) c.in_ok-copy.ensures.same ∙ ap (λ z. record { left = u; right = Some z }) (c.in_ok-copy-2.ensures.same ∙ el) in
@@ -99,12 +108,15 @@ returns-clause-sound c =
     subst (λ O. IsInsertionIndex O (words_of w.rules.items) u i) (alphabet_order w.alphabet s.alphabet)
     (subst (λ (rs : List Rule). IsInsertionIndex (word_order w.alphabet.order.x_degrees.items w.alphabet.order.s_degrees.items) (words_of rs) u i) c.as_slice-2.ensures.value c.insertion_index-index.ensures) in
     let er = c.reserve.ensures.items in
-    let a =
-    c.rename_and_insert.ensures u l (subst (λ (rs : List Rule). AreRenamings u l (rewrite_rules rs) (length rs) c.in_ok-in_list.in_list.items) (sym er)
-    (subst (λ (rs : List Rule). AreRenamings u l (rewrite_rules rs) (length rs) c.in_ok-in_list.in_list.items) c.as_slice.ensures.value c.in_ok-in_list.ensures)) in
+    let a = c.rename_and_insert.ensures in
+    let nl = rewrite_length w.rules.items in
+    let hl : AreRenamings u l (rewrite_rules w.rules.items) (length (rewrite_rules w.rules.items)) c.in_ok-in_list.in_list.items =
+    subst (λ m. AreRenamings u l (rewrite_rules w.rules.items) m c.in_ok-in_list.in_list.items) (sym nl)
+    (subst (λ (rs : List Rule). AreRenamings u l (rewrite_rules rs) (length rs) c.in_ok-in_list.in_list.items) c.as_slice.ensures.value c.in_ok-in_list.ensures) in
     let D = a.0 in
     let y : AreRenamed u k (rewrite_rules w.rules.items) (rewrite_rules D) =
-    subst (λ z. AreRenamed u z (rewrite_rules w.rules.items) (rewrite_rules D)) el (subst (λ (rs : List Rule). AreRenamed u l (rewrite_rules rs) (rewrite_rules D)) er a.1) in
+    subst (λ z. AreRenamed u z (rewrite_rules w.rules.items) (rewrite_rules D)) el (set_renamed u l (rewrite_rules w.rules.items) c.in_ok-in_list.in_list.items (rewrite_rules D) hl
+    (subst (λ (rs : List Rule). AreSetBy c.in_ok-in_list.in_list.items (rewrite_rules rs) (rewrite_rules D)) er a.1)) in
     let ei = a.2 in
     record {
       alphabet = c.push_letter.ensures.alphabet;

@@ -1,6 +1,6 @@
 use Rattle.std.proofs.Common.{◌≡◌, arith, length, ap, ◌-◌}
 use Rattle.toric_ideal.proofs.NewSides.{lead_there}
-use Rattle.toric_ideal.proofs.settling.renumbered.Goals as goal
+use Rattle.toric_ideal.proofs.settling.new_letter.Goals as goal
 
 pub index_of-requires : goal.index_of-requires
 index_of-requires c =
