@@ -32,8 +32,10 @@ fn is_joined(
     if alphabet.lcm_degree(table, i, j) <= c {
         return Ok(true);
     }
-    let forms = table.different_forms(alloc, &alphabet.order, i, j)?;
-    Ok(forms.is_none())
+    match table.different_forms(alloc, &alphabet.order, i, j)? {
+        None => Ok(true),
+        Some(_different) => Ok(false),
+    }
 }
 
 /// Whether the pairs of a rule with those before it are joined.

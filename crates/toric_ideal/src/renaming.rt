@@ -7,13 +7,22 @@ ghost use Rattle.toric_ideal.specs.Rewriting.{rewrite_rules};
 use crate::Rule;
 use monomial_order::{Memory, Monomial};
 use std::alloc::Global;
-use word_rules::RuleTable;
+use word_rules::{RuleSide, RuleTable};
 
 /// The index of a rule, and the letter that its right side becomes.
 #[derive(Drop)]
 pub(crate) struct Renaming {
     pub(crate) index: usize,
-    pub(crate) letter: Monomial,
+    pub(crate) letter: RuleSide,
+}
+
+impl Renaming {
+    pub(crate) fn new(alloc: Global, index: usize, letter: Monomial) -> Result<Renaming, Memory>
+        ensures { IfOk result (λ r. r ≡ record { index = index; letter = letter }) }
+    {
+        let letter = RuleSide::new(alloc, letter)?;
+        Ok(Renaming { index, letter })
+    }
 }
 
 /// Whether the right side at an index is the word.
@@ -51,8 +60,7 @@ pub(crate) fn table_renamings(
     let mut renamings = Vec::new(alloc);
     'rules: for index in 0..table.len() {
         if goes_to(table, index, word) {
-            let letter = letter.copy(alloc)?;
-            renamings.push(Renaming { index, letter })?;
+            renamings.push(Renaming::new(alloc, index, letter.copy(alloc)?)?)?;
         }
     }
     Ok(renamings)
@@ -71,8 +79,7 @@ pub(crate) fn list_renamings(
     let mut renamings = Vec::new(alloc);
     'rules: for index in 0..rules.len() {
         if has_least(&rules[index], word) {
-            let letter = letter.copy(alloc)?;
-            renamings.push(Renaming { index, letter })?;
+            renamings.push(Renaming::new(alloc, index, letter.copy(alloc)?)?)?;
         }
     }
     Ok(renamings)
@@ -105,7 +112,7 @@ pub(crate) fn rename_list(rules: &mut [Rule], renamings: Vec<Renaming>)
 {
     let mut renamings = renamings;
     'rename: while let Some(renaming) = renamings.pop() {
-        set_least(rules, renaming.index, renaming.letter);
+        set_least(rules, renaming.index, renaming.letter.into_word());
     }
 }
 

@@ -89,7 +89,7 @@ fn table_letters(
     let mut renamings = Vec::new(alloc);
     'rules: for index in 0..table.len() {
         if let Some(letter) = table_letter(alloc, alphabet, first, leads, table, index)? {
-            renamings.push(Renaming { index, letter })?;
+            renamings.push(Renaming::new(alloc, index, letter)?)?;
         }
     }
     Ok(renamings)
@@ -130,7 +130,7 @@ fn list_letters(
     let mut renamings = Vec::new(alloc);
     'rules: for index in 0..rules.len() {
         if let Some(letter) = list_letter(alloc, alphabet, first, leads, &rules[index].least)? {
-            renamings.push(Renaming { index, letter })?;
+            renamings.push(Renaming::new(alloc, index, letter)?)?;
         }
     }
     Ok(renamings)

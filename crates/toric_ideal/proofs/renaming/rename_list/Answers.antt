@@ -1,4 +1,5 @@
-use Rattle.std.proofs.Common.{◌∷◌, [], append-nil, arith, sym, subst}
+use Rattle.std.proofs.Common.{◌∷◌, [], append-nil, arith, sym, subst, ap, set, Some, ◌∙◌}
+use Rattle.word_rules.specs.Rules.{rule_at}
 use Rattle.toric_ideal.specs.Renaming.{AreSetBy}
 use Rattle.toric_ideal.specs.Rewriting.{rewrite_rules}
 use Rattle.toric_ideal.proofs.Renamings.{next_within, rewrite_length, set_more, set_next, set_none}
@@ -24,6 +25,6 @@ rename-preserved c =
     let b = next_within c.args.renamings.items c.rename.renamings.items c.pop.new.self.items i.0 c.in-Some.renaming _ c.in-Some.ensures.items i.1 c.requires in (
       c.in-Some.renaming ∷ i.0,
       set_next c.args.renamings.items c.rename.renamings.items c.pop.new.self.items i.0 c.in-Some.renaming c.in-Some.ensures.items i.1,
-      subst (AreSetBy (c.in-Some.renaming ∷ i.0) (rewrite_rules c.args.rules.now)) (sym c.set_least.ensures)
+      subst (AreSetBy (c.in-Some.renaming ∷ i.0) (rewrite_rules c.args.rules.now)) (sym (c.set_least.ensures ∙ ap (λ l. set (rewrite_rules c.rename.rules) c.in-Some.renaming.index (record { left = (rule_at (rewrite_rules c.rename.rules) c.in-Some.renaming.index).left; right = Some l })) c.into_word.ensures))
           (set_more i.0 (rewrite_rules c.args.rules.now) (rewrite_rules c.rename.rules) c.in-Some.renaming (omega arith) i.2),
     )
