@@ -180,7 +180,14 @@ impl Completion {
         let (_, unsorted) = self.alphabet.leads.as_slice().split_at(first);
         let last = sorted(alloc, o, unsorted)?;
         let leads = last.as_slice();
-        let in_table = table_letters(alloc, &self.alphabet, first, leads, &self.table, self.lower_rules)?;
+        let in_table = table_letters(
+            alloc,
+            &self.alphabet,
+            first,
+            leads,
+            &self.table,
+            self.lower_rules,
+        )?;
         let rules = self.rules.as_slice();
         let from = first_of_degree(&self.alphabet.order, rules, self.degree);
         let in_list = list_letters(alloc, &self.alphabet, first, leads, rules, from)?;

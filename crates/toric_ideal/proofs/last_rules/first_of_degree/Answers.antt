@@ -1,8 +1,6 @@
-use Rattle.std.proofs.Common.{◌≡◌, ◌<◌, ◌≤◌, ◌-◌, ◌∙◌, [], ap, arith, get_or, length, sym}
+use Rattle.std.proofs.Common.{◌≡◌, ◌<◌, ◌≤◌, ◌-◌, ap, arith, get_or, length}
 use Rattle.monomial_order.specs.laws.Lists.{contains_at}
 use Rattle.word_rewriting.specs.Rewriting.{RewriteRule}
-use Rattle.word_rules.specs.Rules.{rule_at}
-use Rattle.toric_ideal.specs.Rewriting.{rewrite_rules}
 use Rattle.toric_ideal.specs.SortedRules.{words_of}
 use Rattle.toric_ideal.proofs.IncreasingLists.{before_degree}
 use Rattle.toric_ideal.proofs.Renamings.{listed_rule}
