@@ -2,10 +2,10 @@
 use Rattle.std.proofs.Common.{◌≡◌, ◌≢◌, ℕ, zero, suc, ◌<◌, ◌≤◌, refl, sym, ◌∙◌, ap, subst, List, [], ◌∷◌, ◌++◌, length, length-append, take, drop, drop-cons, get_or, arith, ◌⊎◌, inl, inr, ⊎_elim}
 use Rattle.std.specs.Prelude.{Contains, AllPairs}
 use Rattle.std.proofs.Math.ListN.{drop_of_length-le}
-use Rattle.std.proofs.lemmas.List.{take-append-drop}
+use Rattle.std.proofs.lemmas.List.{get_or-take, length-take-le, take-append-drop}
 use Rattle.std.specs.declared.cmp.Ordering.TheVariants.{Less}
 use Rattle.monomial_order.specs.MonomialOrder.{IsIncreasing, IsMonomialOrder, MonomialOrder}
-use Rattle.monomial_order.specs.laws.Comparing.{le_or_not, increasing_below, increasing_cons, increasing_tail, three_ways, increasing_append}
+use Rattle.monomial_order.specs.laws.Comparing.{degree_falls, le_or_not, increasing_below, increasing_cons, increasing_tail, three_ways, increasing_append}
 use Rattle.monomial_order.specs.laws.Lists.{contains_at, contains_cases, contains_here, contains_left, contains_none, contains_right, contains_there}
 use Rattle.toric_ideal.specs.Increasing.{IsInsertionIndex, IsInserted, IsSorted}
 use Rattle.std.proofs.lemmas.List.Elements.{Contains-append_cases}
@@ -50,6 +50,13 @@ module _ (O : MonomialOrder) (W : IsMonomialOrder O) where
   increasing_drop zero ms r = r
   increasing_drop (suc i) [] r = tt
   increasing_drop (suc i) (m ∷ ms) r = increasing_drop i ms (increasing_tail O m ms r)
+
+  -- the members before an index have at most the degree of the last of them
+  pub before_degree : (ms : List (List ℕ)) (j i : ℕ) → IsIncreasing O ms → j < length ms → i ≤ j → O.degree (get_or ms i []) ≤ O.degree (get_or ms j [])
+  before_degree ms j i r l b =
+      ⊎_elim (λ e. let q = ap O.degree e in omega arith) (λ c. degree_falls O W (get_or ms i []) (get_or ms j []) c)
+      (increasing_before ms j r l (get_or ms i [])
+      (subst (Contains (take (suc j) ms)) (get_or-take (suc j) ms i [] (omega arith)) (contains_at (take (suc j) ms) i [] (let n = length-take-le (suc j) ms (omega arith) in omega arith))))
 
   -- the members before low are less than m, and those from high on aren't
   pub record IsSearched (ms : List (List ℕ)) (m : List ℕ) (low high : ℕ) : Type 0 where

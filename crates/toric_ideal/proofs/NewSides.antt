@@ -59,8 +59,8 @@ module _ (a : Alphabet) (k : ℕ) (after : List Exponents) (h : CanRenumber a k 
     })
 
 module _ (a : Alphabet) (k : ℕ) (after : List Exponents) (R : List RewriteRule) where
-  pub letters_none : AreNewLetters a k after R 0 []
-  letters_none = record { each = λ x h. absurd (contains_none x h); all = λ j l. absurd (omega arith) }
+  pub letters_none : (i : ℕ) → ((j : ℕ) → j < i → IsNewSide a k after (rule_at R j).right (rule_at R j).right) → AreNewLetters a k after R i []
+  letters_none i h = record { each = λ x c. absurd (contains_none x c); all = λ j l. inl (h j l) }
 
   pub letters_skip : (i : ℕ) (list : List Renaming) → IsNewSide a k after (rule_at R i).right (rule_at R i).right → AreNewLetters a k after R i list → AreNewLetters a k after R (i + 1) list
   letters_skip i list s h = record {

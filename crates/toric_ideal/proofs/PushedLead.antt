@@ -10,9 +10,9 @@ use Rattle.monomial_order.specs.laws.Monomial.{variable_length, variable_off, we
 use Rattle.monomial_order.specs.laws.Comparing.{proper_divisor}
 use Rattle.monomial_order.specs.laws.Lists.{contains_at, contains_cases, contains_either, contains_here, contains_left, contains_map, contains_none, contains_right, contains_there, map_contains, contains_one}
 use Rattle.word_laws.specs.Words.{Letters, AreLetters, lead_degrees, word_order_of, IsWord, IsLeast, IsReducible}
-use Rattle.word_laws.specs.laws.Words.{word_laws, degree_image, degree_x, x_word}
+use Rattle.word_laws.specs.laws.Words.{word_laws, degree_image, degree_same, degree_x, x_word}
 use Rattle.word_rewriting.specs.Rewriting.{RewriteRule}
-use Rattle.word_rewriting.specs.Completeness.{lead_letter, with_leads}
+use Rattle.word_rewriting.specs.Completeness.{lead_letter, with_leads, IsRightSide}
 use Rattle.word_rewriting.specs.Renumbering.{AreLastLeads}
 use Rattle.word_rewriting.specs.laws.Letters.{places_count, letter_image, letter_word}
 use Rattle.word_rewriting.specs.laws.MoreLeads.{compare_stays}
@@ -32,7 +32,7 @@ use Rattle.toric_ideal.specs.Queue.{IsQueued}
 use Rattle.toric_ideal.specs.Renaming.{lead_rule, IsRenamedRule, AreRenamed, IsLettered}
 use Rattle.toric_ideal.specs.Rewriting.{rewrite_rule, rewrite_rules, AreExactRules, AreSameRules}
 use Rattle.toric_ideal.specs.SortedRules.{words_of, IsInsertedRule}
-use Rattle.toric_ideal.specs.State.{listing_of, IsSound}
+use Rattle.toric_ideal.specs.State.{listing_of, AreLower, IsSound}
 use Rattle.toric_ideal.specs.Step.{pair_degree, IsWithLetter}
 use Rattle.toric_ideal.proofs.ExactRules.{exact_rules}
 use Rattle.toric_ideal.proofs.Members.{contains_drop, contains_parts, contains_take}
@@ -40,7 +40,7 @@ use Rattle.toric_ideal.proofs.NewLead.{degree_stays, lead_exact}
 use Rattle.toric_ideal.proofs.Renamings.{lead_renamed, listed_rule, renamed_from, renamed_of, renamed_unique, rewrite_length}
 use Rattle.toric_ideal.proofs.RuleLists.{inserted_new, word_at, words_length}
 use Rattle.toric_ideal.proofs.Skipping.{sum_skipped}
-use Rattle.toric_ideal.proofs.SoundListings.{sound_exact}
+use Rattle.toric_ideal.proofs.SoundListings.{listed_there, sound_exact}
 
 -- a list increases in each order that compares its members alike
 pub increasing_alike : (O P : MonomialOrder) (ms : List Exponents) → ((v w : Exponents) → Contains ms v → Contains ms w → P.compare v w ≡ O.compare v w) → IsIncreasing O ms → IsIncreasing P ms
@@ -149,6 +149,21 @@ module _ (w : Completion) (s : IsSound w) (m : Exponents) (n : IsNewLead (listin
         ⊎_elim (λ z. n.standard (subst (IsMultiple w.zeros.items) least.image z)) (λ x. least.least x.0 x.1)
         (subst (IsReducible (IsMultiple w.zeros.items) L) e (s.listing.rules.minimal r h).reducible)
 
+    -- no rule of a lower degree goes to the word
+    pub lower_other : (r : RewriteRule) → Contains w.table r → (word_order_of L).degree r.left < w.degree → r.right ≢ Some u
+    lower_other r h d e =
+        let k : IsRightSide (IsMultiple w.zeros.items) L r.left (Some u) = subst (IsRightSide (IsMultiple w.zeros.items) L r.left) e (exact.rules r h).1 in
+        let q = degree_same L H u r.left k.image in
+        let b = least_degree in
+        absurd (omega arith)
+
+    pub lower_in_table : (k : ℕ) → k < w.lower_rules → (rule_at w.table k).right ≢ Some u
+    lower_in_table k l = let a = s.lower.within in lower_other (rule_at w.table k) (contains_at w.table k no_rule (omega arith)) (s.lower.less k l)
+
+    pub lower_in_list : (n : ℕ) → n ≤ length w.rules.items → ((k : ℕ) → k < n → (word_order_of L).degree (rule_at (rewrite_rules w.rules.items) k).left < w.degree) →
+        (k : ℕ) → k < n → (rule_at (rewrite_rules w.rules.items) k).right ≢ Some u
+    lower_in_list n a h k l = lower_other (rule_at (rewrite_rules w.rules.items) k) (listed_there w s k (omega arith)) (h k l)
+
     module _ (T : List RewriteRule) (x : IsLettered u letter w.table T) where
       abbrev plus : List RewriteRule
       plus = w.table ++ lead_rule u letter ∷ []
@@ -209,6 +224,18 @@ module _ (w : Completion) (s : IsSound w) (m : Exponents) (n : IsNewLead (listin
             (λ z. inr (old_zero i li z.0, old_zero j lj z.1)) k))
             (λ k. inr (subst (λ d. Contains (list_of w.pairs d) (record { first = i; second = j })) (sym e) k))
             (s.queued.all i j l b (omega arith) (omega arith));
+      }
+
+      pub pushed_lower : AreLower (word_order_of M) w.degree w.lower_rules T
+      pushed_lower = record {
+        within = let a = x.number in let b = length-append w.table (lead_rule u letter ∷ []) in let c = s.lower.within in omega arith;
+        less = λ k l.
+            let c = s.lower.within in
+            let b : k < length w.table = omega arith in
+            let e = ap (word_order_of M).degree (old_left k b) in
+            let d = degree_stays L H w.zeros.items w.degree m last w.table exact u least n.standard (rule_at w.table k).left (exact.rules (rule_at w.table k) (contains_at w.table k no_rule b)).0 in
+            let f = s.lower.less k l in
+            omega arith;
       }
 
       module _ (D : List Rule) (y : AreRenamed u letter (rewrite_rules w.rules.items) (rewrite_rules D)) (i : ℕ) (place : IsInsertionIndex (word_order_of L) (words_of w.rules.items) u i)

@@ -17,8 +17,8 @@ use Rattle.toric_ideal.specs.Rewriting.{rewrite_rule, rewrite_rules}
 use Rattle.toric_ideal.proofs.Cleaning.{rule_index}
 
 module _ (w letter : Exponents) (R : List RewriteRule) where
-  pub renamings_none : AreRenamings w letter R 0 []
-  renamings_none = record { each = λ x h. absurd (contains_none x h); all = λ k l e. absurd (omega arith) }
+  pub renamings_none : (i : ℕ) → ((k : ℕ) → k < i → (rule_at R k).right ≢ Some w) → AreRenamings w letter R i []
+  renamings_none i h = record { each = λ x c. absurd (contains_none x c); all = λ k l e. absurd (h k l e) }
 
   pub renamings_skip : (i : ℕ) (list : List Renaming) → (rule_at R i).right ≢ Some w → AreRenamings w letter R i list → AreRenamings w letter R (i + 1) list
   renamings_skip i list ne h = record {

@@ -9,8 +9,9 @@ use Rattle.monomial_order.specs.MonomialOrder.{IsIncreasing, IsMonomialOrder, Mo
 use Rattle.monomial_order.specs.laws.Lists.{contains_at, contains_here, contains_map, contains_there, map_contains}
 use Rattle.word_laws.specs.Words.{Letters, AreLetters, IsReducible, IsWord, variables, word_order_of}
 use Rattle.word_laws.specs.laws.Images.{degree_weighted}
+use Rattle.word_laws.specs.laws.Words.{degree_image, degree_same, degree_x}
 use Rattle.word_rewriting.specs.Rewriting.{WordOrZero, RewriteRule}
-use Rattle.word_rewriting.specs.Completeness.{with_leads}
+use Rattle.word_rewriting.specs.Completeness.{lead_letter, with_leads, IsRightSide}
 use Rattle.word_rewriting.specs.Renumbering.{AreRenumbered, AreRenumberedRules, IsRenumberedRule, IsRenumberedSide}
 use Rattle.word_rules.specs.Rules.{no_rule, rule_at}
 use Rattle.monomial_order.specs.Orders.{word_order}
@@ -27,7 +28,7 @@ use Rattle.degree_queue.specs.DegreeQueue.{list_of}
 use Rattle.toric_ideal.specs.Rewriting.{rewrite_rule, rewrite_rules, AreExactRules, AreSameRules}
 use Rattle.toric_ideal.specs.Settling.{last_leads, lower_letters, CanRenumber, HaveNewSides, IsLowerOrLetterSide, IsNewSide}
 use Rattle.toric_ideal.specs.SortedRules.{words_of}
-use Rattle.toric_ideal.specs.State.{IsSound}
+use Rattle.toric_ideal.specs.State.{AreLower, IsSound}
 use Rattle.toric_ideal.proofs.Cleaning.{rule_index}
 use Rattle.toric_ideal.proofs.ExactRules.{exact_rules}
 use Rattle.toric_ideal.proofs.LetterLemmas.{leads_letters}
@@ -37,7 +38,8 @@ use Rattle.toric_ideal.proofs.Relettering.{closed_again}
 use Rattle.toric_ideal.proofs.Renamings.{listed_rule, rewrite_length}
 use Rattle.toric_ideal.proofs.RuleLists.{word_at, words_length}
 use Rattle.toric_ideal.proofs.Settled.{left_lower, right_lower, settled_exact, side_unique}
-use Rattle.toric_ideal.proofs.SoundListings.{sound_exact}
+use Rattle.toric_ideal.proofs.SoundListings.{listed_there, sound_exact}
+use Rattle.word_rewriting.specs.laws.MoreLeads.{new_image}
 use Rattle.word_rewriting.specs.laws.Renumbering.{last_letters}
 
 -- the order that gives each x its degree gives each monomial its degree
@@ -136,6 +138,40 @@ module _ (O : MonomialOrder) (W : IsMonomialOrder O) (w : Completion) (s : IsSou
 
   pub rule_sides : (r : Rule) → Contains w.rules.items r → IsLowerOrLetterSide L before r.least
   rule_sides r c = right_lower L HL Z w.degree before after K w.table exact (rewrite_rule r) (s.same.there r c)
+
+  -- the letter of a lead has its degree
+  letter_degree : (j : ℕ) → j < length before → (word_order_of (with_leads L before)).degree (lead_letter L (length L.leads + j)) ≡ w.degree
+  letter_degree j l =
+      let M = with_leads L before in
+      let HM = last_letters L HL w.degree before K.old_leads in
+      let c = contains_at before j [] l in
+      sym (degree_image M HM (lead_letter L (length L.leads + j))) ∙
+      (ap (word_order_of M).degree (new_image L HL before (λ m c. (K.old_leads.in_x m c, K.old_leads.not_one m c)) j) ∙
+      (degree_x M HM (get_or before j []) (K.old_leads.in_x (get_or before j []) c) ∙ K.old_leads.degree (get_or before j []) c))
+
+  -- a right side of a lower degree has no letter of these leads
+  lower_stays : (r : RewriteRule) → Contains w.table r → (word_order_of (letters_of w.alphabet)).degree r.left < w.degree → IsNewSide w.alphabet k after r.right r.right
+  lower_stays r h d =
+      side r.right (exact.rules r h).1 (right_lower L HL Z w.degree before after K w.table exact r h)
+      (subst (λ N. (word_order_of N).degree r.left < w.degree) (sym whole) d)
+    where
+      side : (a : WordOrZero) → IsRightSide (IsMultiple Z) (with_leads L before) r.left a → IsLowerOrLetterSide L before a → (word_order_of (with_leads L before)).degree r.left < w.degree →
+          IsNewSide w.alphabet k after a a
+      side None x y d = tt
+      side (Some v) x y d =
+          ⊎_elim (λ z. inl (z, refl))
+          (λ j.
+          let q = degree_same (with_leads L before) (last_letters L HL w.degree before K.old_leads) v r.left x.image in
+          let e = ap (word_order_of (with_leads L before)).degree j.2 in
+          let f = letter_degree j.0 j.1 in
+          absurd (omega arith)) y
+
+  pub lower_in_table : (i : ℕ) → i < w.lower_rules → IsNewSide w.alphabet k after (rule_at w.table i).right (rule_at w.table i).right
+  lower_in_table i l = let a = s.lower.within in lower_stays (rule_at w.table i) (contains_at w.table i no_rule (omega arith)) (s.lower.less i l)
+
+  pub lower_in_list : (n : ℕ) → n ≤ length w.rules.items → ((i : ℕ) → i < n → (word_order_of (letters_of w.alphabet)).degree (rule_at (rewrite_rules w.rules.items) i).left < w.degree) →
+      (i : ℕ) → i < n → IsNewSide w.alphabet k after (rule_at (rewrite_rules w.rules.items) i).right (rule_at (rewrite_rules w.rules.items) i).right
+  lower_in_list n a h i l = lower_stays (rule_at (rewrite_rules w.rules.items) i) (listed_there w s i (omega arith)) (h i l)
 
   pub settled_is : (new : List Exponents) → new ≡ take k leads ++ after → IsSettled O xs w.degree leads new
   settled_is new e = record {
@@ -345,3 +381,12 @@ module _ (O : MonomialOrder) (W : IsMonomialOrder O) (w : Completion) (s : IsSou
       pub settled_queued : IsQueued (word_order_of (letters xs new)) w.degree w.queued_count T w.pairs
       settled_queued =
           subst (λ P. IsQueued P w.degree w.queued_count T w.pairs) (sym (ap (λ ls. word_order_of (letters xs ls)) e ∙ order_same)) (queued_kept (word_order_of (letters_of w.alphabet)) w.degree w.queued_count T ht w.pairs s.queued)
+
+      pub settled_lower : AreLower (word_order_of (letters xs new)) w.degree w.lower_rules T
+      settled_lower = subst (λ P. AreLower P w.degree w.lower_rules T) (sym (ap (λ ls. word_order_of (letters xs ls)) e ∙ order_same)) (record {
+        within = let a = s.lower.within in let b = ht.number in omega arith;
+        less = λ i l.
+            let a = s.lower.within in
+            let q = ap (word_order_of (letters_of w.alphabet)).degree (ht.left i (omega arith)) in
+            let b = s.lower.less i l in omega arith;
+      })

@@ -1,10 +1,10 @@
 -- What holds of a completion between calls.
-use Rattle.std.proofs.Common.{◌≡◌, ◌≢◌, ℕ, ◌<◌, ◌≤◌, sym, subst, List, [], length, take, drop, arith, ⊎_elim, false, true, Some, None, inl, inr}
+use Rattle.std.proofs.Common.{◌≡◌, ◌≢◌, ℕ, ◌<◌, ◌≤◌, sym, ap, subst, List, [], length, take, drop, arith, ⊎_elim, false, true, Some, None, inl, inr}
 use Rattle.std.specs.Prelude.{Contains}
 use Rattle.std.proofs.lemmas.List.{take-append-drop}
 use Rattle.monomial_order.specs.Monomial.{Exponents, weighted_degree}
 use Rattle.monomial_order.specs.Ranges.{all_between}
-use Rattle.monomial_order.specs.laws.Lists.{contains_none}
+use Rattle.monomial_order.specs.laws.Lists.{contains_at, contains_none, map_contains}
 use Rattle.monomial_order.specs.Monomial.{IsMonomial, IsMultiple}
 use Rattle.word_laws.specs.Words.{Letters, AreLetters, word_order_of, image_of, IsWord, IsLeast, IsSWord}
 use Rattle.word_laws.specs.laws.Words.{image_same}
@@ -13,8 +13,8 @@ use Rattle.word_rewriting.specs.Rewriting.{WordOrZero, RewriteRule, IsNormalForm
 use Rattle.word_rewriting.specs.Completeness.{IsLeastOrZero, GeneratesReducible}
 use Rattle.word_rewriting.specs.laws.Criterion.{decreasing_rules}
 use Rattle.word_rewriting.specs.laws.NormalForms.{form_least}
-use Rattle.word_rules.specs.Rules.{AreDecreasing}
-use Rattle.toric_ideal.specs.Rewriting.{rewrite_rule, AreExactRules}
+use Rattle.word_rules.specs.Rules.{no_rule, rule_at, AreDecreasing}
+use Rattle.toric_ideal.specs.Rewriting.{rewrite_rule, rewrite_rules, AreExactRules}
 use Rattle.toric_ideal.proofs.ExactRules.{listed_exact}
 use Rattle.toric_ideal.specs.Leads.{letters}
 use Rattle.toric_ideal.specs.declared.completion.Completion.{Completion}
@@ -24,7 +24,10 @@ use Rattle.toric_ideal.specs.Listing.{AgreeTo, AreParted, AreRules, AreZeros, Is
 use Rattle.monomial_order.specs.MonomialOrder.{MonomialOrder}
 use Rattle.toric_ideal.specs.declared.index_pair.IndexPair.{IndexPair}
 use Rattle.toric_ideal.specs.Queue.{IsQueued}
-use Rattle.toric_ideal.specs.State.{listing_of, IsSound}
+use Rattle.toric_ideal.specs.State.{listing_of, AreLower, IsSound}
+use Rattle.toric_ideal.specs.Step.{KeepsFirst}
+use Rattle.toric_ideal.proofs.JoiningPairs.{same_rule}
+use Rattle.toric_ideal.proofs.Renamings.{rewrite_length}
 use Rattle.toric_ideal.proofs.Degrees.{rules_agree, rules_none}
 use Rattle.toric_ideal.proofs.LetterLemmas.{leads_letters}
 use Rattle.toric_ideal.proofs.Members.{contains_parts, contains_take, drop_none}
@@ -94,6 +97,29 @@ decided_generates w s d h v hv e r =
 
 pub decided_small : (w : Completion) → IsSound w → (d : ℕ) → IsDecided (listing_of w) d → d ≤ 65535
 decided_small w s d h = ⊎_elim (λ l. let m = s.listing.small in omega arith) (λ k. k.1) h
+
+-- all rules have degrees below a greater one
+pub lower_all : (w : Completion) → IsSound w → (c n : ℕ) → w.degree < c → n ≡ length w.table → AreLower (word_order_of (letters_of w.alphabet)) c n w.table
+lower_all w s c n l e = record {
+  within = omega arith;
+  less = λ k b. let a = (sound_exact w s).degree (rule_at w.table k) (contains_at w.table k no_rule (omega arith)) in omega arith;
+}
+
+-- so have the same rules at the start of a longer table
+pub lower_grown : (w : Completion) → IsSound w → (c n : ℕ) → w.degree < c → n ≡ length w.table → (T : List RewriteRule) → KeepsFirst (length w.table) w.table T → AreLower (word_order_of (letters_of w.alphabet)) c n T
+lower_grown w s c n l e T h = record {
+  within = let a = h.within in omega arith;
+  less = λ k b.
+      let q = ap (λ (r : RewriteRule). (word_order_of (letters_of w.alphabet)).degree r.left) (same_rule (length w.table) w.table T h k (omega arith)) in
+      let a = (lower_all w s c n l e).less k b in omega arith;
+}
+
+-- a rule of the list is in the table
+pub listed_there : (w : Completion) → IsSound w → (k : ℕ) → k < length w.rules.items → Contains w.table (rule_at (rewrite_rules w.rules.items) k)
+listed_there w s k l =
+    let n = rewrite_length w.rules.items in
+    let x = map_contains rewrite_rule w.rules.items (rule_at (rewrite_rules w.rules.items) k) (contains_at (rewrite_rules w.rules.items) k no_rule (omega arith)) in
+    subst (Contains w.table) x.2 (s.same.there x.0 x.1)
 
 -- a normal form of a word is the least word with its image, or zero
 pub sound_least : (w : Completion) → IsSound w → (v : Exponents) → IsWord (letters_of w.alphabet) v → IsDecided (listing_of w) ((word_order_of (letters_of w.alphabet)).degree v) →

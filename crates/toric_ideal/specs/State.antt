@@ -1,7 +1,10 @@
 -- The listing of a completion.
-use Rattle.std.specs.Prelude.{◌≢◌, ◌≤◌, length, take, drop, Contains, Option, Some, None}
+use Rattle.std.specs.Prelude.{◌≢◌, ℕ, ◌≤◌, ◌<◌, List, length, take, drop, Contains, Option, Some, None}
 use Rattle.monomial_order.specs.Monomial.{Exponents, IsMultiple}
+use Rattle.monomial_order.specs.MonomialOrder.{MonomialOrder}
 use Rattle.word_laws.specs.Words.{Letters, image_of, word_order_of, IsLeast, IsSWord}
+use Rattle.word_rewriting.specs.Rewriting.{RewriteRule}
+use Rattle.word_rules.specs.Rules.{rule_at}
 use Rattle.toric_ideal.specs.declared.completion.Completion.{Completion}
 use Rattle.toric_ideal.specs.Alphabet.{letters_of, IsAlphabet}
 use Rattle.toric_ideal.specs.Listing.{AreParted, IsListing, Listing}
@@ -17,8 +20,13 @@ listing_of w = record {
   closed = w.closed;
 }
 
+-- the left sides of the first rules, so many, have degrees less than d
+pub record AreLower (O : MonomialOrder) (d count : ℕ) (R : List RewriteRule) : Type 0 where
+  pub within : count ≤ length R
+  pub less : (k : ℕ) → k < count → O.degree (rule_at R k).left < d
+
 -- What holds of every completion between calls: the first leads, so many, are those of a degree less than its own, and
--- the others are no multiples of zeros.
+-- the others are no multiples of zeros; and the first rules of the table have lower degrees too.
 pub record IsSound (w : Completion) : Type 0 where
   pub alphabet : IsAlphabet w.alphabet
   pub listing : IsListing (listing_of w)
@@ -27,6 +35,7 @@ pub record IsSound (w : Completion) : Type 0 where
   pub within : w.settled_count ≤ length w.alphabet.leads.items
   pub parted : AreParted (letters_of w.alphabet).degrees w.degree w.alphabet.leads.items
       (take w.settled_count w.alphabet.leads.items) (drop w.settled_count w.alphabet.leads.items)
+  pub lower : AreLower (word_order_of (letters_of w.alphabet)) w.degree w.lower_rules w.table
   pub standard : (m : Exponents) → Contains (drop w.settled_count w.alphabet.leads.items) m → ¬ IsMultiple w.zeros.items m
 
 -- the least s-word with the image m, or none if no s-word has it

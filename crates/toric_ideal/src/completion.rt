@@ -21,7 +21,8 @@ use word_rules::RuleTable;
 
 /// The letters, the monomials whose multiples count as zero, and the rules of degree at most `degree`: in the order of
 /// their words, and in a table that rewrites. The pairs of the first rules of the table, `queued_count` of them, wait
-/// in the queue for their degree. The first leads, `settled_count` of them, have degrees less than `degree`.
+/// in the queue for their degree. The first leads, `settled_count` of them, have degrees less than `degree`, and so do
+/// the words of the first rules of the table, `lower_rules` of them: those that were there when the degree was set.
 #[derive(Drop)]
 pub(crate) struct Completion {
     pub(crate) alphabet: Alphabet,
@@ -33,6 +34,7 @@ pub(crate) struct Completion {
     pub(crate) pairs: DegreeQueue<IndexPair>,
     pub(crate) queued_count: usize,
     pub(crate) settled_count: usize,
+    pub(crate) lower_rules: usize,
 }
 
 impl Completion {
@@ -54,6 +56,7 @@ impl Completion {
             pairs: DegreeQueue::new(alloc),
             queued_count: 0,
             settled_count: 0,
+            lower_rules: 0,
         })
     }
 
@@ -85,6 +88,7 @@ impl Completion {
             self.zeros = zeros;
             self.degree = c;
             self.settled_count = self.alphabet.leads.len();
+            self.lower_rules = self.table.len();
             return Ok(());
         }
         let first = self.table.len();
@@ -105,6 +109,7 @@ impl Completion {
                 self.closed = false;
                 self.queued_count = queued_count;
                 self.settled_count = self.alphabet.leads.len();
+                self.lower_rules = first;
                 Ok(())
             }
             Err(memory) => {

@@ -11,6 +11,7 @@ ghost use Rattle.toric_ideal.specs.State.{listing_of, IsSound};
 use crate::Rule;
 use crate::alphabet::Alphabet;
 use crate::completion::Completion;
+use crate::last_rules::first_of_degree;
 use crate::renaming::{Renaming, list_renamings, rename_list, rename_table, table_renamings};
 use crate::sorting::insertion_index;
 use monomial_order::{Memory, Monomial, Order};
@@ -116,8 +117,9 @@ impl Completion {
     {
         let word = self.standard_word(alloc, m)?;
         let letter = Monomial::variable(alloc, self.alphabet.order.places())?;
-        let in_table = table_renamings(alloc, &self.table, &word, &letter)?;
-        let in_list = list_renamings(alloc, self.rules.as_slice(), &word, &letter)?;
+        let in_table = table_renamings(alloc, &self.table, self.lower_rules, &word, &letter)?;
+        let first = first_of_degree(&self.alphabet.order, self.rules.as_slice(), self.degree);
+        let in_list = list_renamings(alloc, self.rules.as_slice(), first, &word, &letter)?;
         let index = insertion_index(&self.alphabet.order, self.rules.as_slice(), &word);
         let rule = Rule {
             word: word.copy(alloc)?,

@@ -13,6 +13,7 @@ mod degree_step;
 mod growing;
 mod increasing;
 mod index_pair;
+mod last_rules;
 mod leading;
 mod new_zeros;
 mod normal_forms;

@@ -1,5 +1,5 @@
 //! Right sides that become a letter.
-ghost use Rattle.std.specs.Prelude.{◌≡◌, ◌≢◌, ◌<◌, ◌≤◌, length, set, Some, true, false, IfOk};
+ghost use Rattle.std.specs.Prelude.{◌≡◌, ◌≢◌, ◌<◌, ◌≤◌, ℕ, length, set, Some, true, false, IfOk};
 ghost use Rattle.word_rules.specs.Rules.{rule_at};
 ghost use Rattle.toric_ideal.specs.Renaming.{AreRenamings, AreSetBy, AreWithin};
 ghost use Rattle.toric_ideal.specs.Rewriting.{rewrite_rules};
@@ -48,17 +48,20 @@ fn has_least(rule: &Rule, word: &Monomial) -> bool
     }
 }
 
-/// The renamings of the right sides in the table that are the word.
+/// The renamings of the right sides in the table that are the word. Those before the index `first` are not.
 pub(crate) fn table_renamings(
     alloc: Global,
     table: &RuleTable,
+    first: usize,
     word: &Monomial,
     letter: &Monomial,
 ) -> Result<Vec<Renaming>, Memory>
+    requires within { first ≤ length table.now }
+    requires lower { (k : ℕ) → k < first → (rule_at table.now k).right ≢ Some word.now }
     ensures { IfOk result (λ v. AreRenamings word.now letter.now table.now (length table.now) v.items) }
 {
     let mut renamings = Vec::new(alloc);
-    'rules: for index in 0..table.len() {
+    'rules: for index in first..table.len() {
         if goes_to(table, index, word) {
             renamings.push(Renaming::new(alloc, index, letter.copy(alloc)?)?)?;
         }
@@ -66,18 +69,21 @@ pub(crate) fn table_renamings(
     Ok(renamings)
 }
 
-/// The renamings of the least words in the list that are the word.
+/// The renamings of the least words in the list that are the word. Those before the index `first` are not.
 pub(crate) fn list_renamings(
     alloc: Global,
     rules: &[Rule],
+    first: usize,
     word: &Monomial,
     letter: &Monomial,
 ) -> Result<Vec<Renaming>, Memory>
+    requires within { first ≤ length rules.now }
+    requires lower { (k : ℕ) → k < first → (rule_at (rewrite_rules rules.now) k).right ≢ Some word.now }
     ensures { IfOk result (λ v.
         AreRenamings word.now letter.now (rewrite_rules rules.now) (length rules.now) v.items) }
 {
     let mut renamings = Vec::new(alloc);
-    'rules: for index in 0..rules.len() {
+    'rules: for index in first..rules.len() {
         if has_least(&rules[index], word) {
             renamings.push(Renaming::new(alloc, index, letter.copy(alloc)?)?)?;
         }

@@ -1,16 +1,17 @@
 //! Leads of the last degree, numbered again.
-ghost use Rattle.std.specs.Prelude.{◌≡◌, ◌<◌, ◌+◌, ◌++◌, ℕ, [], Some, length, take, get_or, Contains, IfOk, OnOk, OnErr};
+ghost use Rattle.std.specs.Prelude.{◌≡◌, ◌<◌, ◌≤◌, ◌+◌, ◌++◌, ℕ, [], Some, length, take, get_or, Contains, IfOk, OnOk, OnErr};
 ghost use Rattle.word_rules.specs.Rules.{rule_at};
 ghost use Rattle.toric_ideal.specs.Alphabet.{letters_of};
 ghost use Rattle.toric_ideal.specs.Listing.{IsSettled, OrdersByDegrees};
 ghost use Rattle.toric_ideal.specs.Rewriting.{rewrite_rules};
 ghost use Rattle.toric_ideal.specs.State.{listing_of, IsSound};
-ghost use Rattle.toric_ideal.specs.Settling.{last_leads, lower_letters, AreNewLetters, CanRenumber, IsLowerOrLetter, IsLowerOrLetterSide, IsNewLetter};
+ghost use Rattle.toric_ideal.specs.Settling.{last_leads, lower_letters, AreNewLetters, CanRenumber, IsLowerOrLetter, IsLowerOrLetterSide, IsNewLetter, IsNewSide};
 
 use crate::Rule;
 use crate::alphabet::Alphabet;
 use crate::completion::Completion;
 use crate::increasing::sorted;
+use crate::last_rules::first_of_degree;
 use crate::renaming::{Renaming, rename_rules, rename_table};
 use monomial_order::{Memory, Monomial, Order};
 use std::alloc::Global;
@@ -73,21 +74,25 @@ fn table_letter(
     }
 }
 
-/// The new letters of the rules of the table whose right sides are old ones.
+/// The new letters of the rules of the table whose right sides are old ones. Those before the index `from` are not.
 fn table_letters(
     alloc: Global,
     alphabet: &Alphabet,
     first: usize,
     leads: &[Monomial],
     table: &RuleTable,
+    from: usize,
 ) -> Result<Vec<Renaming>, Memory>
     requires leads { CanRenumber alphabet.now first leads.now }
+    requires within { from ≤ length table.now }
+    requires lower { (i : ℕ) → i < from
+        → IsNewSide alphabet.now first leads.now (rule_at table.now i).right (rule_at table.now i).right }
     requires sides { (i : ℕ) → i < length table.now → IsLowerOrLetterSide (lower_letters alphabet.now first)
         (last_leads alphabet.now first) (rule_at table.now i).right }
     ensures { IfOk result (λ v. AreNewLetters alphabet.now first leads.now table.now (length table.now) v.items) }
 {
     let mut renamings = Vec::new(alloc);
-    'rules: for index in 0..table.len() {
+    'rules: for index in from..table.len() {
         if let Some(letter) = table_letter(alloc, alphabet, first, leads, table, index)? {
             renamings.push(Renaming::new(alloc, index, letter)?)?;
         }
@@ -113,22 +118,26 @@ fn list_letter(
     }
 }
 
-/// The new letters of the rules of the list whose least words are old ones.
+/// The new letters of the rules of the list whose least words are old ones. Those before the index `from` are not.
 fn list_letters(
     alloc: Global,
     alphabet: &Alphabet,
     first: usize,
     leads: &[Monomial],
     rules: &[Rule],
+    from: usize,
 ) -> Result<Vec<Renaming>, Memory>
     requires leads { CanRenumber alphabet.now first leads.now }
+    requires within { from ≤ length rules.now }
+    requires lower { (i : ℕ) → i < from → IsNewSide alphabet.now first leads.now
+        (rule_at (rewrite_rules rules.now) i).right (rule_at (rewrite_rules rules.now) i).right }
     requires sides { (r : Rule) → Contains rules.now r → IsLowerOrLetterSide (lower_letters alphabet.now first)
         (last_leads alphabet.now first) r.least }
     ensures { IfOk result (λ v.
         AreNewLetters alphabet.now first leads.now (rewrite_rules rules.now) (length rules.now) v.items) }
 {
     let mut renamings = Vec::new(alloc);
-    'rules: for index in 0..rules.len() {
+    'rules: for index in from..rules.len() {
         if let Some(letter) = list_letter(alloc, alphabet, first, leads, &rules[index].least)? {
             renamings.push(Renaming::new(alloc, index, letter)?)?;
         }
@@ -171,8 +180,17 @@ impl Completion {
         let (_, unsorted) = self.alphabet.leads.as_slice().split_at(first);
         let last = sorted(alloc, o, unsorted)?;
         let leads = last.as_slice();
-        let in_table = table_letters(alloc, &self.alphabet, first, leads, &self.table)?;
-        let in_list = list_letters(alloc, &self.alphabet, first, leads, self.rules.as_slice())?;
+        let in_table = table_letters(
+            alloc,
+            &self.alphabet,
+            first,
+            leads,
+            &self.table,
+            self.lower_rules,
+        )?;
+        let rules = self.rules.as_slice();
+        let from = first_of_degree(&self.alphabet.order, rules, self.degree);
+        let in_list = list_letters(alloc, &self.alphabet, first, leads, rules, from)?;
         rename_table(&mut self.table, in_table);
         rename_rules(&mut self.rules, in_list);
         replace_last(&mut self.alphabet.leads, first, last);

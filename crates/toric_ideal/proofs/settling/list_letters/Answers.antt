@@ -1,9 +1,7 @@
-use Rattle.std.proofs.Common.{◌≡◌, ◌+◌, ◌<◌, get_or, length, refl, sym, subst, arith, Option}
-use Rattle.monomial_order.specs.Monomial.{Exponents}
+use Rattle.std.proofs.Common.{◌+◌, ◌<◌, get_or, length, refl, sym, subst, arith}
 use Rattle.monomial_order.specs.laws.Lists.{contains_at}
 use Rattle.word_rewriting.specs.Rewriting.{RewriteRule}
 use Rattle.word_rules.specs.Rules.{rule_at}
-use Rattle.toric_ideal.specs.declared.rule.Rule.{Rule}
 use Rattle.toric_ideal.specs.Rewriting.{rewrite_rules}
 use Rattle.toric_ideal.specs.Settling.{AreNewLetters, IsNewLetter}
 use Rattle.toric_ideal.proofs.NewSides.{letters_more, letters_skip}

@@ -20,6 +20,7 @@ returns-clause-sound c = record {
   queued = c.requires.sound.queued;
   within = c.requires.sound.within;
   parted = c.requires.sound.parted;
+  lower = c.requires.sound.lower;
   standard = c.requires.sound.standard;
 }
 

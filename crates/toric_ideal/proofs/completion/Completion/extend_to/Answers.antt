@@ -4,7 +4,7 @@ use Rattle.monomial_order.specs.Monomial.{Exponents, weighted_degree}
 use Rattle.word_laws.specs.Words.{word_order_of}
 use Rattle.toric_ideal.specs.Alphabet.{letters_of}
 use Rattle.toric_ideal.specs.Listing.{AreRules, AreZeros, IsListing}
-use Rattle.toric_ideal.proofs.SoundListings.{all_settled, none_last, leads_low, listing_extended, listing_kept, old_zero, queued_later, rules_with}
+use Rattle.toric_ideal.proofs.SoundListings.{all_settled, none_last, leads_low, listing_extended, listing_kept, lower_all, lower_grown, old_zero, queued_later, rules_with}
 use Rattle.toric_ideal.proofs.completion.Completion.extend_to.Goals as goal
 use Rattle.toric_ideal.proofs.completion.Completion.extend_to.Goals.{else-self-via-then-self+else-not-has_zero_above, else-self-via-else-self}
 
@@ -29,6 +29,7 @@ returns-in-Ok-clause-sound c =
       queued = c.in-Ok.ensures.queued;
       within = let e = c.len-self-in-Ok.ensures in omega arith;
       parted = all_settled w c.requires.sound c.args.c c.len-self-in-Ok.result c.requires.above (let e = c.len-self-in-Ok.ensures in let o = w.alphabet.leads.ok in omega arith);
+      lower = lower_grown w c.requires.sound c.args.c c.len-first.result c.requires.above c.len-first.ensures c.grow_rules.new.table c.grow_rules.ensures.first;
       standard = λ m h. absurd (none_last w c.len-self-in-Ok.result (let e = c.len-self-in-Ok.ensures in let o = w.alphabet.leads.ok in omega arith) m h);
     }
 
@@ -45,6 +46,7 @@ returns-then-not-has_zero_above-clause-sound c =
       queued = queued_later (word_order_of (letters_of w.alphabet)) w.degree c.args.c w.queued_count w.table w.pairs (omega arith) c.requires.sound.queued;
       within = let e = c.len-self.ensures in let o = w.alphabet.leads.ok in omega arith;
       parted = all_settled w c.requires.sound c.args.c c.len-self.result c.requires.above (let e = c.len-self.ensures in let o = w.alphabet.leads.ok in omega arith);
+      lower = lower_all w c.requires.sound c.args.c c.len-self-then-not-has_zero_above.result c.requires.above c.len-self-then-not-has_zero_above.ensures;
       standard = λ m h. absurd (none_last w c.len-self.result (let e = c.len-self.ensures in let o = w.alphabet.leads.ok in omega arith) m h);
     }
 

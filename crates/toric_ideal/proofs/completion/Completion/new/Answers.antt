@@ -38,5 +38,6 @@ returns-clause-sound c =
         lower_less = λ m h. absurd (contains_none m h);
         last_equal = λ m h. absurd (contains_none m (subst (λ ms. Contains ms m) (c.in_ok-new.ensures.leads ∙ c.new.ensures.items) h));
       };
+      lower = record { within = omega arith; less = λ k l. absurd (omega arith) };
       standard = λ m h. absurd (contains_none m (subst (λ ms. Contains ms m) (c.in_ok-new.ensures.leads ∙ c.new.ensures.items) h));
     }

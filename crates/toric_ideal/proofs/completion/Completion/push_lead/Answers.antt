@@ -1,4 +1,4 @@
-use Rattle.std.proofs.Common.{◌≡◌, ◌≢◌, ◌≤◌, ◌+◌, ◌∙◌, ◌∷◌, ◌++◌, [], List, Some, ap, false, length, subst, sym, take, drop}
+use Rattle.std.proofs.Common.{◌≡◌, ◌≢◌, ◌≤◌, ◌<◌, ℕ, ◌+◌, ◌∙◌, ◌∷◌, ◌++◌, [], List, Some, ap, false, length, subst, sym, take, drop}
 use Rattle.std.specs.Prelude.{Contains}
 use Rattle.monomial_order.specs.Monomial.{Exponents, IsMultiple}
 use Rattle.monomial_order.specs.MonomialOrder.{IsIncreasing}
@@ -6,7 +6,7 @@ use Rattle.word_laws.specs.Words.{word_order_of, Letters}
 use Rattle.word_rewriting.specs.Rewriting.{RewriteRule}
 use Rattle.word_rewriting.specs.Completeness.{lead_letter, with_leads}
 use Rattle.monomial_order.specs.Orders.{word_order}
-use Rattle.word_rules.specs.Rules.{IsSmallWord}
+use Rattle.word_rules.specs.Rules.{rule_at, IsSmallWord}
 use Rattle.toric_ideal.specs.declared.rule.Rule.{Rule}
 use Rattle.toric_ideal.specs.Alphabet.{letters_of}
 use Rattle.toric_ideal.specs.Increasing.{IsInsertionIndex}
@@ -15,17 +15,40 @@ use Rattle.toric_ideal.specs.Queue.{IsQueued}
 use Rattle.toric_ideal.specs.Renaming.{lead_rule, AreRenamed, AreRenamings, AreSetBy, AreWithin, IsLettered}
 use Rattle.toric_ideal.specs.Rewriting.{rewrite_rule, rewrite_rules, AreSameRules}
 use Rattle.toric_ideal.specs.SortedRules.{words_of}
+use Rattle.toric_ideal.specs.State.{AreLower}
 use Rattle.toric_ideal.proofs.LetterLemmas.{alphabet_order}
 use Rattle.toric_ideal.proofs.Renamings.{renamings_pushed, renamings_within, rewrite_length, set_renamed}
-use Rattle.toric_ideal.proofs.PushedLead.{least_small, least_some, letter_is, letter_new, new_lead, pushed_listing, pushed_parted, pushed_queued, pushed_same, pushed_within}
+use Rattle.toric_ideal.proofs.PushedLead.{least_small, least_some, letter_is, letter_new, lower_in_list, lower_in_table, new_lead, pushed_listing, pushed_lower, pushed_parted, pushed_queued, pushed_same, pushed_within}
 use Rattle.toric_ideal.proofs.StandardLeads.{standard_pushed}
 use Rattle.toric_ideal.proofs.completion.Completion.push_lead.Goals as goal
+
+pub table_renamings-requires-clause-lower : goal.table_renamings-requires-clause-lower
+table_renamings-requires-clause-lower c = lower_in_table c.args.self.now c.requires.sound c.args.m.now c.requires.lead c.in_ok-word.word c.in_ok-word.ensures
+
+pub first_of_degree-first-requires-clause-increasing : goal.first_of_degree-first-requires-clause-increasing
+first_of_degree-first-requires-clause-increasing c =
+    let w = c.args.self.now in
+    subst (λ O. IsIncreasing O (words_of c.as_slice.result.now)) (sym (alphabet_order w.alphabet c.requires.sound.alphabet))
+    (subst (λ (rs : List Rule). IsIncreasing (word_order_of (letters_of w.alphabet)) (words_of rs)) (sym c.as_slice.ensures.value) c.requires.sound.listing.rules.increasing)
+
+pub list_renamings-requires-clause-lower : goal.list_renamings-requires-clause-lower
+list_renamings-requires-clause-lower c =
+    let w = c.args.self.now in
+    let s = c.requires.sound in
+    let n = c.first_of_degree-first.result in
+    let a : (k : ℕ) → k < n → (word_order_of (letters_of w.alphabet)).degree (rule_at (rewrite_rules w.rules.items) k).left < w.degree =
+    subst (λ O. (k : ℕ) → k < n → O.degree (rule_at (rewrite_rules w.rules.items) k).left < w.degree) (alphabet_order w.alphabet s.alphabet)
+    (subst (λ (rs : List Rule). (k : ℕ) → k < n → (word_order w.alphabet.order.x_degrees.items w.alphabet.order.s_degrees.items).degree (rule_at (rewrite_rules rs) k).left < w.degree)
+    c.as_slice.ensures.value c.first_of_degree-first.ensures.lower) in
+    let b : n ≤ length w.rules.items = subst (λ (rs : List Rule). n ≤ length rs) c.as_slice.ensures.value c.first_of_degree-first.ensures.within in
+    subst (λ (rs : List Rule). (k : ℕ) → k < n → (rule_at (rewrite_rules rs) k).right ≢ Some c.in_ok-word.word) (sym c.as_slice-2.ensures.value)
+    (lower_in_list w s c.args.m.now c.requires.lead c.in_ok-word.word c.in_ok-word.ensures n b a)
 
 pub insertion_index-index-requires-clause-increasing : goal.insertion_index-index-requires-clause-increasing
 insertion_index-index-requires-clause-increasing c =
     let w = c.args.self.now in
-    subst (λ O. IsIncreasing O (words_of c.as_slice-2.result.now)) (sym (alphabet_order w.alphabet c.requires.sound.alphabet))
-    (subst (λ (rs : List Rule). IsIncreasing (word_order_of (letters_of w.alphabet)) (words_of rs)) (sym c.as_slice-2.ensures.value) c.requires.sound.listing.rules.increasing)
+    subst (λ O. IsIncreasing O (words_of c.as_slice-3.result.now)) (sym (alphabet_order w.alphabet c.requires.sound.alphabet))
+    (subst (λ (rs : List Rule). IsIncreasing (word_order_of (letters_of w.alphabet)) (words_of rs)) (sym c.as_slice-3.ensures.value) c.requires.sound.listing.rules.increasing)
 
 pub insertion_index-index-requires-clause-word : goal.insertion_index-index-requires-clause-word
 insertion_index-index-requires-clause-word c =
@@ -55,6 +78,8 @@ returns-in_err-push_letter-clause-sound c =
           (subst (λ (T : List RewriteRule). IsQueued (word_order_of L) w.degree w.queued_count T w.pairs) (sym eT) s.queued);
       within = subst (λ (K : Letters). w.settled_count ≤ length K.leads) (sym eL) s.within;
       parted = subst (λ (K : Letters). AreParted K.degrees w.degree K.leads (take w.settled_count K.leads) (drop w.settled_count K.leads)) (sym eL) s.parted;
+      lower = subst (λ K. AreLower (word_order_of K) w.degree w.lower_rules c.push_letter.new.table) (sym eL)
+          (subst (λ (T : List RewriteRule). AreLower (word_order_of L) w.degree w.lower_rules T) (sym eT) s.lower);
       standard = subst (λ (K : Letters). (x : Exponents) → Contains (drop w.settled_count K.leads) x → ¬ IsMultiple w.zeros.items x) (sym eL) s.standard;
     }
 
@@ -78,7 +103,7 @@ rename_and_insert-requires-clause-renamings c =
     subst (λ (rs : List Rule). AreWithin (length rs) c.in_ok-in_list.in_list.items) (sym er)
     (subst (λ m. AreWithin m c.in_ok-in_list.in_list.items) n (renamings_within u l (rewrite_rules w.rules.items) c.in_ok-in_list.in_list.items
     (subst (λ m. AreRenamings u l (rewrite_rules w.rules.items) m c.in_ok-in_list.in_list.items) (sym n)
-    (subst (λ (rs : List Rule). AreRenamings u l (rewrite_rules rs) (length rs) c.in_ok-in_list.in_list.items) c.as_slice.ensures.value c.in_ok-in_list.ensures))))
+    (subst (λ (rs : List Rule). AreRenamings u l (rewrite_rules rs) (length rs) c.in_ok-in_list.in_list.items) c.as_slice-2.ensures.value c.in_ok-in_list.ensures))))
 
 pub returns-clause-sound : goal.returns-clause-sound
 returns-clause-sound c =
@@ -106,13 +131,13 @@ returns-clause-sound c =
     let i = c.insertion_index-index.result in
     let place : IsInsertionIndex (word_order_of L) (words_of w.rules.items) u i =
     subst (λ O. IsInsertionIndex O (words_of w.rules.items) u i) (alphabet_order w.alphabet s.alphabet)
-    (subst (λ (rs : List Rule). IsInsertionIndex (word_order w.alphabet.order.x_degrees.items w.alphabet.order.s_degrees.items) (words_of rs) u i) c.as_slice-2.ensures.value c.insertion_index-index.ensures) in
+    (subst (λ (rs : List Rule). IsInsertionIndex (word_order w.alphabet.order.x_degrees.items w.alphabet.order.s_degrees.items) (words_of rs) u i) c.as_slice-3.ensures.value c.insertion_index-index.ensures) in
     let er = c.reserve.ensures.items in
     let a = c.rename_and_insert.ensures in
     let nl = rewrite_length w.rules.items in
     let hl : AreRenamings u l (rewrite_rules w.rules.items) (length (rewrite_rules w.rules.items)) c.in_ok-in_list.in_list.items =
     subst (λ m. AreRenamings u l (rewrite_rules w.rules.items) m c.in_ok-in_list.in_list.items) (sym nl)
-    (subst (λ (rs : List Rule). AreRenamings u l (rewrite_rules rs) (length rs) c.in_ok-in_list.in_list.items) c.as_slice.ensures.value c.in_ok-in_list.ensures) in
+    (subst (λ (rs : List Rule). AreRenamings u l (rewrite_rules rs) (length rs) c.in_ok-in_list.in_list.items) c.as_slice-2.ensures.value c.in_ok-in_list.ensures) in
     let D = a.0 in
     let y : AreRenamed u k (rewrite_rules w.rules.items) (rewrite_rules D) =
     subst (λ z. AreRenamed u z (rewrite_rules w.rules.items) (rewrite_rules D)) el (set_renamed u l (rewrite_rules w.rules.items) c.in_ok-in_list.in_list.items (rewrite_rules D) hl
@@ -127,6 +152,7 @@ returns-clause-sound c =
       queued = subst (λ K. IsQueued (word_order_of K) w.degree w.queued_count T w.pairs) (sym eL) (pushed_queued w s m n u least T x);
       within = subst (λ (K : Letters). w.settled_count ≤ length K.leads) (sym eL) (pushed_within w s m n);
       parted = subst (λ (K : Letters). AreParted K.degrees w.degree K.leads (take w.settled_count K.leads) (drop w.settled_count K.leads)) (sym eL) (pushed_parted w s m n);
+      lower = subst (λ K. AreLower (word_order_of K) w.degree w.lower_rules T) (sym eL) (pushed_lower w s m n u least T x);
       standard = subst (λ (K : Letters). (x : Exponents) → Contains (drop w.settled_count K.leads) x → ¬ IsMultiple w.zeros.items x) (sym eL)
           (standard_pushed w.zeros.items w.alphabet.leads.items w.settled_count m s.within n.standard s.standard);
     }
