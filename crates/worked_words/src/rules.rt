@@ -94,7 +94,8 @@ fn pair_is(alloc: Global, n: usize, row: &str) -> Result<bool, Fail> {
     match table.different_forms(alloc, &order, i, j)? {
         None => Ok(part(row, 4) == "same"),
         Some((u, v)) => Ok(
-            is_word(alloc, 1, u.as_ref(), part(row, 4))? && is_word(alloc, 1, v.as_ref(), part(row, 5))?,
+            is_word(alloc, 1, u.as_ref(), part(row, 4))?
+                && is_word(alloc, 1, v.as_ref(), part(row, 5))?,
         ),
     }
 }

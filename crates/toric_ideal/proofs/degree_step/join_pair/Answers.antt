@@ -31,7 +31,6 @@ forms_of R i j found u v e h = subst (λ o. IfSome o (λ p. ArePairForms R (rule
 
 pub oriented-requires-clause-first : goal.oriented-requires-clause-first
 oriented-requires-clause-first c =
-
     let a = c.args.alphabet.now in
     let H = alphabet_letters a c.requires.alphabet in
     subst (λ O. IfSome c.in-Some.u (IsSmallWord O)) (sym (alphabet_order a c.requires.alphabet))

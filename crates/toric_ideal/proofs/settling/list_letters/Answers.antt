@@ -1,4 +1,4 @@
-use Rattle.std.proofs.Common.{◌+◌, ◌<◌, get_or, length, refl, sym, subst, arith}
+use Rattle.std.proofs.Common.{◌+◌, ◌++◌, ◌∷◌, [], ◌∙◌, ap, ◌<◌, get_or, length, refl, sym, subst, arith}
 use Rattle.monomial_order.specs.laws.Lists.{contains_at}
 use Rattle.word_rewriting.specs.Rewriting.{RewriteRule}
 use Rattle.word_rules.specs.Rules.{rule_at}
@@ -7,7 +7,7 @@ use Rattle.toric_ideal.specs.Settling.{AreNewLetters, IsNewLetter}
 use Rattle.toric_ideal.proofs.NewSides.{letters_more, letters_skip}
 use Rattle.toric_ideal.proofs.Renamings.{listed_rule, rewrite_length}
 use Rattle.toric_ideal.proofs.settling.list_letters.Goals as goal
-use Rattle.toric_ideal.proofs.settling.list_letters.Goals.{in-Some+in_ok-push, in_default}
+use Rattle.toric_ideal.proofs.settling.list_letters.Goals.{in-Some+in_ok-new+in_ok-push, in_default}
 
 pub list_letter-requires-clause-side : goal.list_letter-requires-clause-side
 list_letter-requires-clause-side c =
@@ -27,8 +27,8 @@ rules-preserved c =
     let h : IsNewLetter a k after (rule_at R i).right c.in_ok-letter.field-0 =
     subst (λ (t : RewriteRule). IsNewLetter a k after t.right c.in_ok-letter.field-0) (sym (listed_rule rules i c.index-rules-index.result l)) c.in_ok-letter.ensures in
     elim c.match-branch-2.branch [
-      | in-Some+in_ok-push b ↦
-          subst (λ v. AreNewLetters a k after R (i + 1) v.items) (sym b.renamings-is) (subst (AreNewLetters a k after R (i + 1)) (sym b.in_ok-push.ensures.items)
+      | in-Some+in_ok-new+in_ok-push b ↦
+          subst (λ v. AreNewLetters a k after R (i + 1) v.items) (sym b.renamings-is) (subst (AreNewLetters a k after R (i + 1)) (sym (b.in_ok-push.ensures.items ∙ ap (λ r. c.rules.renamings.items ++ r ∷ []) b.in_ok-new.ensures))
           (letters_more a k after R i c.rules.renamings.items (record { index = i; letter = b.in-Some.letter }) refl
           (omega arith) (subst (IsNewLetter a k after (rule_at R i).right) b.in-Some.is h) c.rules.invariant))
       | in_default b ↦
