@@ -1,8 +1,6 @@
-use Rattle.std.proofs.Common.{◌≤◌, ◌≢◌, refl, sym, ap, subst}
+use Rattle.std.proofs.Common.{◌≢◌, refl, sym, ap, subst}
 use Rattle.std.specs.Prelude.{is_some, IfSome}
-use Rattle.monomial_order.specs.Monomial.{IsMonomial, least_common_multiple}
-use Rattle.monomial_order.specs.MonomialOrder.{MonomialOrder}
-use Rattle.word_laws.specs.Words.{word_order_of}
+use Rattle.monomial_order.specs.Monomial.{least_common_multiple}
 use Rattle.word_rules.specs.Rules.{rule_at, AreDecreasing, ArePairForms, IsSmallWord}
 use Rattle.toric_ideal.specs.Alphabet.{letters_of}
 use Rattle.toric_ideal.proofs.LetterLemmas.{alphabet_letters, alphabet_order}
