@@ -135,7 +135,7 @@ module _ {E : Type 0} (K : FieldOps E) (F : IsField K) (O : MonomialOrder) (L : 
           }
 
       added_met : (new : Cursor (Term E)) (u : Term E) (r : Polynomial E) → u.at ≡ t.at → mid.after ≡ u ∷ r →
-          IsCombined K t u r mid new → IsAdded K O t old new
+          IsCombined K t.by u r mid new → IsAdded K O t old new
       added_met new u r e q (inl h) =
           let b : new.before ≡ mid.before = ap (λ (v : Cursor (Term E)). v.before) h.1 in
           let a : new.after ≡ r = ap (λ (v : Cursor (Term E)). v.after) h.1 in
@@ -151,7 +151,8 @@ module _ {E : Type 0} (K : FieldOps E) (F : IsField K) (O : MonomialOrder) (L : 
           }
       added_met new u r e q (inr h) =
           let c = K.plus u.by t.by in
-          let b : new.before ≡ mid.before ++ term_of t.at c ∷ [] = ap (λ (v : Cursor (Term E)). v.before) h.1 in
+          let b : new.before ≡ mid.before ++ term_of t.at c ∷ [] =
+          ap (λ (v : Cursor (Term E)). v.before) h.1 ∙ ap (λ k. mid.before ++ term_of k c ∷ []) e in
           let a : new.after ≡ r = ap (λ (v : Cursor (Term E)). v.after) h.1 in
           let s : new.spare ≡ mid.spare = ap (λ (v : Cursor (Term E)). v.spare) h.1 in
           let list : new.before ++ new.after ≡ mid.before ++ term_of t.at c ∷ r =
@@ -167,7 +168,7 @@ module _ {E : Type 0} (K : FieldOps E) (F : IsField K) (O : MonomialOrder) (L : 
           }
 
       pub added_found : (new : Cursor (Term E)) → NextIs O t.at true mid.after →
-          ((u : Term E) (r : Polynomial E) → mid.after ≡ u ∷ r → IsCombined K t u r mid new) → IsAdded K O t old new
+          ((u : Term E) (r : Polynomial E) → mid.after ≡ u ∷ r → IsCombined K t.by u r mid new) → IsAdded K O t old new
       added_found new x h = cases mid.after x refl
         where
           cases : (q : Polynomial E) → NextIs O t.at true q → mid.after ≡ q → IsAdded K O t old new

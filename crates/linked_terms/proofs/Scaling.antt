@@ -6,6 +6,7 @@ use Rattle.word_field.specs.Field.{FieldOps, IsField}
 use Rattle.monomial_order.specs.declared.terms.Term.{Term}
 use Rattle.monomial_order.specs.Monomial.{Exponents, product}
 use Rattle.monomial_order.specs.MonomialOrder.{MonomialOrder, IsMonomialOrder}
+use Rattle.monomial_order.specs.laws.Monomial.{product_comm, product-one}
 use Rattle.polynomials.specs.Polynomial.{Polynomial, coefficient, Same, term_of, term_times, scaled, AllAt, IsTerm, IsBelow, IsLeadTerm, IsDecreasing, IsSmall, IsCanonical}
 use Rattle.polynomials.specs.laws.Same.{append_same}
 use Rattle.polynomials.specs.laws.Terms.{IsDecreasing-right, IsDecreasing-scaled, small_scaled_at}
@@ -106,6 +107,11 @@ pub at_most : {E : Type 0} (n : ℕ) (p : Polynomial E) (i : ℕ) (t : Term E) �
 at_most n [] i t h l e = absurd (omega arith)
 at_most n (u ∷ p) zero t h l e = subst (λ (x : Term _). length x.at ≤ n) (sym e) h.0
 at_most n (u ∷ p) (suc i) t h l e = at_most n p i t h.1 (omega arith) e
+
+-- the product with 1
+pub product_nothing : (m k : Exponents) → length m ≡ 0 → k ≡ product m k
+product_nothing [] k e = sym (product_comm [] k ∙ product-one k)
+product_nothing (x ∷ m) k e = absurd (omega arith)
 
 -- the product of two terms, by its parts
 pub product_is : {E : Type 0} (K : FieldOps E) (m k : Exponents) (c b : E) (t : Term E) → k ≡ product m t.at → b ≡ K.times c t.by → term_of k b ≡ term_times K (term_of m c) t

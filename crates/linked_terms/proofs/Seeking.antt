@@ -1,5 +1,5 @@
 -- Walking to where a term belongs.
-use Rattle.std.proofs.Common.{◌≡◌, ◌≢◌, ℕ, refl, sym, ap, ◌∙◌, subst, [], ◌∷◌, ◌++◌, append-nil, append_assoc, arith, true, false, inr}
+use Rattle.std.proofs.Common.{◌≡◌, ◌≢◌, ℕ, ◌+◌, ◌-◌, refl, sym, ap, ◌∙◌, subst, [], ◌∷◌, ◌++◌, append-nil, append_assoc, arith, true, false, inl, inr}
 use Rattle.std.specs.Prelude.{All}
 use Rattle.std.specs.declared.cmp.Ordering.TheVariants.{Less, Equal, Greater}
 use Rattle.word_field.specs.Field.{FieldOps}
@@ -42,21 +42,40 @@ module _ {E : Type 0} (O : MonomialOrder) (L : IsMonomialOrder O) (m : Exponents
   sought_equal old l x rest h e k = record { walk = h; next = subst (NextIs O m true) (sym e) (L.equal x.at m k) }
 
 module _ {E : Type 0} (K : FieldOps E) where
-  -- the next term became the sum, and the cursor went past it
-  pub combined : (term next next' : Term E) (rest rest' : Polynomial E) (by : E) (old mid new : Cursor (Term E)) →
-      old.after ≡ next' ∷ rest' → old.after ≡ next ∷ rest → by ≡ K.plus next'.by term.by → by ≢ K.zero →
-      mid ≡ record { before = old.before; after = term_of term.at by ∷ rest; spare = old.spare } →
-      ((x : Term E) (more : Polynomial E) → mid.after ≡ x ∷ more → new ≡ record { before = mid.before ++ x ∷ []; after = more; spare = mid.spare }) →
-      IsCombined K term next rest old new
-  combined term next next' rest rest' by old mid new e e' s n m a =
+  -- the next term was taken out, and came back with the sum, which is not zero
+  pub combined : (by sum : E) (next next' : Term E) (rest rest' : Polynomial E) (old mid new : Cursor (Term E)) →
+      old.after ≡ next' ∷ rest' → old.after ≡ next ∷ rest → sum ≡ K.plus next'.by by → sum ≢ K.zero →
+      mid ≡ record { before = old.before; after = rest'; spare = old.spare + 1 } →
+      new ≡ record { before = mid.before ++ term_of next'.at sum ∷ []; after = mid.after; spare = mid.spare - 1 } →
+      IsCombined K by next rest old new
+  combined by sum next next' rest rest' old mid new e e' s n m a =
       let both : next' ∷ rest' ≡ next ∷ rest = sym e ∙ e' in
       let same : next' ≡ next = cc in
-      let sum : by ≡ K.plus next.by term.by = s ∙ ap (λ (t : Term E). K.plus t.by term.by) same in
-      let after : mid.after ≡ term_of term.at by ∷ rest = ap (λ (v : Cursor (Term E)). v.after) m in
-      let R : Polynomial E → ℕ → E → Cursor (Term E) = λ b c d. record { before = b ++ term_of term.at d ∷ []; after = rest; spare = c } in
+      let tail : rest' ≡ rest = cc in
+      let total : sum ≡ K.plus next.by by = s ∙ ap (λ (t : Term E). K.plus t.by by) same in
+      let before : mid.before ≡ old.before = ap (λ (v : Cursor (Term E)). v.before) m in
+      let after : mid.after ≡ rest = ap (λ (v : Cursor (Term E)). v.after) m ∙ tail in
+      let spare : mid.spare - 1 ≡ old.spare = let k = ap (λ (v : Cursor (Term E)). v.spare) m in omega arith in
+      let at : next'.at ≡ next.at = ap (λ (t : Term E). t.at) same in
+      let R : Polynomial E → Exponents → E → Polynomial E → ℕ → Cursor (Term E) = λ b k d r c. record { before = b ++ term_of k d ∷ []; after = r; spare = c } in
       inr (
-        λ z. n (sum ∙ z),
-        a (term_of term.at by) rest after ∙
-            (ap (λ b. R b mid.spare by) (ap (λ (v : Cursor (Term E)). v.before) m) ∙
-            (ap (λ c. R old.before c by) (ap (λ (v : Cursor (Term E)). v.spare) m) ∙ ap (R old.before old.spare) sum)),
+        λ z. n (total ∙ z),
+        a ∙ (ap (λ b. R b next'.at sum mid.after (mid.spare - 1)) before ∙
+            (ap (λ k. R old.before k sum mid.after (mid.spare - 1)) at ∙
+            (ap (λ d. R old.before next.at d mid.after (mid.spare - 1)) total ∙
+            (ap (λ r. R old.before next.at (K.plus next.by by) r (mid.spare - 1)) after ∙
+            ap (R old.before next.at (K.plus next.by by) rest) spare)))),
+      )
+
+  -- the next term was taken out, and the sum is zero
+  pub cancelled : (by sum : E) (next next' : Term E) (rest rest' : Polynomial E) (old new : Cursor (Term E)) →
+      old.after ≡ next' ∷ rest' → old.after ≡ next ∷ rest → sum ≡ K.plus next'.by by → sum ≡ K.zero →
+      new ≡ record { before = old.before; after = rest'; spare = old.spare + 1 } → IsCombined K by next rest old new
+  cancelled by sum next next' rest rest' old new e e' s z m =
+      let both : next' ∷ rest' ≡ next ∷ rest = sym e ∙ e' in
+      let same : next' ≡ next = cc in
+      let tail : rest' ≡ rest = cc in
+      inl (
+        ap (λ (t : Term E). K.plus t.by by) (sym same) ∙ (sym s ∙ z),
+        m ∙ ap (λ r. record { before = old.before; after = r; spare = old.spare + 1 }) tail,
       )

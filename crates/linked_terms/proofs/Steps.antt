@@ -5,11 +5,11 @@ use Rattle.std.specs.Borrow.{Bor}
 use Rattle.std.proofs.lemmas.Option.{none-some, same_Some}
 use Rattle.linked_terms.specs.Cursor.{Cursor}
 use Rattle.linked_terms.specs.declared.cursor_list.Node.{Node}
-use Rattle.linked_terms.specs.Links.{times_in, walk, past, next_of, item_of, next_at, item_at, items, IsPartition, IsLinked, IsSound}
-use Rattle.linked_terms.proofs.Walks.{walk_same, times_in-here, times_in-more, times_in-other, differs, at_most_once, is_below}
+use Rattle.linked_terms.specs.Links.{times_in, walk, next_of, item_of, next_at, item_at, items, IsLinked, IsSound}
+use Rattle.linked_terms.proofs.Walks.{times_in-here, times_in-more, times_in-other, differs, at_most_once, is_below}
 use Rattle.linked_terms.proofs.Links.{left_before, links_grow}
 use Rattle.monomial_order.specs.laws.Comparing.{numbers_or_not}
-use Rattle.linked_terms.proofs.Nodes.{some_of, filter_map_same, slice_get-set, slice_get-set_other, slice_get-push, slice_get-pushed, slice_get_is, right_below, right_item, sound_advance, items_advance, free_below, IsFilled, sound_insert, IsEmptied, sound_remove}
+use Rattle.linked_terms.proofs.Nodes.{filter_map_same, slice_get-set, slice_get-set_other, slice_get-push, slice_get-pushed, slice_get_is, right_below, right_item, sound_advance, items_advance, free_below, IsFilled, sound_insert, IsEmptied, sound_remove}
 
 module _ {T : Type 0} (ns : List (Node T)) (i : ℕ) (node : Node T) (l : i < length ns) (e : node ≡ get_or ns i node) where
   pub next_is : next_at ns i ≡ node.next
@@ -238,85 +238,6 @@ pub taken_is : {T : Type 0} (o : Option T) (x : T) (rest : List T) (old new : Cu
     MatchOption o ((old.after ≡ []) × (new ≡ old)) (λ y. (more : List T) × (old.after ≡ y ∷ more) × (new ≡ record { before = old.before; after = more; spare = old.spare + 1 }))
 taken_is None x rest old new h e k = absurd (none-some x h)
 taken_is (Some y) x rest old new h e k = (rest, e ∙ ap (λ z. z ∷ rest) (sym (same_Some y x h)), k)
-
--- the node after the cursor with another item
-module _ {T : Type 0} (ns : List (Node T)) (head left right free before after spare : ℕ) (s : IsSound ns head left right free before after spare) (l : 0 < after)
-    (z : Node T) (e : z ≡ get_or ns right z) (v : T) where
-  abbrev swapped : List (Node T)
-  swapped = set ns right (record { item = Some v; next = z.next })
-
-  seen : right < length ns
-  seen = right_in ns head left right free before after spare s l
-
-  same_next : (i : ℕ) → next_at swapped i ≡ next_at ns i
-  same_next i = cases (numbers_or_not i right)
-    where
-      cases : (i ≡ right) ⊎ (i ≢ right) → next_at swapped i ≡ next_at ns i
-      cases (inl q) =
-          ap (next_at swapped) q ∙
-          (next_written ns right (record { item = Some v; next = z.next }) seen ∙ (sym (next_is ns right z seen e) ∙ ap (next_at ns) (sym q)))
-      cases (inr ne) = next_elsewhere ns right (record { item = Some v; next = z.next }) i ne
-
-  same_walk : (n i : ℕ) → walk (next_at swapped) n i ≡ walk (next_at ns) n i
-  same_walk n i = (walk_same (next_at ns) (next_at swapped) n i (λ j _. same_next j)).0
-
-  same_past : (n i : ℕ) → past (next_at swapped) n i ≡ past (next_at ns) n i
-  same_past n i = (walk_same (next_at ns) (next_at swapped) n i (λ j _. same_next j)).1
-
-  same_length : length swapped ≡ length ns
-  same_length = length-set ns right (record { item = Some v; next = z.next })
-
-  right_used : times_in right (walk (next_at ns) before head) + times_in right (walk (next_at ns) spare free) ≡ 0
-  right_used =
-      let there : 1 ≤ times_in right (walk (next_at ns) after right) =
-      subst (λ a. 1 ≤ times_in right (walk (next_at ns) a right)) (sym (is_suc after l))
-      (let h = times_in-here right (walk (next_at ns) (after - 1) (next_at ns right)) in omega arith) in
-      let most = at_most_once (length ns) (walk (next_at ns) before head) (walk (next_at ns) after right) (walk (next_at ns) spare free) s.links.partition right in
-      omega arith
-
-  pub sound_replace : IsSound swapped head left right free before after spare
-  sound_replace = record {
-    links = record {
-      partition = subst (λ n. IsPartition n (walk (next_at swapped) before head) (walk (next_at swapped) after right) (walk (next_at swapped) spare free)) (sym same_length)
-          (subst (λ p. IsPartition (length ns) p (walk (next_at swapped) after right) (walk (next_at swapped) spare free)) (sym (same_walk before head))
-          (subst (λ q. IsPartition (length ns) (walk (next_at ns) before head) q (walk (next_at swapped) spare free)) (sym (same_walk after right))
-          (subst (IsPartition (length ns) (walk (next_at ns) before head) (walk (next_at ns) after right)) (sym (same_walk spare free)) s.links.partition)));
-      counted = s.links.counted ∙ sym same_length;
-      meets = same_past before head ∙ s.links.meets;
-      last = λ p. same_past (before - 1) head ∙ s.links.last p;
-    };
-    full = λ i m k. cases i (numbers_or_not i right) (omega (arith, same_length)) (ap (times_in i) (sym (same_walk spare free)) ∙ k);
-    vacant = λ i m.
-        let m' : 1 ≤ times_in i (walk (next_at ns) spare free) = subst (λ p. 1 ≤ times_in i p) (same_walk spare free) m in
-        let ne : i ≢ right = differs right i (walk (next_at ns) spare free) (let u = right_used in omega arith) m' in
-        item_elsewhere ns right (record { item = Some v; next = z.next }) i ne ∙ s.vacant i m';
-  }
-    where
-      cases : (i : ℕ) → (i ≡ right) ⊎ (i ≢ right) → i < length ns → times_in i (walk (next_at ns) spare free) ≡ 0 → IsSome (item_at swapped i)
-      cases i (inl q) m k = some_of (item_at swapped i) v (ap (item_at swapped) q ∙ item_written ns right (record { item = Some v; next = z.next }) seen)
-      cases i (inr ne) m k = subst IsSome (sym (item_elsewhere ns right (record { item = Some v; next = z.next }) i ne)) (s.full i m k)
-
-  pub items_replace : (x : T) (rest : List T) → items ns after right ≡ x ∷ rest →
-      (items swapped before head ≡ items ns before head) × (items swapped after right ≡ v ∷ rest)
-  items_replace x rest h =
-      let u = right_used in
-      let first = item_right ns head left right free before after spare s l in
-      let both : first.0 ∷ items ns (after - 1) (next_at ns right) ≡ x ∷ rest = sym first.2 ∙ h in
-      let tail : items ns (after - 1) (next_at ns right) ≡ rest = cc in
-      let other : (i : ℕ) → i ≢ right → item_at swapped i ≡ item_at ns i = item_elsewhere ns right (record { item = Some v; next = z.next }) in
-      let here = times_in-here right (walk (next_at ns) (after - 1) (next_at ns right)) in
-      let there : times_in right (walk (next_at ns) after right) ≡ times_in right (right ∷ walk (next_at ns) (after - 1) (next_at ns right)) =
-      ap (λ a. times_in right (walk (next_at ns) a right)) (is_suc after l) in
-      let most = at_most_once (length ns) (walk (next_at ns) before head) (walk (next_at ns) after right) (walk (next_at ns) spare free) s.links.partition right in
-      let once : times_in right (walk (next_at ns) (after - 1) (next_at ns right)) ≡ 0 = omega arith in (
-        ap (filter_map (item_at swapped)) (same_walk before head) ∙
-            filter_map_same (item_at ns) (item_at swapped) (walk (next_at ns) before head) (λ i m. other i (differs right i (walk (next_at ns) before head) (omega arith) m)),
-        ap (filter_map (item_at swapped)) (same_walk after right) ∙
-            (ap (λ a. filter_map (item_at swapped) (walk (next_at ns) a right)) (is_suc after l) ∙
-            (ap (λ o. Rattle.std.specs.List.cons_option o (filter_map (item_at swapped) (walk (next_at ns) (after - 1) (next_at ns right)))) (item_written ns right (record { item = Some v; next = z.next }) seen) ∙
-            (ap (λ p. v ∷ p) (filter_map_same (item_at ns) (item_at swapped) (walk (next_at ns) (after - 1) (next_at ns right))
-            (λ i m. other i (differs right i (walk (next_at ns) (after - 1) (next_at ns right)) once m)) ∙ tail)))),
-      )
 
 -- one more spare node
 module _ {T : Type 0} (ns : List (Node T)) (head left right free before after spare : ℕ) (s : IsSound ns head left right free before after spare)

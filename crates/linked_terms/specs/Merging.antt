@@ -34,11 +34,11 @@ module _ {E : Type 0} (O : MonomialOrder) where
 
 module _ {E : Type 0} (K : FieldOps E) where
   -- the next term is the sum, before the cursor, or gone if the sum is zero
-  abbrev pub IsCombined : Term E → Term E → Polynomial E → Cursor (Term E) → Cursor (Term E) → Type 0
-  IsCombined term next rest old new =
-      ((K.plus next.by term.by ≡ K.zero) × (new ≡ record { before = old.before; after = rest; spare = old.spare + 1 }))
-      ⊎ ((K.plus next.by term.by ≢ K.zero) × (new ≡ record {
-        before = old.before ++ term_of term.at (K.plus next.by term.by) ∷ [];
+  abbrev pub IsCombined : E → Term E → Polynomial E → Cursor (Term E) → Cursor (Term E) → Type 0
+  IsCombined by next rest old new =
+      ((K.plus next.by by ≡ K.zero) × (new ≡ record { before = old.before; after = rest; spare = old.spare + 1 }))
+      ⊎ ((K.plus next.by by ≢ K.zero) × (new ≡ record {
+        before = old.before ++ term_of next.at (K.plus next.by by) ∷ [];
         after = rest;
         spare = old.spare;
       }))

@@ -111,16 +111,6 @@ impl<T: Drop> CursorList<T> {
         self.before = 0;
     }
 
-    /// Replaces the item after the cursor.
-    pub(crate) fn replace(&mut self, item: T)
-        requires { self.old.after ≢ [] }
-        ensures { (x : T) (rest : List T) → self.old.after ≡ x ∷ rest →
-            self.new ≡ record { before = self.old.before; after = item ∷ rest; spare = self.old.spare } }
-    {
-        let node = &mut self.nodes[self.right];
-        node.item = Some(item);
-    }
-
     /// Puts an item before the cursor.
     pub(crate) fn insert(&mut self, item: T)
         requires { 0 < self.old.spare }

@@ -28,46 +28,53 @@ fn seek<E: Drop, O: Order>(list: &mut CursorList<Term<E>>, o: &O, m: &Monomial) 
     false
 }
 
-/// Adds to the coefficient of the term after the cursor, at the same monomial, and moves the cursor past the sum. The
-/// node becomes spare if the sum is zero.
-fn combine<F: Field>(list: &mut CursorList<Term<F::Elem>>, f: &F, term: Term<F::Elem>)
+/// Adds to the coefficient of the term after the cursor, and moves the cursor past the sum. The node becomes spare if
+/// the sum is zero.
+fn combine<F: Field>(list: &mut CursorList<Term<F::Elem>>, f: &F, by: F::Elem)
     requires values { All (λ t. IsValue (F.ops f.now) t.by) list.old.after }
-    requires value { IsValue (F.ops f.now) term.by }
+    requires value { IsValue (F.ops f.now) by }
     ensures { (next : Term F.Elem) (rest : Polynomial F.Elem) → list.old.after ≡ next ∷ rest →
-        IsCombined (F.ops f.now) term next rest list.old list.new }
+        IsCombined (F.ops f.now) by next rest list.old list.new }
 {
-    let Some(next) = list.peek() else {
+    let Some(next) = list.remove() else {
         return;
     };
-    let by = f.add(next.by, term.by);
-    if by == f.zero() {
-        let _cancelled = list.remove();
-    } else {
-        list.replace(Term { at: term.at, by });
-        list.advance();
+    let sum = f.add(next.by, by);
+    if sum == f.zero() {
+        return;
     }
+    list.insert(Term {
+        at: next.at,
+        by: sum,
+    });
 }
 
-/// Adds a term that is less than all terms before the cursor.
+/// Adds a term that is less than all terms before the cursor. Its monomial is copied if no term is at it.
 fn add_term<F: Field, O: Order>(
     list: &mut CursorList<Term<F::Elem>>,
+    alloc: Global,
     f: &F,
     o: &O,
-    term: Term<F::Elem>,
+    at: &Monomial,
+    by: F::Elem,
 )
     requires list { IsCanonical (F.ops f.now) (O.order o.now) (list.old.before ++ list.old.after) }
-    requires above { IsAbove (O.order o.now) term.at list.old.before }
-    requires term { IsTerm (F.ops f.now) (O.order o.now).places term }
-    requires nonzero { term.by ≢ (F.ops f.now).zero }
-    requires small { (O.order o.now).degree term.at ≤ exponent_max }
+    requires above { IsAbove (O.order o.now) at.now list.old.before }
+    requires term { IsTerm (F.ops f.now) (O.order o.now).places (term_of at.now by) }
+    requires nonzero { by ≢ (F.ops f.now).zero }
+    requires small { (O.order o.now).degree at.now ≤ exponent_max }
+    requires short { length at.now ≤ 32 }
     requires spare { 0 < list.old.spare }
-    ensures { IsAdded (F.ops f.now) (O.order o.now) term list.old list.new }
+    ensures { IsAdded (F.ops f.now) (O.order o.now) (term_of at.now by) list.old list.new }
 {
-    if seek(list, o, &term.at) {
-        combine(list, f, term);
-    } else {
-        list.insert(term);
+    if seek(list, o, at) {
+        combine(list, f, by);
+        return;
     }
+    let Ok(at) = at.copy(alloc) else {
+        unreachable!()
+    };
+    list.insert(Term { at, by });
 }
 
 /// Adds c times m times the terms to a list with the cursor before its first term.
@@ -97,10 +104,14 @@ pub(crate) fn merge_scaled<F: Field, O: Order>(
 {
     for t in terms {
         let by = f.mul(c, t.by);
+        if m.places() == 0 {
+            add_term(list, alloc, f, o, &t.at, by);
+            continue;
+        }
         let Ok(at) = m.times(alloc, &t.at) else {
             unreachable!()
         };
-        add_term(list, f, o, Term { at, by });
+        add_term(list, alloc, f, o, &at, by);
     }
     list.rewind();
 }

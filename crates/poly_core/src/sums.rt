@@ -81,6 +81,14 @@ fn add_last<F: Field>(
     Ok(())
 }
 
+/// An empty list with room for as many items as both lists have.
+fn room_for_both<T>(alloc: Global, a: &Vec<T>, b: &Vec<T>) -> Result<Vec<T>, Memory>
+    ensures { IfOk result (λ r. r.items ≡ []) }
+{
+    let room = Vec::with_capacity(alloc, a.len().saturating_add(b.len()))?;
+    Ok(room)
+}
+
 /// The sum of two decreasing lists.
 pub(crate) fn merge<F: Field, O: Order>(
     alloc: Global,
@@ -95,7 +103,7 @@ pub(crate) fn merge<F: Field, O: Order>(
     ensures sum { IfOk result (λ r. Same (F.ops f.now) r.items (a.items ++ b.items)) }
 {
     // The end of the sum, its least term first.
-    let mut rising = Vec::new(alloc);
+    let mut rising = room_for_both(alloc, &a, &b)?;
     'both: while !a.is_empty() && !b.is_empty() {
         let s = &a[a.len() - 1];
         let t = &b[b.len() - 1];
@@ -106,6 +114,7 @@ pub(crate) fn merge<F: Field, O: Order>(
         }
     }
     let mut sum = if a.is_empty() { b } else { a };
+    sum.reserve(rising.len())?;
     'end: while let Some(t) = rising.pop() {
         sum.push(t)?;
     }

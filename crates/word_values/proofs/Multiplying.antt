@@ -1,17 +1,18 @@
 -- The value of a word from that of the word without a letter.
 use Rattle.std.proofs.Common.{◌≡◌, ◌≢◌, ℕ, ◌+◌, ◌-◌, ◌<◌, ◌≤◌, sym, ◌∙◌, ap, subst, List, [], ◌∷◌, ◌++◌, length, get_or, ⊎_elim, arith}
-use Rattle.std.proofs.lemmas.List.Elements.{Contains-get_or}
-use Rattle.monomial_order.specs.Monomial.{Exponents, product, variable}
-use Rattle.polynomials.specs.Polynomial.{Polynomial, coefficient, Same, times, constant, term_of, IsPoly, IsCanonical, IsDecreasing, IsSmall, degree_of, lead_monomial}
+use Rattle.std.specs.Prelude.{All}
+use Rattle.std.proofs.lemmas.List.Elements.{All-tail, Contains-get_or}
+use Rattle.monomial_order.specs.Monomial.{Exponents, product, variable, IsMonomial}
+use Rattle.polynomials.specs.Polynomial.{Polynomial, coefficient, Same, times, constant, term_of, IsPoly, IsCanonical, IsDecreasing, IsSmall, degree_of, lead_monomial, AllAt}
 use Rattle.polynomials.specs.Ideal.{Congruent}
-use Rattle.polynomials.specs.Subalgebra.{Presented, IsPresentation, IsNormalForm}
+use Rattle.polynomials.specs.Subalgebra.{Presented, IsPresentation, IsNormalForm, IsStandard}
 use Rattle.polynomials.specs.laws.Coefficients.{nothing_at, decreasing_leads, single_term}
 use Rattle.polynomials.specs.laws.Congruence.{congruent_same, congruent_refl, congruent_trans, congruent_times_left}
 use Rattle.polynomials.specs.laws.Decreasing.{IsDecreasing_IsPoly}
-use Rattle.polynomials.specs.laws.Degrees.{decreasing_all, graded_times}
+use Rattle.polynomials.specs.laws.Degrees.{all_found, decreasing_all, graded_times}
 use Rattle.polynomials.specs.laws.NormalForm.{normal_form_homogeneous, normal_form_unique}
 use Rattle.polynomials.specs.laws.Same.{times_same_left}
-use Rattle.polynomials.specs.laws.Terms.{small_times}
+use Rattle.polynomials.specs.laws.Terms.{poly_monomials, small_times}
 use Rattle.polynomials.specs.laws.Value.{monomial_value-product}
 use Rattle.monomial_order.specs.laws.Comparing.{degree_one}
 use Rattle.subalgebra_laws.specs.Words.{letters, letter_values, word_value}
@@ -20,6 +21,12 @@ use Rattle.word_values.specs.Values.{IsHomogeneousElement, AreHomogeneousElement
 use Rattle.monomial_order.specs.laws.Monomial.{weighted_nil}
 use Rattle.word_laws.specs.Words.{lead_degrees}
 use Rattle.word_values.specs.laws.Letters.{product_degree, letter_degree}
+
+-- what each item says of itself, and what is known of each monomial
+all_together : {E : Type 0} (Q R : Exponents → Type 0) (p : Polynomial E) → AllAt Q p → All (λ t. Q t.at → R t.at) p → AllAt R p
+all_together Q R [] q h = tt
+all_together Q R (t ∷ p) q h =
+    (h 0 t (omega arith) q.0, all_together Q R p q.1 (All-tail (λ x. Q x.at → R x.at) t p h))
 
 -- 1 as a polynomial of the program
 pub one_canonical : {E : Type 0} (P : Presented E) → IsPresentation P → IsCanonical P.field P.order (constant P.field P.field.one)
@@ -31,6 +38,21 @@ one_canonical P H = record {
 module _ {E : Type 0} (P : Presented E) (H : IsPresentation P) where
   open P use {field as K, order as O}
   open H use {field as F, order as L}
+
+  -- a polynomial with standard monomials is its own normal form
+  pub own_normal_form : (a : Polynomial E) (Known : Exponents → Type 0) → IsDecreasing K O a →
+      ((m : Exponents) → coefficient K a m ≢ K.zero → Known m) →
+      All (λ t. IsMonomial O.places t.at × Known t.at → IsStandard P t.at) a → IsNormalForm P a a
+  own_normal_form a Known d k h =
+      let poly : IsPoly K O.places a = IsDecreasing_IsPoly K O a d in
+      record {
+        poly = poly;
+        inside = congruent_refl K F O.places P.ideal a;
+        standard = all_found K F O L (IsStandard P) a
+            (all_together (λ m. IsMonomial O.places m × Known m) (IsStandard P) a
+            (decreasing_all K F O L (λ m. IsMonomial O.places m × Known m) a d
+            (λ m z. (all_found K F O L (IsMonomial O.places) a (poly_monomials K O.places a poly) m z, k m z))) h);
+      }
 
   -- the normal form of a homogeneous polynomial, or of zero
   pub normal_graded : (d : ℕ) (r b : Polynomial E) → IsDecreasing K O r → ((m : Exponents) → coefficient K r m ≢ K.zero → O.degree m ≡ d) → IsNormalForm P r b →
@@ -88,7 +110,7 @@ module _ {E : Type 0} (P : Presented E) (H : IsPresentation P) (S : List (Polyno
         (let e = whole_degree in omega arith)
 
     module _ (r : Polynomial E) (same : Same K r (times K s a)) where
-      product_graded : (m : Exponents) → coefficient K r m ≢ K.zero → O.degree m ≡ word_degree P S w
+      pub product_graded : (m : Exponents) → coefficient K r m ≢ K.zero → O.degree m ≡ word_degree P S w
       product_graded m k =
           graded_times K F O L s a (O.degree (lead_monomial s)) (word_degree P S v) poly_s poly_a element_is.homogeneous.each h.graded m (λ z. k (same m ∙ z)) ∙ sym whole_degree
 

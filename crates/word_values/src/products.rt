@@ -1,8 +1,10 @@
 //! Products of values and elements.
-ghost use Rattle.std.specs.Prelude.{◌≡◌, ◌≤◌, ◌<◌, ◌+◌, ℕ, ◌≢◌, [], length, get_or, IfOk, IfSome, IsNone};
+ghost use Rattle.std.specs.Prelude.{◌≡◌, ◌≤◌, ◌<◌, ◌+◌, ◌⊎◌, ℕ, ◌≢◌, [], true, length, get_or, IfOk, IfSome, IsNone};
 ghost use Rattle.monomial_order.specs.Monomial.{exponent};
 ghost use Rattle.word_laws.specs.Words.{IsSWord};
 ghost use Rattle.poly_core.specs.Presentation.{presented, IsValid};
+ghost use Rattle.polynomials.specs.Polynomial.{IsCanonical};
+ghost use Rattle.polynomials.specs.Subalgebra.{HasDegreesTo, IsNormalForm};
 ghost use Rattle.quotient_gb.specs.Quotient.{IsQuotientOf};
 ghost use Rattle.subalgebra_laws.specs.Words.{letters};
 ghost use Rattle.witness.specs.Tracking.{values_of};
@@ -90,6 +92,22 @@ pub(crate) fn value_of_start<F: Field, O: Order>(
     Ok(Some(one))
 }
 
+/// Whether all monomials are standard: then the polynomial is its own normal form.
+fn is_normal<F: Field, O: Order>(_p: &Presentation<F, O>, q: &Quotient<F, O>, a: &Poly<F>) -> bool
+    requires presentation { IsValid F.ops O.order _p.now }
+    requires quotient { IsQuotientOf (presented F.ops O.order _p.now) q.now }
+    requires canonical { IsCanonical (F.ops _p.now.field) (O.order _p.now.order) a.now }
+    requires degree { HasDegreesTo (presented F.ops O.order _p.now) q.now.degree a.now ⊎ (q.now.closed ≡ true) }
+    ensures { result ≡ true → IsNormalForm (presented F.ops O.order _p.now) a.now a.now }
+{
+    'terms: for t in a.terms() {
+        if !q.is_standard(&t.at) {
+            return false;
+        }
+    }
+    true
+}
+
 /// The value of a word, from that of the word without a letter.
 pub(crate) fn times_letter<F: Field, O: Order>(
     alloc: Global,
@@ -108,6 +126,9 @@ pub(crate) fn times_letter<F: Field, O: Order>(
 {
     let factor = element(p, elements, split.letter);
     let product = Poly::mul(alloc, &p.field, &p.order, factor, value)?;
+    if is_normal(p, q, &product) {
+        return Ok(product);
+    }
     let next = q.normal_form(alloc, p, &product)?;
     Ok(next)
 }

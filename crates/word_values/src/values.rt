@@ -39,8 +39,7 @@ impl<F: Field> Model for Values<F> {
 }
 
 impl<F: Field> Values<F> {
-    /// No values. A value is kept if its degree and the least degree of an element are together at most the limit. It
-    /// takes no memory.
+    /// No values. A value is kept if its degree is at most the limit. It takes no memory.
     pub fn new(alloc: Global, limit: u32) -> Values<F>
         ensures { result ≡ [] }
     {
@@ -50,8 +49,7 @@ impl<F: Field> Values<F> {
         }
     }
 
-    /// From now on a value is kept if its degree and the least degree of an element are together at most the limit.
-    /// What is kept already stays.
+    /// From now on a value is kept if its degree is at most the limit. What is kept already stays.
     pub fn set_limit(&mut self, limit: u32)
         ensures { self.new ≡ self.old }
     {
@@ -262,20 +260,19 @@ impl<F: Field> Values<F> {
         &mut self,
         alloc: Global,
         p: &Presentation<F, O>,
-        elements: &[Tracked<F>],
+        _elements: &[Tracked<F>],
         w: &Monomial,
         value: Poly<F>,
     ) -> Result<Option<Poly<F>>, Memory>
         requires presentation { IsValid F.ops O.order p.now }
-        requires elements { AreHomogeneousElements (presented F.ops O.order p.now) (values_of elements.now) }
-        requires word { IsSWord (letters (presented F.ops O.order p.now) (values_of elements.now)) w.now }
+        requires word { IsSWord (letters (presented F.ops O.order p.now) (values_of _elements.now)) w.now }
         requires long { ¬ IsLetter w.now }
-        requires value { IsWordValue (presented F.ops O.order p.now) (values_of elements.now) w.now value }
+        requires value { IsWordValue (presented F.ops O.order p.now) (values_of _elements.now) w.now value }
         ensures table { (self.new ≡ self.old) ⊎ Puts self.old self.new w.now value }
         ensures ready { IfOk result (λ r. IsNone r → IsReady self.new w.now) }
         ensures made { IfOk result (λ r. IfSome r (λ v. v ≡ value)) }
     {
-        if !self.is_in_reach(p, elements, &value) {
+        if !self.is_in_reach(p, &value) {
             return Ok(Some(value));
         }
         let key = w.as_slice().to_vec(alloc)?;
@@ -283,27 +280,13 @@ impl<F: Field> Values<F> {
         Ok(None)
     }
 
-    /// Whether the degree of a value and the least degree of an element are together at most the limit.
-    fn is_in_reach<O: Order>(
-        &self,
-        p: &Presentation<F, O>,
-        elements: &[Tracked<F>],
-        value: &Poly<F>,
-    ) -> bool
-        requires presentation { IsValid F.ops O.order p.now }
-        requires elements { AreHomogeneousElements (presented F.ops O.order p.now) (values_of elements.now) }
-        requires value { IsCanonical (F.ops p.now.field) (O.order p.now.order) value.now }
+    /// Whether the degree of a value is at most the limit.
+    fn is_in_reach<O: Order>(&self, p: &Presentation<F, O>, value: &Poly<F>) -> bool
+        requires { IsCanonical (F.ops p.now.field) (O.order p.now.order) value.now }
     {
-        let Some(degree) = Poly::degree(&p.order, value) else {
-            return true;
-        };
-        'elements: for t in elements {
-            if let Some(least) = Poly::degree(&p.order, &t.value) {
-                if degree.saturating_add(least) <= self.limit {
-                    return true;
-                }
-            }
+        match Poly::degree(&p.order, value) {
+            Some(degree) => degree <= self.limit,
+            None => true,
         }
-        false
     }
 }
