@@ -30,8 +30,8 @@ fn index_of(list: &[Monomial], m: &Monomial) -> usize
     index
 }
 
-/// The new letter of a lead of the last degree, if the word is the old one. The leads from `first` on are in the order of
-/// `leads` now.
+/// The new letter of a lead of the last degree, if the word is the old one. The leads from `first` on are in the order
+/// of `leads` now.
 fn new_letter(
     alloc: Global,
     alphabet: &Alphabet,
