@@ -1,7 +1,7 @@
 -- What calls of a table of rules need and promise.
-use Rattle.std.specs.Prelude.{◌≢◌, ◌⊎◌, ℕ, ◌≤◌, ◌<◌, List, [], slice_index_or, Contains, AllPairs, None}
+use Rattle.std.specs.Prelude.{◌≡◌, ◌≢◌, ◌⊎◌, ℕ, ◌≤◌, ◌<◌, List, [], slice_index_or, Contains, AllPairs, Some, None}
 use Rattle.monomial_order.specs.Limits.{exponent_max}
-use Rattle.monomial_order.specs.Monomial.{Exponents, IsMonomial, AreCoprime}
+use Rattle.monomial_order.specs.Monomial.{Exponents, exponent, IsMonomial, AreCoprime}
 use Rattle.monomial_order.specs.MonomialOrder.{MonomialOrder}
 use Rattle.word_rewriting.specs.Rewriting.{WordOrZero, RewriteRule, RewritesBy, IsCriticalPair, IsNormalForm}
 use Rattle.word_rewriting.specs.laws.Confluence.{IsDecreasingRule}
@@ -46,3 +46,13 @@ pub record ArePairForms (R : List RewriteRule) (r s : RewriteRule) (u v : WordOr
 -- one word, or zero, is a normal form of both members of the critical pair of r and s
 abbrev pub HasOneForm : List RewriteRule → RewriteRule → RewriteRule → Type 0
 HasOneForm R r s = (u : WordOrZero) × ArePairForms R r s u u
+
+-- a and b are words with a letter in common
+pub record HaveCommonLetter (a b : WordOrZero) : Type 0 where
+  pub first : Exponents
+  pub second : Exponents
+  pub letter : ℕ
+  pub is_first : a ≡ Some first
+  pub is_second : b ≡ Some second
+  pub in_first : exponent first letter ≢ 0
+  pub in_second : exponent second letter ≢ 0

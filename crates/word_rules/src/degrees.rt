@@ -4,6 +4,7 @@ ghost use Rattle.monomial_order.specs.Limits.{exponent_max};
 ghost use Rattle.monomial_order.specs.Monomial.{exponent, least_common_multiple, weighted_degree};
 ghost use Rattle.word_rules.specs.Rules.{rule_at};
 
+use crate::rule_side::exponent_in;
 use crate::{RuleSide, RuleTable};
 
 /// The degree of a letter, by those of x and of s.
@@ -21,13 +22,6 @@ fn letter_degree(x_degrees: &[u32], s_degrees: &[u32], letter: usize) -> u32
     }
 }
 
-/// The exponent of a letter in a word.
-fn exponent_of(word: &[u16], letter: usize) -> u16
-    ensures { result ≡ exponent word.now letter }
-{
-    if letter < word.len() { word[letter] } else { 0 }
-}
-
 /// What a word adds to the degree of another one in their least common multiple.
 fn added_degree(x_degrees: &[u32], s_degrees: &[u32], word: &RuleSide, other: &[u16]) -> u32
     requires small { weighted_degree (x_degrees.now ++ s_degrees.now) (least_common_multiple other.now word.now)
@@ -39,7 +33,7 @@ fn added_degree(x_degrees: &[u32], s_degrees: &[u32], word: &RuleSide, other: &[
     'letters: for factor in word.factors() {
         let excess = factor
             .exponent
-            .saturating_sub(exponent_of(other, factor.letter));
+            .saturating_sub(exponent_in(other, factor.letter));
         sum += letter_degree(x_degrees, s_degrees, factor.letter) * u32::from(excess);
     }
     sum

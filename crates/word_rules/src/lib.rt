@@ -7,6 +7,7 @@
 #![tactic(auto)]
 
 mod buckets;
+mod common_letters;
 mod degrees;
 mod factor;
 mod marks;

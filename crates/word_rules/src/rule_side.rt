@@ -27,7 +27,7 @@ impl Model for RuleSide {
 }
 
 /// The exponent of a letter in the word with these exponents.
-fn exponent_in(word: &[u16], letter: usize) -> u16
+pub(crate) fn exponent_in(word: &[u16], letter: usize) -> u16
     ensures { result ≡ exponent word.now letter }
 {
     if letter < word.len() { word[letter] } else { 0 }
@@ -48,6 +48,7 @@ fn list_factors(alloc: Global, word: &[u16]) -> Result<Vec<Factor>, Memory>
 }
 
 impl RuleSide {
+    /// The side with this word; its letters are listed once.
     pub fn new(alloc: Global, word: Monomial) -> Result<RuleSide, Memory>
         ensures { IfOk result (λ s. s ≡ word) }
     {
@@ -55,12 +56,14 @@ impl RuleSide {
         Ok(RuleSide { word, factors })
     }
 
+    /// Its word.
     pub fn word(&self) -> &Monomial
         ensures { result.now ≡ self.now }
     {
         &self.word
     }
 
+    /// Its word, moved out.
     pub fn into_word(self) -> Monomial
         ensures { result ≡ self }
     {
