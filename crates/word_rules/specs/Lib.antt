@@ -4,3 +4,4 @@ pub mod Scratch
 pub mod Index
 pub mod Sharing
 pub mod Trimmed
+pub mod Members
