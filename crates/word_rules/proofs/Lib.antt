@@ -10,3 +10,4 @@ pub mod Trimming
 pub mod PairForms
 pub mod FactorDegrees
 pub mod Scratching
+pub mod CommonLetters
