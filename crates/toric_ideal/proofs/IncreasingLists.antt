@@ -1,9 +1,11 @@
 -- Increasing lists.
-use Rattle.std.proofs.Common.{◌≡◌, ◌≢◌, ℕ, zero, suc, ◌<◌, ◌≤◌, refl, sym, ◌∙◌, ap, subst, List, [], ◌∷◌, ◌++◌, length, length-append, take, drop, drop-cons, get_or, arith, ◌⊎◌, inl, inr, ⊎_elim}
+use Rattle.std.proofs.Common.{◌≡◌, ◌≢◌, ℕ, zero, suc, ◌<◌, ◌≤◌, refl, sym, ◌∙◌, ap, subst, List, [], ◌∷◌, ◌++◌, length, length-append, take, drop, drop-cons, get_or, arith, true, false, ◌⊎◌, inl, inr, ⊎_elim}
 use Rattle.std.specs.Prelude.{Contains, AllPairs}
 use Rattle.std.proofs.Math.ListN.{drop_of_length-le}
 use Rattle.std.proofs.lemmas.List.{get_or-take, length-take-le, take-append-drop}
-use Rattle.std.specs.declared.cmp.Ordering.TheVariants.{Less}
+use Rattle.std.specs.Ordering.{is_lt}
+use Rattle.std.specs.declared.cmp.Ordering.{Ordering}
+use Rattle.std.specs.declared.cmp.Ordering.TheVariants.{Less, Equal, Greater}
 use Rattle.monomial_order.specs.MonomialOrder.{IsIncreasing, IsMonomialOrder, MonomialOrder}
 use Rattle.monomial_order.specs.laws.Comparing.{degree_falls, le_or_not, increasing_below, increasing_cons, increasing_tail, three_ways, increasing_append}
 use Rattle.monomial_order.specs.laws.Lists.{contains_at, contains_cases, contains_here, contains_left, contains_none, contains_right, contains_there}
@@ -11,22 +13,24 @@ use Rattle.toric_ideal.specs.Increasing.{IsInsertionIndex, IsInserted, IsSorted}
 use Rattle.std.proofs.lemmas.List.Elements.{Contains-append_cases}
 use Rattle.toric_ideal.proofs.Members.{contains_drop, contains_parts, contains_take, drop_next, drop_none, take_at, take_index, take_more, take_next, take_whole}
 
+pub lt_less : (o : Ordering) → is_lt o ≡ true → o ≡ Less
+lt_less Less h = refl
+lt_less Equal h = cc
+lt_less Greater h = cc
+
+pub not_lt : (o : Ordering) → is_lt o ≡ false → o ≢ Less
+not_lt Less h e = cc
+not_lt Equal h e = cc
+not_lt Greater h e = cc
+
 -- the members from the index on aren't less than m
 pub record IsIndexFrom (O : MonomialOrder) (ms : List (List ℕ)) (m : List ℕ) (i : ℕ) : Type 0 where
   pub within : i ≤ length ms
   pub after : (k : List ℕ) → Contains (drop i ms) k → O.compare k m ≢ Less
 
 module _ (O : MonomialOrder) (W : IsMonomialOrder O) where
-  pub index_start : (ms : List (List ℕ)) (m : List ℕ) → IsIndexFrom O ms m (length ms)
+  index_start : (ms : List (List ℕ)) (m : List ℕ) → IsIndexFrom O ms m (length ms)
   index_start ms m = record { within = omega arith; after = λ k h. absurd (drop_none ms k h) }
-
-  pub index_down : (ms : List (List ℕ)) (m : List ℕ) (i j : ℕ) → i ≡ suc j → O.compare (get_or ms j []) m ≢ Less → IsIndexFrom O ms m i → IsIndexFrom O ms m j
-  index_down ms m i j e n h =
-      let w = h.within in
-      record {
-        within = omega arith;
-        after = λ k c. ⊎_elim (λ q. subst (λ x. O.compare x m ≢ Less) q n) (λ d. h.after k (subst (λ x. Contains (drop x ms) k) (sym e) d)) (drop_next ms j [] (omega arith) k c);
-      }
 
   -- a member before an index is the one just before it, or less than that
   pub increasing_before : (ms : List (List ℕ)) (j : ℕ) → IsIncreasing O ms → j < length ms → (k : List ℕ) → Contains (take (suc j) ms) k → (k ≡ get_or ms j []) ⊎ (O.compare k (get_or ms j []) ≡ Less)
@@ -35,16 +39,6 @@ module _ (O : MonomialOrder) (W : IsMonomialOrder O) where
   increasing_before (m ∷ ms) (suc j) r l k c =
       ⊎_elim (λ e. inr (subst (λ x. O.compare x (get_or ms j []) ≡ Less) e (increasing_below O W m ms r (get_or ms j []) (contains_at ms j [] (omega arith)))))
       (λ d. increasing_before ms j (increasing_tail O m ms r) (omega arith) k d) (contains_cases m (take (suc j) ms) k c)
-
-  pub index_here : (ms : List (List ℕ)) (m : List ℕ) (i j : ℕ) → IsIncreasing O ms → i ≡ suc j → O.compare (get_or ms j []) m ≡ Less → IsIndexFrom O ms m i → IsInsertionIndex O ms m i
-  index_here ms m i j r e less h =
-      let w = h.within in
-      record {
-        within = h.within;
-        before = λ k c. ⊎_elim (λ q. subst (λ x. O.compare x m ≡ Less) (sym q) less) (λ b. W.total.trans k (get_or ms j []) m b less)
-            (increasing_before ms j r (omega arith) k (subst (λ x. Contains (take x ms) k) e c));
-        after = h.after;
-      }
 
   increasing_drop : (i : ℕ) (ms : List (List ℕ)) → IsIncreasing O ms → IsIncreasing O (drop i ms)
   increasing_drop zero ms r = r
@@ -104,9 +98,6 @@ module _ (O : MonomialOrder) (W : IsMonomialOrder O) where
         before = h.before;
         after = λ k c. h.from.after k (subst (λ i. Contains (drop i ms) k) (let e : low ≡ high = omega arith in e) c);
       }
-
-  pub index_first : (ms : List (List ℕ)) (m : List ℕ) → IsIndexFrom O ms m 0 → IsInsertionIndex O ms m 0
-  index_first ms m h = record { within = h.within; before = λ k c. absurd (contains_none k c); after = h.after }
 
   increasing_take : (i : ℕ) (ms : List (List ℕ)) → IsIncreasing O ms → IsIncreasing O (take i ms)
   increasing_take zero ms r = tt

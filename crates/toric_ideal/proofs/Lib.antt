@@ -17,6 +17,7 @@ pub mod SoundListings
 pub mod ClosedRules
 pub mod ClosedListings
 pub mod DegreeRules
+pub mod CommonLetters
 pub mod NewLead
 pub mod Settled
 pub mod NewSides

@@ -56,7 +56,8 @@ fn oriented<O: Order>(o: &O, u: Option<Monomial>, v: Option<Monomial>) -> Option
     }
 }
 
-/// Joins the pair of two rules, if need be by a rule of its degree.
+/// Joins the pair of two rules, if need be by a rule of its degree. Members with a common letter are joined by the rules
+/// of smaller degrees: without the letter they have one image and a smaller degree.
 pub(crate) fn join_pair(
     alloc: Global,
     alphabet: &Alphabet,
@@ -77,6 +78,9 @@ pub(crate) fn join_pair(
     ensures growing { OnOk result (IsGrowing (letters_of alphabet.now) zeros.now c first table.new) }
     ensures joined { OnOk result (HasJoinablePair table.new (rule_at table.old i) (rule_at table.old j)) }
 {
+    if table.has_common_letter(i, j) {
+        return Ok(());
+    }
     let Some((u, v)) = table.different_forms(alloc, &alphabet.order, i, j)? else {
         return Ok(());
     };

@@ -28,11 +28,17 @@ fn insertion_index<O: Order>(o: &O, list: &[Monomial], m: &Monomial) -> usize
     requires monomial { IsComparable (O.order o.now) m.now }
     ensures { IsInsertionIndex (O.order o.now) list.now m.now result }
 {
-    let mut index = list.len();
-    'seek: while index > 0 && !o.compare(&list[index - 1], m).is_lt() {
-        index -= 1;
+    let mut low = 0;
+    let mut high = list.len();
+    'seek: while low < high {
+        let middle = low + (high - low) / 2;
+        if o.compare(&list[middle], m).is_lt() {
+            low = middle + 1;
+        } else {
+            high = middle;
+        }
     }
-    index
+    low
 }
 
 /// The increasing list of copies of the monomials of the list.

@@ -17,9 +17,15 @@ pub(crate) fn first_of_degree<O: Order>(o: &O, rules: &[Rule], degree: u32) -> u
     ensures lower { (k : ℕ) → k < result
         → (O.order o.now).degree (rule_at (rewrite_rules rules.now) k).left < degree }
 {
-    let mut index = rules.len();
-    'seek: while index > 0 && o.degree(&rules[index - 1].word) == degree {
-        index -= 1;
+    let mut low = 0;
+    let mut high = rules.len();
+    'seek: while low < high {
+        let middle = low + (high - low) / 2;
+        if o.degree(&rules[middle].word) < degree {
+            low = middle + 1;
+        } else {
+            high = middle;
+        }
     }
-    index
+    low
 }

@@ -1,22 +1,10 @@
-use Rattle.std.proofs.Common.{◌≡◌, ◌≢◌, suc, ◌+◌, ◌-◌, ◌/◌, true, false, ◌∙◌, sym, refl, subst, get_or, arith}
-use Rattle.std.specs.Ordering.{is_lt}
-use Rattle.std.specs.declared.cmp.Ordering.{Ordering}
-use Rattle.std.specs.declared.cmp.Ordering.TheVariants.{Less, Equal, Greater}
+use Rattle.std.proofs.Common.{◌≡◌, ◌≢◌, suc, ◌+◌, ◌-◌, ◌/◌, true, false, ◌∙◌, sym, subst, get_or, arith}
+use Rattle.std.specs.declared.cmp.Ordering.TheVariants.{Less}
 use Rattle.monomial_order.specs.laws.Lists.{contains_at}
 use Rattle.toric_ideal.specs.SortedRules.{words_of}
-use Rattle.toric_ideal.proofs.IncreasingLists.{search_up, search_down}
+use Rattle.toric_ideal.proofs.IncreasingLists.{lt_less, not_lt, search_up, search_down}
 use Rattle.toric_ideal.proofs.RuleLists.{word_at, words_length}
 use Rattle.toric_ideal.proofs.sorting.insertion_index.Goals as goal
-
-lt_less : (o : Ordering) → is_lt o ≡ true → o ≡ Less
-lt_less Less h = refl
-lt_less Equal h = cc
-lt_less Greater h = cc
-
-not_lt : (o : Ordering) → is_lt o ≡ false → o ≢ Less
-not_lt Less h e = cc
-not_lt Equal h e = cc
-not_lt Greater h e = cc
 
 pub compare-requires-clause-left : goal.compare-requires-clause-left
 compare-requires-clause-left g c =
