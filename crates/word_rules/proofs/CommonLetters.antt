@@ -1,21 +1,17 @@
 -- Letters of the members of critical pairs.
-use Rattle.std.proofs.Common.{◌≡◌, ◌≢◌, ℕ, ◌+◌, ◌-◌, max, refl, sym, ◌∙◌, ap, subst, List, arith, Some, None}
-use Rattle.std.specs.Prelude.{◌↔◌, ◌⊎◌, option_map}
+use Rattle.std.proofs.Common.{◌≡◌, ◌≢◌, ℕ, sym, ◌∙◌, ap, subst, arith, Some, Bool, inl, inr, ⊎_elim}
+use Rattle.std.specs.Prelude.{◌↔◌, ◌⊎◌, IsTrue}
 use Rattle.std.proofs.lemmas.Option.{same_Some}
 use Rattle.monomial_order.specs.Monomial.{Exponents, exponent, product, least_common_multiple}
 use Rattle.monomial_order.specs.laws.Comparing.{numbers_or_not}
 use Rattle.monomial_order.specs.laws.Monomial.{exponent-product, exponent-least_common_multiple, least_common_multiple_comm}
-use Rattle.word_rewriting.specs.Rewriting.{RewriteRule, RewritesBy, WordOrZero, multiple}
+use Rattle.word_rewriting.specs.Rewriting.{RewriteRule, RewritesBy, IsCriticalPair, WordOrZero, multiple}
 use Rattle.word_rules.specs.Rules.{HaveCommonLetter}
 use Rattle.word_rules.specs.Members.{member_exponent}
 
 -- what a rule rewrites a word to is its multiple of the right side
 pub member_is : (r : RewriteRule) (w v : Exponents) (a : WordOrZero) (b : RewritesBy r w a) → r.right ≡ Some v → a ≡ Some (product b.cofactor v)
 member_is r w v a b h = sym b.result ∙ ap (multiple b.cofactor) h
-
--- there is none if the right side is zero
-pub no_member : (r : RewriteRule) (w : Exponents) (a : WordOrZero) → RewritesBy r w a → r.right ≡ None → a ≡ None
-no_member r w a b h = sym b.result ∙ ap (multiple b.cofactor) h
 
 -- its exponents
 pub exponent_of_member : (r : RewriteRule) (other v u : Exponents) (a : WordOrZero) → RewritesBy r (least_common_multiple r.left other) a →

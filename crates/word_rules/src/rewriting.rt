@@ -10,7 +10,7 @@ use crate::scratch::ScratchWord;
 use monomial_order::{Memory, Monomial, Order};
 use std::alloc::Global;
 
-/// The words without zeros at the end, or zero.
+/// The word without the zeros at its end, or zero.
 fn to_word(alloc: Global, word: &Option<ScratchWord>) -> Result<Option<Monomial>, Memory>
     ensures { IfOk result (λ m. m ≡ trimmed word.now) }
 {
@@ -132,8 +132,8 @@ impl RuleTable {
         self.finish(o, word)
     }
 
-    /// Different normal forms of the members of the critical pair of two rules, if there are any; None among them is
-    /// zero. No word is made if both members have one normal form.
+    /// Different normal forms of the members of the critical pair of two rules, if those that it finds differ; None
+    /// among them is zero. No word is made if both members have one normal form.
     pub fn different_forms<O: Order>(
         &self,
         alloc: Global,

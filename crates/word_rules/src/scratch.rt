@@ -9,6 +9,9 @@ use monomial_order::{Memory, Monomial};
 use std::alloc::Global;
 use std::marker::Model;
 
+/// For how many letters a new word has room.
+const ROOM: usize = 16;
+
 /// A word with an exponent for each place, and a list of its letters in any order.
 #[derive(Drop)]
 pub(crate) struct ScratchWord {
@@ -34,7 +37,7 @@ impl ScratchWord {
     {
         Ok(ScratchWord {
             exponents: vec![in alloc; 0u16; places]?,
-            letters: Vec::new(alloc),
+            letters: Vec::with_capacity(alloc, ROOM)?,
         })
     }
 

@@ -19,7 +19,7 @@ more c =
     let i = c.letters.factor-index in
     let f = get_or items i (record { letter = 0; exponent = 0 }) in
     let excess : c.from.result ≡ f.exponent - exponent o f.letter =
-    c.from.ensures ∙ (c.saturating_sub-excess.ensures ∙ ap (λ x. f.exponent - x) c.exponent_of.ensures) in
+    c.from.ensures ∙ (c.saturating_sub-excess.ensures ∙ ap (λ x. f.exponent - x) c.exponent_in.ensures) in
     let product : c.letter_degree.result * c.from.result ≡ added_by ws o f =
     ap (λ x. x * c.from.result) c.letter_degree.ensures ∙ ap (λ x. get_or ws f.letter 0 * x) excess in
     ap (λ x. c.letters.sum + x) product ∙ (ap (λ x. x + added_by ws o f) c.letters.invariant
