@@ -8,7 +8,14 @@ use Rattle.toric_ideal.specs.Rewriting.{rewrite_rule}
 use Rattle.toric_ideal.specs.Step.{IsGrowing, IsOriented}
 use Rattle.toric_ideal.proofs.LetterLemmas.{alphabet_letters, alphabet_order}
 use Rattle.toric_ideal.proofs.DegreeRules.{growing_decreasing, pair_small, first_small, second_small, pair_same, pair_left, pair_pushed, pair_joined}
+use Rattle.toric_ideal.proofs.CommonLetters.{common_joined}
 use Rattle.toric_ideal.proofs.degree_step.join_pair.Goals as goal
+
+pub returns-then-has_common_letter-clause-joined : goal.returns-then-has_common_letter-clause-joined
+returns-then-has_common_letter-clause-joined c =
+    let a = c.args.alphabet.now in
+    common_joined (letters_of a) (alphabet_letters a c.requires.alphabet) c.args.zeros.now c.args.c c.args.first c.args.table.now c.requires.growing c.args.i c.args.j c.requires.pair
+    (λ u v pair. (c.has_common_letter.ensures u v pair).0 c.if-has_common_letter.true)
 
 pub different_forms-requires-clause-decreasing : goal.different_forms-requires-clause-decreasing
 different_forms-requires-clause-decreasing c =
