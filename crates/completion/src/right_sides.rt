@@ -1,14 +1,12 @@
 //! Right sides over the elements of smaller degree.
-ghost use Rattle.std.specs.Prelude.{◌≡◌, ◌+◌, ◌<◌, ◌≤◌, ◌++◌, List, length, false, All, IfSome};
-ghost use Rattle.monomial_order.specs.Monomial.{Exponents};
+ghost use Rattle.std.specs.Prelude.{◌≡◌, ◌+◌, ◌≤◌, List, length, false, All, IfSome};
 ghost use Rattle.poly_core.specs.Presentation.{presented, IsValid};
-ghost use Rattle.toric_ideal.specs.Increasing.{AreComparable};
 ghost use Rattle.witness.specs.declared.tracked.Tracked.{Tracked};
 ghost use Rattle.subduction.specs.Basis.{AreInParts, IsBasisOf};
 
-use monomial_order::{Monomial, Order};
+use monomial_order::Order;
 use poly_core::{Poly, Presentation};
-use subduction::Basis;
+use subduction::{Basis, lower_count};
 use word_field::Field;
 
 /// The right side of a word, if it has no letter of an element of the last degree.
@@ -32,20 +30,6 @@ pub(crate) fn lower_right_side<F: Field, O: Order>(
     } else {
         Some(right)
     }
-}
-
-/// How many leads have smaller degrees than d, if these come first.
-fn lower_count<O: Order>(o: &O, leads: &[Monomial], d: u32) -> usize
-    requires { AreComparable (O.order o.now) leads.now }
-    ensures { (lower last : List Exponents) → leads.now ≡ lower ++ last →
-        All (λ m. (O.order o.now).degree m < d) lower → All (λ m. (O.order o.now).degree m ≡ d) last →
-        result ≡ length lower }
-{
-    let mut count = 0usize;
-    'count: while count < leads.len() && o.degree(&leads[count]) < d {
-        count += 1;
-    }
-    count
 }
 
 /// Whether a word of a sum has a letter behind the first n variables and the first k elements.

@@ -15,3 +15,4 @@ mod Reducing
 mod Settled
 mod SettledBasis
 mod SettledWhole
+mod LowerCounts

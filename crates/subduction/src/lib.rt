@@ -13,6 +13,7 @@ mod witness_words;
 mod word_step;
 
 pub use basis::Basis;
+pub use settling::lower_count;
 pub use subduction::{Subduced, subduce, subduce_with};
 pub use witness_words::moved_word;
 pub use word_values::Values;

@@ -107,18 +107,24 @@ pub(crate) fn reduced_by_each_other<F: Field, O: Order>(
     Ok(new)
 }
 
-/// How many leads have smaller degrees than d, if these come first.
-pub(crate) fn lower_count<O: Order>(o: &O, leads: &[Monomial], d: u32) -> usize
+/// How many leads have smaller degrees than d, if these come first. It halves the list.
+pub fn lower_count<O: Order>(o: &O, leads: &[Monomial], d: u32) -> usize
     requires { AreComparable (O.order o.now) leads.now }
     ensures { (lower last : List Exponents) → leads.now ≡ lower ++ last →
         All (λ m. (O.order o.now).degree m < d) lower → All (λ m. (O.order o.now).degree m ≡ d) last →
         result ≡ length lower }
 {
-    let mut count = 0usize;
-    'count: while count < leads.len() && o.degree(&leads[count]) < d {
-        count += 1;
+    let mut low = 0;
+    let mut high = leads.len();
+    'seek: while low < high {
+        let middle = low + (high - low) / 2;
+        if o.degree(&leads[middle]) < d {
+            low = middle + 1;
+        } else {
+            high = middle;
+        }
     }
-    count
+    low
 }
 
 /// Puts the new elements in place of the last ones. It takes no memory.

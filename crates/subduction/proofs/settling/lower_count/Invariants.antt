@@ -3,9 +3,14 @@ use Rattle.std.specs.Prelude.{All}
 use Rattle.monomial_order.specs.Monomial.{Exponents}
 use Rattle.subduction.proofs.settling.lower_count.Given as goal
 
-abbrev pub invariant-count : goal.invariant-count
-invariant-count g l = (lower last : List Exponents) → l.leads ≡ lower ++ last →
-    All (λ m. (g.O.Order.order l.o).degree m < l.d) lower → All (λ m. (g.O.Order.order l.o).degree m ≡ l.d) last → l.count ≤ length lower
+-- the first part ends between the two indexes
+abbrev pub invariant-seek : goal.invariant-seek
+invariant-seek g l = record {
+  within : l.high ≤ length l.leads;
+  between : (lower last : List Exponents) → l.leads ≡ lower ++ last →
+      All (λ m. (g.O.Order.order l.o).degree m < l.d) lower → All (λ m. (g.O.Order.order l.o).degree m ≡ l.d) last →
+      (l.low ≤ length lower) × (length lower ≤ l.high);
+}
 
-abbrev pub decreases-count : goal.decreases-count
-decreases-count g l = length l.leads - l.count
+abbrev pub decreases-seek : goal.decreases-seek
+decreases-seek g l = l.high - l.low
