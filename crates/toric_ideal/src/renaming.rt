@@ -48,7 +48,7 @@ fn has_least(rule: &Rule, word: &Monomial) -> bool
     }
 }
 
-/// The renamings of the right sides in the table that are the word. Those before the index `first` are not.
+/// The renamings of the right sides in the table that are the word. None before the index `first` is.
 pub(crate) fn table_renamings(
     alloc: Global,
     table: &RuleTable,
@@ -69,7 +69,7 @@ pub(crate) fn table_renamings(
     Ok(renamings)
 }
 
-/// The renamings of the least words in the list that are the word. Those before the index `first` are not.
+/// The renamings of the least words in the list that are the word. None before the index `first` is.
 pub(crate) fn list_renamings(
     alloc: Global,
     rules: &[Rule],

@@ -74,7 +74,7 @@ fn table_letter(
     }
 }
 
-/// The new letters of the rules of the table whose right sides are old ones. Those before the index `from` are not.
+/// The new letters of the rules of the table whose right sides are old ones. The right sides before the index `from` are none.
 fn table_letters(
     alloc: Global,
     alphabet: &Alphabet,
@@ -118,7 +118,7 @@ fn list_letter(
     }
 }
 
-/// The new letters of the rules of the list whose least words are old ones. Those before the index `from` are not.
+/// The new letters of the rules of the list whose least words are old ones. The right sides before the index `from` are none.
 fn list_letters(
     alloc: Global,
     alphabet: &Alphabet,

@@ -76,8 +76,8 @@ fn first_rules(alloc: Global, n: usize) -> Result<RuleTable, Fail>
     Ok(table)
 }
 
-/// Whether the critical pair of two of the first n rules has the least common multiple, its degree, and the different
-/// normal forms that the row tells.
+/// Whether the critical pair of two of the first n rules has the least common multiple, its degree, a letter in both
+/// members or none, and the different normal forms that the row tells.
 fn pair_is(alloc: Global, n: usize, row: &str) -> Result<bool, Fail> {
     word_rewriting::sample();
     let table = first_rules(alloc, n)?;
@@ -91,11 +91,14 @@ fn pair_is(alloc: Global, n: usize, row: &str) -> Result<bool, Fail> {
     if !is_word(alloc, 1, Some(&multiple), part(row, 2))? || degree != number(part(row, 3))? {
         return Ok(false);
     }
+    if table.has_common_letter(i, j) != (part(row, 4) == "common letter") {
+        return Ok(false);
+    }
     match table.different_forms(alloc, &order, i, j)? {
-        None => Ok(part(row, 4) == "same"),
+        None => Ok(part(row, 5) == "same"),
         Some((u, v)) => Ok(
-            is_word(alloc, 1, u.as_ref(), part(row, 4))?
-                && is_word(alloc, 1, v.as_ref(), part(row, 5))?,
+            is_word(alloc, 1, u.as_ref(), part(row, 5))?
+                && is_word(alloc, 1, v.as_ref(), part(row, 6))?,
         ),
     }
 }
@@ -136,10 +139,10 @@ fn words_have_normal_forms(rt: HostRuntime) -> Result<(), Fail> {
 fn pairs_have_normal_forms(rt: HostRuntime) -> Result<(), Fail> {
     let alloc = rt.alloc();
     for row in [
-        "0 | 1 | x^2*s1 | 4 | same",
-        "0 | 2 | x^2*s2 | 5 | same",
-        "1 | 2 | x*s1*s2 | 6 | same",
-        "1 | 3 | x*s1^3 | 7 | same",
+        "0 | 1 | x^2*s1 | 4 | no letter | same",
+        "0 | 2 | x^2*s2 | 5 | common letter | same",
+        "1 | 2 | x*s1*s2 | 6 | no letter | same",
+        "1 | 3 | x*s1^3 | 7 | common letter | same",
     ] {
         ensure(pair_is(alloc, 4, row)?, row)?;
     }
@@ -149,9 +152,9 @@ fn pairs_have_normal_forms(rt: HostRuntime) -> Result<(), Fail> {
 #[test]
 fn pairs_have_different_normal_forms(rt: HostRuntime) -> Result<(), Fail> {
     let alloc = rt.alloc();
-    let row = "0 | 1 | x^2*s1 | 4 | s1^2 | x*s2";
+    let row = "0 | 1 | x^2*s1 | 4 | no letter | s1^2 | x*s2";
     ensure(pair_is(alloc, 2, row)?, row)?;
-    let row = "1 | 2 | x*s1*s2 | 6 | s2^2 | s1^3";
+    let row = "1 | 2 | x*s1*s2 | 6 | no letter | s2^2 | s1^3";
     ensure(pair_is(alloc, 3, row)?, row)
 }
 
