@@ -74,10 +74,7 @@ module _ {F E : Type 0} (P : Presented E) (H : IsPresentation P) (b : BasisState
         at i l = get_or-append-add (map lead_monomial S) (map lead_monomial T) i [] ∙ get_or-map lead_monomial T i [] [] l
 
     differ : (i j : ℕ) → i < length T → j < length T → lead_monomial (get_or T i []) ≡ lead_monomial (get_or T j []) → i ≡ j
-    differ i j k l e = ⊎_elim (λ q. q) (λ n. absurd (⊎_elim (λ q. differ_less i j q l e) (λ q. differ_less j i (other i j n q) k (sym e)) (le_or_not (suc i) j))) (numbers_or_not i j)
-      where
-        other : (i j : ℕ) → i ≢ j → (suc i ≤ j → ⊥) → j < i
-        other i j n o = ⊎_elim (λ q. q) (λ r. ⊎_elim (λ q. absurd (n q)) (λ w. absurd (o (omega (arith, r, w)))) (numbers_or_not i j)) (le_or_not (suc j) i)
+    differ i j k l e = ⊎_elim (λ q. q) (λ n. absurd (⊎_elim (λ q. differ_less i j q l e) (λ q. differ_less j i (omega (arith, n, q)) k (sym e)) (le_or_not (suc i) j))) (numbers_or_not i j)
 
     module _ (fresh : (t : Tracked F E) → Contains last t → (m : Exponents) → coefficient K t.value m ≢ K.zero → ¬ IsGenerated (map lead_monomial S) m) where
       last_fresh : (t : Polynomial E) → Contains T t → (m : Exponents) → coefficient K t m ≢ K.zero → ¬ IsGenerated (map lead_monomial S) m

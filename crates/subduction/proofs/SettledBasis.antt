@@ -285,11 +285,8 @@ module _ {F E : Type 0} (P : Presented E) (H : IsPresentation P) (b : BasisState
       let f : (let y : Tracked F E = get_or before k.0 t in lead_monomial y.value) ≡ (let y : Tracked F E = get_or before l.0 t in lead_monomial y.value) =
       ap (λ (y : Tracked F E). lead_monomial y.value) k.2 ∙ (e ∙ sym (ap (λ (y : Tracked F E). lead_monomial y.value) x)) in
       ⊎_elim (λ q. sym k.2 ∙ (ap (λ i. get_or before i t) q ∙ x))
-      (λ n. absurd (⊎_elim (λ q. same_lead h k.0 l.0 t q l.1 f) (λ o. same_lead h l.0 k.0 t (other k.0 l.0 n o) k.1 (sym f)) (le_or_not (suc k.0) l.0)))
+      (λ n. absurd (⊎_elim (λ q. same_lead h k.0 l.0 t q l.1 f) (λ o. same_lead h l.0 k.0 t (omega (arith, n, o)) k.1 (sym f)) (le_or_not (suc k.0) l.0)))
       (numbers_or_not k.0 l.0)
-    where
-      other : (i j : ℕ) → i ≢ j → (suc i ≤ j → ⊥) → j < i
-      other i j n o = ⊎_elim (λ q. q) (λ r. ⊎_elim (λ q. absurd (n q)) (λ w. absurd (o (omega arith))) (numbers_or_not i j)) (le_or_not (suc j) i)
 
   -- how many elements have smaller degrees
   pub count_is : (n e : ℕ) (leads : List Exponents) → leads ≡ b.words.letters.leads → e ≡ d →

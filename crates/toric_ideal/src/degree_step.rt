@@ -56,8 +56,8 @@ fn oriented<O: Order>(o: &O, u: Option<Monomial>, v: Option<Monomial>) -> Option
     }
 }
 
-/// Joins the pair of two rules, if need be by a rule of its degree. Members with a common letter are joined by the rules
-/// of smaller degrees: without the letter they have one image and a smaller degree.
+/// Joins the pair of two rules, if need be by a rule of its degree. Members with a common letter are joined by the
+/// rules of smaller degrees: without the letter they have one image and a smaller degree.
 pub(crate) fn join_pair(
     alloc: Global,
     alphabet: &Alphabet,

@@ -74,7 +74,8 @@ fn table_letter(
     }
 }
 
-/// The new letters of the rules of the table whose right sides are old ones. The right sides before the index `from` are none.
+/// The new letters of the rules of the table whose right sides are old ones. The right sides before the index `from`
+/// are none.
 fn table_letters(
     alloc: Global,
     alphabet: &Alphabet,
@@ -118,7 +119,8 @@ fn list_letter(
     }
 }
 
-/// The new letters of the rules of the list whose least words are old ones. The right sides before the index `from` are none.
+/// The new letters of the rules of the list whose least words are old ones. The least words before the index `from`
+/// are none.
 fn list_letters(
     alloc: Global,
     alphabet: &Alphabet,
