@@ -4,9 +4,8 @@ ghost use Rattle.word_rules.specs.Index.{lefts_of, rules_of, IsIndexed};
 ghost use Rattle.word_rules.specs.Rules.{AreSharing};
 ghost use Rattle.word_rules.specs.Sharing.{AddsAll};
 
-use crate::Marks;
-use crate::RuleTable;
 use crate::table::Table;
+use crate::{Marks, RuleTable};
 use monomial_order::Memory;
 
 impl Table {
