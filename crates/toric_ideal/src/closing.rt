@@ -10,7 +10,7 @@ use crate::alphabet::Alphabet;
 use crate::completion::Completion;
 use monomial_order::{Memory, Monomial};
 use std::alloc::Global;
-use word_rules::RuleTable;
+use word_rules::{Marks, RuleTable};
 
 /// Whether the pair of two rules is joined, if its degree is above c.
 fn is_joined(
@@ -45,6 +45,7 @@ fn are_joined(
     zeros: &[Monomial],
     c: u32,
     table: &RuleTable,
+    marks: &mut Marks,
     j: usize,
 ) -> Result<bool, Memory>
     requires alphabet { IsAlphabet alphabet.now }
@@ -53,8 +54,8 @@ fn are_joined(
     ensures yes { IfOk result (λ r. r ≡ true → JoinsPairsOf (word_order_of (letters_of alphabet.now)) c table.now j) }
     ensures no { IfOk result (λ r. r ≡ false → ShowsMissedWord (letters_of alphabet.now) zeros.now table.now) }
 {
-    let sharing = table.sharing(alloc, j)?;
-    'sharing: for i in &sharing {
+    table.list_sharing(j, marks)?;
+    'sharing: for i in marks.indexes() {
         if !is_joined(alloc, alphabet, zeros, c, table, *i, j)? {
             return Ok(false);
         }
@@ -76,8 +77,9 @@ pub(crate) fn all_joined(
         → JoinsPairsOf (word_order_of (letters_of alphabet.now)) c table.now j) }
     ensures no { IfOk result (λ r. r ≡ false → ShowsMissedWord (letters_of alphabet.now) zeros.now table.now) }
 {
+    let mut marks = Marks::new(alloc);
     'rules: for j in 0..table.len() {
-        if !are_joined(alloc, alphabet, zeros, c, table, j)? {
+        if !are_joined(alloc, alphabet, zeros, c, table, &mut marks, j)? {
             return Ok(false);
         }
     }

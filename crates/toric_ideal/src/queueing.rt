@@ -10,7 +10,7 @@ use crate::index_pair::IndexPair;
 use degree_queue::{DEGREE_MAX, DegreeQueue};
 use monomial_order::Memory;
 use std::alloc::Global;
-use word_rules::RuleTable;
+use word_rules::{Marks, RuleTable};
 
 /// Puts the pair of two rules into the queue, if its degree is above c and at most the greatest one, and the rules do
 /// not both go to zero.
@@ -49,10 +49,10 @@ fn queue_pair(
 
 /// Puts the pairs of rule j with those before it into the queue.
 fn queue_pairs_of(
-    alloc: Global,
     alphabet: &Alphabet,
     c: u32,
     table: &RuleTable,
+    marks: &mut Marks,
     pairs: &mut DegreeQueue<IndexPair>,
     j: usize,
 ) -> Result<(), Memory>
@@ -62,8 +62,8 @@ fn queue_pairs_of(
     requires queued { IsQueued (word_order_of (letters_of alphabet.now)) c j table.now pairs.old }
     ensures { OnOk result (IsQueued (word_order_of (letters_of alphabet.now)) c (j + 1) table.now pairs.new) }
 {
-    let sharing = table.sharing(alloc, j)?;
-    'sharing: for i in &sharing {
+    table.list_sharing(j, marks)?;
+    'sharing: for i in marks.indexes() {
         queue_pair(alphabet, c, table, pairs, *i, j)?;
     }
     Ok(())
@@ -84,8 +84,9 @@ pub(crate) fn queue_pairs(
     ensures { OnOk result (IsQueued (word_order_of (letters_of alphabet.now)) c (length table.now) table.now
         pairs.new) }
 {
+    let mut marks = Marks::new(alloc);
     'rules: for j in count..table.len() {
-        queue_pairs_of(alloc, alphabet, c, table, pairs, j)?;
+        queue_pairs_of(alphabet, c, table, &mut marks, pairs, j)?;
     }
     Ok(())
 }

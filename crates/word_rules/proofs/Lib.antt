@@ -5,6 +5,7 @@ pub mod Factors
 pub mod Indexes
 pub mod Lefts
 pub mod Steps
+pub mod Marking
 pub mod Shared
 pub mod Trimming
 pub mod PairForms

@@ -21,5 +21,6 @@ mod sharing;
 mod table;
 mod word_rule;
 
+pub use marks::Marks;
 pub use rule_side::RuleSide;
 pub use rule_table::RuleTable;

@@ -1,39 +1,75 @@
 //! Lists of different indexes.
-ghost use Rattle.std.specs.Prelude.{◌≡◌, ◌<◌, ℕ, length, Contains, ◌⊎◌, OnOk, IfOk};
-ghost use Rattle.word_rules.specs.Sharing.{AreMarks, IsMarked};
+ghost use Rattle.std.specs.Prelude.{◌≡◌, ◌<◌, ℕ, [], false, length, slice_index_or, OnOk};
+ghost use Rattle.word_rules.specs.Sharing.{IsMarked};
 
 use monomial_order::Memory;
 use std::alloc::Global;
+use std::marker::Model;
 
-/// Indexes below a number, and which ones are listed.
+/// Different indexes of rules, which one call after the other lists.
 #[derive(Drop)]
-pub(crate) struct Marks {
-    pub(crate) seen: Vec<bool>,
-    pub(crate) list: Vec<usize>,
+pub struct Marks {
+    seen: Vec<bool>,
+    list: Vec<usize>,
+}
+
+impl Model for Marks {
+    ghost use Rattle.std.specs.Prelude.{List, ℕ};
+    ghost use Rattle.word_rules.specs.Sharing.{AreMarks};
+
+    ghost Value = { List ℕ };
+
+    ghost view = { λ m. m.list.items };
+
+    ghost invariant = { λ m. AreMarks m.seen.items m.list.items };
+}
+
+/// Makes places up to the index, without marks.
+fn reach(seen: &mut Vec<bool>, i: usize) -> Result<(), Memory>
+    ensures same { (k : ℕ) → slice_index_or seen.new.items k false ≡ slice_index_or seen.old.items k false }
+    ensures ok { OnOk result (i < length seen.new.items) }
+{
+    'reach: while seen.len() <= i {
+        seen.push(false)?;
+    }
+    Ok(())
 }
 
 impl Marks {
-    /// No index, of those below n.
-    pub(crate) fn new(alloc: Global, n: usize) -> Result<Marks, Memory>
-        ensures marks { IfOk result AreMarks }
-        ensures none { IfOk result (λ m. (i : ℕ) → ¬ Contains m.list.items i) }
-        ensures long { IfOk result (λ m. length m.seen.items ≡ n) }
+    /// No index. It takes no memory.
+    pub fn new(alloc: Global) -> Marks
+        ensures { result ≡ [] }
     {
-        Ok(Marks {
-            seen: vec![in alloc; false; n]?,
+        Marks {
+            seen: Vec::new(alloc),
             list: Vec::new(alloc),
-        })
+        }
+    }
+
+    /// The indexes that are listed.
+    pub fn indexes(&self) -> &[usize]
+        ensures { result.now ≡ self.now }
+    {
+        self.list.as_slice()
+    }
+
+    /// Takes out the indexes that are listed, and passes over no other.
+    pub(crate) fn clear(&mut self)
+        ensures { self.new ≡ [] }
+    {
+        'listed: while let Some(i) = self.list.pop() {
+            self.seen[i] = false;
+        }
     }
 
     /// Puts the index at the end, unless it is listed.
     pub(crate) fn add(&mut self, i: usize) -> Result<(), Memory>
-        requires marks { AreMarks self.old }
-        requires inside { i < length self.old.seen.items }
         ensures { OnOk result (IsMarked i self.old self.new) }
     {
+        reach(&mut self.seen, i)?;
         if !self.seen[i] {
-            self.seen[i] = true;
             self.list.push(i)?;
+            self.seen[i] = true;
         }
         Ok(())
     }

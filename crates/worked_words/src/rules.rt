@@ -8,7 +8,7 @@ ghost use Rattle.word_rules.specs.Rules.{IsSmallWord};
 use monomial_order::{Monomial, WordOrder};
 use std::alloc::Global;
 use std::test::Fail;
-use word_rules::RuleTable;
+use word_rules::{Marks, RuleTable};
 use worked_rows::monomials::{is_word, word};
 use worked_rows::rows::{ensure, number, part};
 
@@ -104,9 +104,16 @@ fn pair_is(alloc: Global, n: usize, row: &str) -> Result<bool, Fail> {
 }
 
 /// Whether these are the indexes of the earlier rules that share a letter with a rule, in some order.
-fn shares(alloc: Global, table: &RuleTable, j: usize, row: &str) -> Result<bool, Fail> {
+fn shares(
+    alloc: Global,
+    table: &RuleTable,
+    marks: &mut Marks,
+    j: usize,
+    row: &str,
+) -> Result<bool, Fail> {
     ensure(j < table.len(), "no such rule")?;
-    let mut indexes = table.sharing(alloc, j)?;
+    table.list_sharing(j, marks)?;
+    let mut indexes = marks.indexes().to_vec(alloc)?;
     indexes.sort()?;
     let mut out = String::new(alloc);
     for i in &indexes {
@@ -162,12 +169,13 @@ fn pairs_have_different_normal_forms(rt: HostRuntime) -> Result<(), Fail> {
 fn rules_share_letters(rt: HostRuntime) -> Result<(), Fail> {
     let alloc = rt.alloc();
     let mut table = table(alloc)?;
+    let mut marks = Marks::new(alloc);
     for (j, row) in ["", "0", "0 1", "1"].iter().enumerate() {
-        ensure(shares(alloc, &table, j, row)?, row)?;
+        ensure(shares(alloc, &table, &mut marks, j, row)?, row)?;
     }
     let last = exact(alloc, &[0, 1, 1])?;
     table.push(alloc, last.copy(alloc)?, None)?;
-    ensure(shares(alloc, &table, 4, "1 2 3")?, "s1*s2")?;
+    ensure(shares(alloc, &table, &mut marks, 4, "1 2 3")?, "s1*s2")?;
     ensure(
         table.right(4).is_none() && *table.left(4) == last,
         "a rule to zero",

@@ -13,16 +13,16 @@ below R j list items k e l s = s.below (get_or items k 0) (subst (λ xs. Contain
 
 pub is_joined-requires-clause-first : goal.is_joined-requires-clause-first
 is_joined-requires-clause-first c =
-    let b = below c.args.table.now c.args.j c.in_ok-sharing.sharing.items c.deref-i-items.result.now c.sharing.i-index c.deref-i-items.ensures.value c.sharing-test.true c.in_ok-sharing.ensures in
+    let b = below c.args.table.now c.args.j c.list_sharing.new.marks c.indexes-i-items.result.now c.sharing.i-index c.indexes-i-items.ensures c.sharing-test.true c.in_ok-list_sharing.ensures in
     let i = c.requires.inside in omega arith
 
 pub sharing-preserved : goal.sharing-preserved
 sharing-preserved c =
-    let items = c.deref-i-items.result.now in
+    let items = c.indexes-i-items.result.now in
     these_next (word_order_of (letters_of c.args.alphabet.now)) c.args.c c.args.table.now c.args.j items c.sharing.i-index (get_or items c.sharing.i-index 0) c.sharing-test.true refl
     (c.in_ok-is_joined.ensures.yes c.if-not-branch.false) c.sharing.invariant
 
 pub returns-clause-yes : goal.returns-clause-yes
 returns-clause-yes c _ =
-    these_all (word_order_of (letters_of c.args.alphabet.now)) c.args.c c.args.table.now c.args.j c.in_ok-sharing.sharing.items c.deref-i-items.result.now c.sharing.i-index c.deref-i-items.ensures.value c.in_ok-sharing.ensures
+    these_all (word_order_of (letters_of c.args.alphabet.now)) c.args.c c.args.table.now c.args.j c.list_sharing.new.marks c.indexes-i-items.result.now c.sharing.i-index c.indexes-i-items.ensures c.in_ok-list_sharing.ensures
     (omega (arith, c.sharing-test.false)) c.sharing.invariant

@@ -17,19 +17,19 @@ below R j list items k e l s = s.below (get_or items k 0) (subst (λ xs. Contain
 
 pub queue_pair-requires-clause-first : goal.queue_pair-requires-clause-first
 queue_pair-requires-clause-first c =
-    let b = below c.args.table.now c.args.j c.in_ok-sharing.sharing.items c.deref-i-items.result.now c.sharing.i-index c.deref-i-items.ensures.value c.sharing-test.true c.in_ok-sharing.ensures in
+    let b = below c.args.table.now c.args.j c.list_sharing.new.marks c.indexes-i-items.result.now c.sharing.i-index c.indexes-i-items.ensures c.sharing-test.true c.in_ok-list_sharing.ensures in
     let i = c.requires.inside in omega arith
 
 pub sharing-preserved : goal.sharing-preserved
 sharing-preserved c =
-    let items = c.deref-i-items.result.now in
+    let items = c.indexes-i-items.result.now in
     queueing_next (word_order_of (letters_of c.args.alphabet.now)) c.args.c c.args.table.now c.args.j c.sharing.i-index (get_or items c.sharing.i-index 0) items c.sharing.pairs c.queue_pair.new.pairs c.sharing-test.true
     (sym (get_or_default items c.sharing.i-index (get_or items c.sharing.i-index 0) 0 c.sharing-test.true))
-    (below c.args.table.now c.args.j c.in_ok-sharing.sharing.items items c.sharing.i-index c.deref-i-items.ensures.value c.sharing-test.true c.in_ok-sharing.ensures)
+    (below c.args.table.now c.args.j c.list_sharing.new.marks items c.sharing.i-index c.indexes-i-items.ensures c.sharing-test.true c.in_ok-list_sharing.ensures)
     c.in_ok-queue_pair.ensures c.sharing.invariant
 
 pub returns : goal.returns
 returns c =
-    let items = c.deref-i-items.result.now in
+    let items = c.indexes-i-items.result.now in
     queueing_end (word_order_of (letters_of c.args.alphabet.now)) c.args.c c.args.table.now c.args.j c.sharing.i-index items c.sharing.pairs c.requires.inside
-    (subst (AreSharing c.args.table.now c.args.j) (sym c.deref-i-items.ensures.value) c.in_ok-sharing.ensures) (omega (arith, c.sharing-test.false)) c.sharing.invariant
+    (subst (AreSharing c.args.table.now c.args.j) (sym c.indexes-i-items.ensures) c.in_ok-list_sharing.ensures) (omega (arith, c.sharing-test.false)) c.sharing.invariant

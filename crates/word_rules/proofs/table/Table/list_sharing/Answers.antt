@@ -7,12 +7,13 @@ use Rattle.word_rules.specs.declared.word_rule.WordRule.{WordRule}
 use Rattle.word_rules.specs.Sharing.{AddsAll}
 use Rattle.word_rules.proofs.LetterLists.{AreLettersOf, letters_are, letters_in}
 use Rattle.word_rules.proofs.Listing.{at_map, at_read}
-use Rattle.word_rules.proofs.Shared.{all_shared, more_shared, none_shared}
-use Rattle.word_rules.proofs.table.Table.sharing.Goals as goal
+use Rattle.word_rules.proofs.Shared.{AreSharedSoFar, all_shared, more_shared, none_shared}
+use Rattle.word_rules.proofs.table.Table.list_sharing.Goals as goal
 
 pub letters-init : goal.letters-init
 letters-init c =
-    none_shared (lefts_of c.args.self.now.rules.items) c.args.j (letters_in c.factors-factor-items.result.now) c.in_ok-marks.marks c.in_ok-marks.ensures.marks c.in_ok-marks.ensures.long c.in_ok-marks.ensures.none
+    subst (AreSharedSoFar (lefts_of c.args.self.now.rules.items) c.args.j (letters_in c.factors-factor-items.result.now) 0) (sym c.clear.ensures)
+    (none_shared (lefts_of c.args.self.now.rules.items) c.args.j (letters_in c.factors-factor-items.result.now))
 
 -- the letters of a rule that is read
 own : (rules : List WordRule) (j : ℕ) (r : WordRule) (fs : List Factor) → j < length rules → r ≡ get_or rules j r → fs ≡ factors_of r.left →
@@ -30,7 +31,7 @@ letters-preserved c =
     more_shared (lefts_of t.rules.items) c.args.j (letters_in fs) k c.letters.marks c.mark_letter.new.marks
     (subst (λ n. c.args.j < n) (sym (length-map t.rules.items (λ r. r.left))) c.requires.inside) (own c.args.self.now.rules.items c.args.j c.index.result.now fs c.requires.inside c.index.ensures c.factors-factor-items.ensures.same)
     (subst (λ n. k < n) (sym (length-map fs (λ f. f.letter))) l) c.letters.invariant
-    (subst (λ a. AddsAll (lefts_of t.rules.items) a c.letters.marks c.mark_letter.new.marks) (sym (at_map (λ f. f.letter) 0 fs k _ l)) c.in_ok-mark_letter.ensures)
+    (subst (λ a. AddsAll (lefts_of t.rules.items) a c.args.j c.letters.marks c.mark_letter.new.marks) (sym (at_map (λ f. f.letter) 0 fs k _ l)) c.in_ok-mark_letter.ensures)
 
 pub returns : goal.returns
 returns c =
