@@ -29,11 +29,11 @@ module _ (L : Letters) (H : AreLetters L) where
   divided letter u hu e =
       let x = cofactor (variable letter) u (variable_trimmed letter) hu.trimmed (variable_divides letter u (omega arith)) in
       let less : x.0 ≢ u = λ q.
-          let p = exponent-product (variable letter) x.0 letter in
-          let one = variable_at letter in
-          let whole : exponent (product (variable letter) x.0) letter ≡ exponent u letter = ap (λ w. exponent w letter) x.2 in
-          let same : exponent x.0 letter ≡ exponent u letter = ap (λ w. exponent w letter) q in
-          absurd (omega arith) in
+      let p = exponent-product (variable letter) x.0 letter in
+      let one = variable_at letter in
+      let whole : exponent (product (variable letter) x.0) letter ≡ exponent u letter = ap (λ w. exponent w letter) x.2 in
+      let same : exponent x.0 letter ≡ exponent u letter = ap (λ w. exponent w letter) q in
+      absurd (omega arith) in
       let b = proper_divisor (word_order_of L) (word_laws L H) x.0 u hu x.1 (subst (Divides x.0) x.2 (Divides-product_right (variable letter) x.0)) less in
       (x.0, record { word = b.0; product = x.2; below = b.1 })
 
@@ -46,11 +46,11 @@ module _ (L : Letters) (H : AreLetters L) where
         let x = divided letter u hu in_u in
         let y = divided letter v hv in_v in
         let one : image_of L x.0 ≡ image_of L y.0 =
-            product_cancel (image_of L t) (image_of L x.0) (image_of L y.0) (image_x L H x.0).trimmed (image_x L H y.0).trimmed
-            (sym (image_times L H t x.0) ∙ (ap (image_of L) x.1.product ∙ (e ∙ (sym (ap (image_of L) y.1.product) ∙ image_times L H t y.0)))) in
+        product_cancel (image_of L t) (image_of L x.0) (image_of L y.0) (image_x L H x.0).trimmed (image_x L H y.0).trimmed
+        (sym (image_times L H t x.0) ∙ (ap (image_of L) x.1.product ∙ (e ∙ (sym (ap (image_of L) y.1.product) ∙ image_times L H t y.0)))) in
         let small : (word_order_of L).degree (image_of L x.0) ≤ c = let s = degree_image L H x.0 in let b = x.1.below in omega arith in
         let lower = generated_joinable (IsMultiple Z) L H R exact.rules (multiple_closed (length L.degrees) Z) c exact.generates (image_of L x.0) (Some x.0) (Some y.0) small
-            (x.1.word, refl) (y.1.word, sym one) in
+        (x.1.word, refl) (y.1.word, sym one) in
         subst (λ w. AreJoinable R (Some u) (Some w)) y.1.product
         (subst (λ w. AreJoinable R (Some w) (Some (product t y.0))) x.1.product (multiple_joinable R t (Some x.0) (Some y.0) (variable_trimmed letter) lower))
 
@@ -63,7 +63,7 @@ module _ (L : Letters) (H : AreLetters L) where
           let below = p.below in
           let within = g.within in
           let images = pair_images (IsMultiple Z) L H S g.step.rules (multiple_closed (length L.degrees) Z) (rule_at S i) (rule_at S j)
-              (contains_at S i no_rule (omega arith)) (contains_at S j no_rule (omega arith)) a b pair in
+          (contains_at S i no_rule (omega arith)) (contains_at S j no_rule (omega arith)) a b pair in
           let u = subst (HasImage (IsMultiple Z) L m) x.is_first images.0 in
           let v = subst (HasImage (IsMultiple Z) L m) x.is_second images.1 in
           let degree = p.degree in

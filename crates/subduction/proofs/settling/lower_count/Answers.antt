@@ -20,8 +20,8 @@ seek-preserved-then-degree-d g c = record {
       let t = c.seek-test.true in
       let w = c.seek.invariant.within in
       let here : f (get_or (lower ++ last) j m) < c.args.d =
-          subst (λ xs. f (get_or xs j m) < c.args.d) e
-          (subst (λ x. f x < c.args.d) c.index-leads-middle.is (let h = c.degree.ensures in let b = c.if-degree-d.true in omega arith)) in
+      subst (λ xs. f (get_or xs j m) < c.args.d) e
+      (subst (λ x. f x < c.args.d) c.index-leads-middle.is (let h = c.degree.ensures in let b = c.if-degree-d.true in omega arith)) in
       let n = ap length e in
       let k = in_lower f c.args.d lower last less same j m (omega arith) here in
       (omega arith, (c.seek.invariant.between lower last e less same).1);
@@ -35,8 +35,8 @@ seek-preserved g c = record {
       let j = c.seek.low + (c.seek.high - c.seek.low) / 2 in
       let m = c.index-leads-middle.result in
       let other : f (get_or (lower ++ last) j m) < c.args.d → ⊥ = λ less_here.
-          let back : f m < c.args.d = subst (λ x. f x < c.args.d) (sym c.index-leads-middle.is) (subst (λ xs. f (get_or xs j m) < c.args.d) (sym e) less_here) in
-          let h = c.degree.ensures in let b = c.if-degree-d.false in absurd (omega arith) in
+      let back : f m < c.args.d = subst (λ x. f x < c.args.d) (sym c.index-leads-middle.is) (subst (λ xs. f (get_or xs j m) < c.args.d) (sym e) less_here) in
+      let h = c.degree.ensures in let b = c.if-degree-d.false in absurd (omega arith) in
       ((c.seek.invariant.between lower last e less same).0, not_in_lower f c.args.d lower last less same j m other);
 }
 

@@ -16,9 +16,9 @@ returns-then-is_in_member c =
     let f : Factor = get_or fs k (record { letter = 0; exponent = 0 }) in
     let listed = contains_at fs k (record { letter = 0; exponent = 0 }) c.letters-test.true in
     let letter = letter_of c.args.word.now f (subst (λ gs. Contains gs f) c.factors-factor-items.ensures.same listed) in (
-  λ t. (f.letter, letter, c.is_in_member.ensures.0 c.if-is_in_member.true),
-  λ h. refl,
-)
+      λ t. (f.letter, letter, c.is_in_member.ensures.0 c.if-is_in_member.true),
+      λ h. refl,
+    )
 
 pub letters-preserved : goal.letters-preserved
 letters-preserved c =
