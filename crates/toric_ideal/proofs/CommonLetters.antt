@@ -1,6 +1,5 @@
 -- Pairs whose members have a common letter are joinable by the rules of smaller degrees.
-use Rattle.std.proofs.Common.{◌≡◌, ◌≢◌, ℕ, ◌+◌, ◌≤◌, ◌<◌, refl, sym, ◌∙◌, ap, subst, List, length, take, arith, Some, None}
-use Rattle.std.specs.Prelude.{Contains}
+use Rattle.std.proofs.Common.{◌≡◌, ◌≢◌, ℕ, ◌+◌, ◌≤◌, ◌<◌, refl, sym, ◌∙◌, ap, subst, List, length, take, arith, Some}
 use Rattle.monomial_order.specs.Monomial.{Exponents, exponent, product, variable, Divides, IsMultiple, least_common_multiple as lcm}
 use Rattle.monomial_order.specs.laws.Monomial.{exponent-product, variable_at, variable_divides, variable_trimmed}
 use Rattle.monomial_order.specs.laws.Cofactors.{cofactor, product_cancel, Divides-product_right}

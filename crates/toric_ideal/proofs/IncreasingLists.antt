@@ -11,7 +11,7 @@ use Rattle.monomial_order.specs.laws.Comparing.{degree_falls, le_or_not, increas
 use Rattle.monomial_order.specs.laws.Lists.{contains_at, contains_cases, contains_here, contains_left, contains_none, contains_right, contains_there}
 use Rattle.toric_ideal.specs.Increasing.{IsInsertionIndex, IsInserted, IsSorted}
 use Rattle.std.proofs.lemmas.List.Elements.{Contains-append_cases}
-use Rattle.toric_ideal.proofs.Members.{contains_drop, contains_parts, contains_take, drop_next, drop_none, take_at, take_index, take_more, take_next, take_whole}
+use Rattle.toric_ideal.proofs.Members.{contains_drop, contains_parts, contains_take, drop_none, take_at, take_index, take_more, take_next, take_whole}
 
 pub lt_less : (o : Ordering) → is_lt o ≡ true → o ≡ Less
 lt_less Less h = refl

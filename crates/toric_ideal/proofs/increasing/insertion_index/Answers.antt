@@ -1,4 +1,4 @@
-use Rattle.std.proofs.Common.{◌≡◌, ◌≢◌, suc, ◌+◌, ◌-◌, ◌/◌, true, false, [], ◌∙◌, sym, subst, get_or, arith}
+use Rattle.std.proofs.Common.{◌≡◌, ◌≢◌, suc, ◌+◌, ◌-◌, ◌/◌, [], ◌∙◌, sym, subst, get_or, arith}
 use Rattle.std.specs.declared.cmp.Ordering.TheVariants.{Less}
 use Rattle.std.proofs.lemmas.List.{get_or_default}
 use Rattle.toric_ideal.proofs.IncreasingLists.{IsSearched, lt_less, not_lt, search_up, search_down}

@@ -1,4 +1,4 @@
-use Rattle.std.proofs.Common.{◌≡◌, ◌<◌, ◌≤◌, ◌+◌, ◌-◌, ◌/◌, ap, arith, get_or, length}
+use Rattle.std.proofs.Common.{◌<◌, ◌+◌, ◌-◌, ◌/◌, ap, arith, get_or, length}
 use Rattle.monomial_order.specs.laws.Lists.{contains_at}
 use Rattle.word_rewriting.specs.Rewriting.{RewriteRule}
 use Rattle.toric_ideal.specs.SortedRules.{words_of}
