@@ -19,7 +19,7 @@ use Rattle.witness.specs.declared.tracked.Tracked.{Tracked}
 use Rattle.witness.specs.Tracking.{by_order, letter_poly, values_of, IsCanonicalPair, IsGradedPair, IsShort, Tracks, UsesLower}
 use Rattle.witness.specs.laws.Letters.{by_laws, by_places, element_letter}
 use Rattle.subduction.specs.Basis.{BasisState, AreShortAt, IsBasisElement, IsBasisOf, IsNewElement}
-use Rattle.subduction.specs.NewElements.{IsLoweredTo, IsMonicMultiple, IsNextElement, IsWitnessPut}
+use Rattle.subduction.specs.NewElements.{IsLoweredTo, IsMonicMultiple, IsNextElement, IsPassed, IsWitnessPut}
 
 variables_differ : (i j : ℕ) → i ≢ j → variable i ≢ variable j
 variables_differ i j n e = let a = variable_length i in let b = variable_length j in let q = ap length e in n (omega arith)
@@ -113,14 +113,16 @@ module _ {F E : Type 0} (P : Presented E) (H : IsPresentation P) (b : BasisState
       (λ n. let one = variable_at (length fs + j) in let l = h.tracked.lower (variable (length fs + j)) n j (λ z. let y = z in absurd (omega arith)) in omega arith)
 
   module _ (t rest : Tracked F E) (i : ℕ) (R : IsLoweredTo P b t i rest) where
-    -- an element of smaller degree
-    pub lowered_past : degree_of O (get_or S i []) ≢ d → IsLoweredTo P b t (i + 1) rest
+    -- an element of smaller degree, or one whose letter is not there
+    pub lowered_past : IsPassed P b rest i → IsLoweredTo P b t (i + 1) rest
     lowered_past n = record {
       value = R.value;
       canonical = R.canonical;
       tracks = R.tracks;
       graded = R.graded;
-      gone = λ j l k e. ⊎_elim (λ a. R.gone j a k e) (λ a. absurd (n (subst (λ x. degree_of O (get_or S x []) ≡ d) (let y = a in omega arith) e))) (less_or_here j i l);
+      gone = λ j l k e. ⊎_elim (λ a. R.gone j a k e)
+          (λ a. ⊎_elim (λ o. absurd (o (subst (λ x. degree_of O (get_or S x []) ≡ d) a e)))
+          (λ z. subst (λ x. coefficient K rest.by (variable (length fs + x)) ≡ K.zero) (sym a) z) n) (less_or_here j i l);
       short = R.short;
     }
       where
