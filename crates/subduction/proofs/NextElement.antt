@@ -1,7 +1,7 @@
 -- The next element of a basis.
-use Rattle.std.proofs.Common.{◌≡◌, ◌≢◌, ◌⊎◌, ℕ, zero, suc, ◌+◌, ◌-◌, ◌<◌, ◌≤◌, get_or, refl, sym, ◌∙◌, ap, subst, List, [], ◌∷◌, ◌++◌, length, cond, ⊎_elim, inl, inr, arith}
+use Rattle.std.proofs.Common.{◌≡◌, ◌≢◌, ℕ, suc, ◌+◌, ◌-◌, ◌<◌, ◌≤◌, get_or, refl, sym, ◌∙◌, ap, subst, List, [], ◌∷◌, ◌++◌, length, cond, ⊎_elim, inr, arith}
 use Rattle.std.specs.Prelude.{map, Contains}
-use Rattle.std.proofs.lemmas.List.{get_or-map, length-map}
+use Rattle.std.proofs.lemmas.List.{get_or-append-add, get_or-map, get_or_append_left, length-append, length-map}
 use Rattle.word_field.specs.Field.{FieldOps, IsField}
 use Rattle.word_field.specs.laws.Field.{negate-times, times-zero, one-times, zero-plus-zero}
 use Rattle.monomial_order.specs.Monomial.{Exponents, Divides, exponent, variable, IsMonomial}
@@ -18,8 +18,8 @@ use Rattle.polynomials.specs.laws.Decreasing.{coefficient_first, IsDecreasing_Is
 use Rattle.witness.specs.declared.tracked.Tracked.{Tracked}
 use Rattle.witness.specs.Tracking.{by_order, letter_poly, values_of, IsCanonicalPair, IsGradedPair, IsShort, Tracks, UsesLower}
 use Rattle.witness.specs.laws.Letters.{by_laws, by_places, element_letter}
-use Rattle.subduction.specs.Basis.{BasisState, AreShortAt, IsBasisElement, IsBasisOf, IsNewElement}
-use Rattle.subduction.specs.NewElements.{IsLoweredTo, IsMonicMultiple, IsNextElement, IsPassed, IsWitnessPut}
+use Rattle.subduction.specs.Basis.{BasisState, AreInParts, AreShortAt, IsBasisElement, IsBasisOf, IsNewElement}
+use Rattle.subduction.specs.NewElements.{IsLoweredTo, IsMonicMultiple, IsNextElement, IsWitnessPut}
 
 variables_differ : (i j : ℕ) → i ≢ j → variable i ≢ variable j
 variables_differ i j n e = let a = variable_length i in let b = variable_length j in let q = ap length e in n (omega arith)
@@ -112,22 +112,45 @@ module _ {F E : Type 0} (P : Presented E) (H : IsPresentation P) (b : BasisState
       no_coefficient K F' s.by (variable (length fs + j))
       (λ n. let one = variable_at (length fs + j) in let l = h.tracked.lower (variable (length fs + j)) n j (λ z. let y = z in absurd (omega arith)) in omega arith)
 
+  module _ (lower last : List (Tracked F E)) (parts : AreInParts P d b.elements lower last) where
+    -- t as it is, if the elements so far have smaller degrees
+    pub lowered_from : (t : Tracked F E) → IsNewElement P b t → (count : ℕ) → count ≡ length lower → IsLoweredTo P b t count t
+    lowered_from t N count e = record {
+      value = λ m. refl;
+      canonical = N.canonical;
+      tracks = N.tracks;
+      graded = N.graded;
+      gone = λ j l k q.
+          let n = length-map b.elements (λ (u : Tracked F E). u.value) in
+          let here : get_or b.elements j t ≡ get_or lower j t = ap (λ xs. get_or xs j t) parts.whole ∙ get_or_append_left lower last t j (omega arith) in
+          let f = ap (degree_of O) (get_or-map (λ (u : Tracked F E). u.value) b.elements j t [] (omega arith) ∙ ap (λ (u : Tracked F E). u.value) here) in
+          let less = parts.lower_less j t (omega arith) in
+          absurd (omega arith);
+      short = λ h _. h;
+    }
+
+    -- from there on elements have the degree of the words
+    pub last_degree : (count : ℕ) → count ≡ length lower → (i : ℕ) (s : Tracked F E) → count ≤ i → i < length b.elements → s ≡ get_or b.elements i s → degree_of O s.value ≡ d
+    last_degree count e i s c l at =
+        let n = length-append lower last in
+        let w = ap length parts.whole in
+        let k : ℕ = i - length lower in
+        let z : length lower + k ≡ i = omega arith in
+        let here : s ≡ get_or last k s = at ∙ (ap (λ xs. get_or xs i s) parts.whole ∙ (ap (λ j. get_or (lower ++ last) j s) (sym z) ∙ get_or-append-add lower last k s)) in
+        ap (λ (u : Tracked F E). degree_of O u.value) here ∙ parts.last_equal k s (omega arith)
+
   module _ (t rest : Tracked F E) (i : ℕ) (R : IsLoweredTo P b t i rest) where
-    -- an element of smaller degree, or one whose letter is not there
-    pub lowered_past : IsPassed P b rest i → IsLoweredTo P b t (i + 1) rest
-    lowered_past n = record {
+    -- an element whose letter is not there
+    pub lowered_past : coefficient K rest.by (variable (length fs + i)) ≡ K.zero → IsLoweredTo P b t (i + 1) rest
+    lowered_past z = record {
       value = R.value;
       canonical = R.canonical;
       tracks = R.tracks;
       graded = R.graded;
-      gone = λ j l k e. ⊎_elim (λ a. R.gone j a k e)
-          (λ a. ⊎_elim (λ o. absurd (o (subst (λ x. degree_of O (get_or S x []) ≡ d) a e)))
-          (λ z. subst (λ x. coefficient K rest.by (variable (length fs + x)) ≡ K.zero) (sym a) z) n) (less_or_here j i l);
+      gone = λ j l k e. ⊎_elim (λ a. subst (λ x. coefficient K rest.by (variable (length fs + x)) ≡ K.zero) (sym a) z)
+          (λ n. R.gone j (omega arith) k e) (numbers_or_not j i);
       short = R.short;
     }
-      where
-        less_or_here : (j i : ℕ) → j < i + 1 → (j < i) ⊎ (j ≡ i)
-        less_or_here j i l = ⊎_elim (λ e. inr e) (λ n. inl (omega arith)) (numbers_or_not j i)
 
     module _ (s letter r : Tracked F E) (l : i < length b.elements) (e : s ≡ get_or b.elements i s) (last : degree_of O s.value ≡ d) (by : letter.by ≡ letter_poly K (length fs + i)) (A : IsWitnessPut P W rest s letter r) where
       lead_is : lead_monomial letter.by ≡ variable (length fs + i)

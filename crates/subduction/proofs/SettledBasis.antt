@@ -1,5 +1,5 @@
 -- The new elements of the last degree in a basis.
-use Rattle.std.proofs.Common.{◌≡◌, ◌≢◌, ℕ, zero, suc, ◌+◌, ◌-◌, ◌<◌, ◌≤◌, get_or, drop, take, refl, sym, ◌∙◌, ap, subst, List, [], ◌∷◌, ◌++◌, length, append_assoc, length-append, ⊎_elim, ◌⊎◌, arith}
+use Rattle.std.proofs.Common.{◌≡◌, ◌≢◌, ℕ, suc, ◌+◌, ◌-◌, ◌<◌, ◌≤◌, get_or, drop, take, refl, sym, ◌∙◌, ap, subst, List, [], ◌∷◌, ◌++◌, length, append_assoc, length-append, ⊎_elim, arith}
 use Rattle.std.specs.Prelude.{Contains, map, All, AllPairs}
 use Rattle.std.proofs.lemmas.List.{drop-map, get_or-map, take-append-drop, get_or_default, get_or_append_left, get_or-append-add, length-map, map-append}
 use Rattle.std.proofs.lemmas.List.Elements.{All-contains, All-drop}

@@ -1,5 +1,5 @@
 -- New elements of a basis.
-use Rattle.std.specs.Prelude.{◌≡◌, ◌≢◌, ◌⊎◌, ℕ, ◌+◌, ◌<◌, List, [], length, get_or}
+use Rattle.std.specs.Prelude.{◌≡◌, ◌≢◌, ℕ, ◌+◌, ◌<◌, List, [], length, get_or}
 use Rattle.monomial_order.specs.Monomial.{Exponents, variable}
 use Rattle.monomial_order.specs.MonomialOrder.{MonomialOrder}
 use Rattle.polynomials.specs.Polynomial.{Polynomial, coefficient, degree_of, first_coefficient, lead_monomial, Same}
@@ -32,11 +32,6 @@ module _ {F E : Type 0} (P : Presented E) where
     pub canonical : (W : MonomialOrder) → IsCanonicalPair P.field P.order W t → IsCanonicalPair P.field P.order W r
     pub tracks : (S : List (Polynomial E)) → Tracks P S t → Tracks P S r
     pub graded : (W : MonomialOrder) (d : ℕ) → IsGradedPair P.field P.order W d t → IsGradedPair P.field P.order W d r
-
-  -- the i-th element is not of the last degree, or the witness of t has no term that is its letter
-  abbrev pub IsPassed : BasisState F E → Tracked F E → ℕ → Type 0
-  IsPassed b t i = (degree_of P.order (get_or (values_of b.elements) i []) ≢ b.words.degree) ⊎
-      (coefficient P.field t.by (variable (length P.generators + i)) ≡ P.field.zero)
 
   -- r is t, where the witness has no letter of the last degree among the first k
   pub record IsLoweredTo (b : BasisState F E) (t : Tracked F E) (k : ℕ) (r : Tracked F E) : Type 0 where

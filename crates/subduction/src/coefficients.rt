@@ -1,9 +1,10 @@
 //! Coefficients.
-ghost use Rattle.std.specs.Prelude.{◌≡◌};
+ghost use Rattle.std.specs.Prelude.{◌≡◌, ◌↔◌, ◌+◌, ◌^◌, ◌<◌, IfOk, IsTrue};
+ghost use Rattle.monomial_order.specs.Monomial.{variable};
 ghost use Rattle.monomial_order.specs.MonomialOrder.{IsMonomialOrder, MonomialOrder};
 ghost use Rattle.polynomials.specs.Polynomial.{coefficient, lead_monomial, IsCanonical};
 
-use monomial_order::Monomial;
+use monomial_order::{Memory, Monomial};
 use poly_core::Poly;
 use std::alloc::Global;
 use word_field::Field;
@@ -38,4 +39,19 @@ pub(crate) fn coefficient_at_lead<F: Field>(
             coefficient_at(f, a, &one)
         }
     }
+}
+
+/// Whether a has no term at the variable of the place.
+pub(crate) fn lacks_variable<F: Field>(
+    alloc: Global,
+    f: &F,
+    a: &Poly<F>,
+    place: usize,
+) -> Result<bool, Memory>
+    requires canonical { (o : MonomialOrder) × IsMonomialOrder o × IsCanonical (F.ops f.now) o a.now }
+    requires small { place + 1 < 2 ^ 64 }
+    ensures { IfOk result (λ r. IsTrue r ↔ (coefficient (F.ops f.now) a.now (variable place) ≡ (F.ops f.now).zero)) }
+{
+    let variable = Monomial::variable(alloc, place)?;
+    Ok(coefficient_at(f, a, &variable) == f.zero())
 }

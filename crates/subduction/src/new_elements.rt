@@ -1,17 +1,18 @@
 //! The next element of a basis.
-ghost use Rattle.std.specs.Prelude.{◌≡◌, ◌≢◌, ◌≤◌, ◌∷◌, ◌++◌, ◌<◌, [], ℕ, length, get_or, true, false, IfOk, OnOk, OnErr};
+ghost use Rattle.std.specs.Prelude.{◌≡◌, ◌≢◌, ◌≤◌, ◌∷◌, ◌++◌, [], ℕ, length, IfOk, OnOk, OnErr};
 ghost use Rattle.monomial_order.specs.Limits.{degree_max};
 ghost use Rattle.monomial_order.specs.MonomialOrder.{MonomialOrder};
 ghost use Rattle.poly_core.specs.Presentation.{presented, IsValid};
-ghost use Rattle.polynomials.specs.Polynomial.{degree_of, lead_monomial};
+ghost use Rattle.polynomials.specs.Polynomial.{lead_monomial};
 ghost use Rattle.toric_ideal.specs.Leads.{letters};
 ghost use Rattle.toric_ideal.specs.Listing.{IsNewLead};
-ghost use Rattle.witness.specs.Tracking.{by_order, letter_poly, values_of, IsCanonicalPair};
+ghost use Rattle.witness.specs.Tracking.{by_order, letter_poly, IsCanonicalPair};
 ghost use Rattle.subduction.specs.Basis.{IsBasisOf, IsNewElement};
-ghost use Rattle.subduction.specs.NewElements.{IsLoweredTo, IsMonicMultiple, IsNextElement, IsPassed, IsWitnessPut};
+ghost use Rattle.subduction.specs.NewElements.{IsLoweredTo, IsMonicMultiple, IsNextElement, IsWitnessPut};
 
 use crate::Basis;
-use crate::coefficients::{coefficient_at, coefficient_at_lead};
+use crate::coefficients::{coefficient_at_lead, lacks_variable};
+use crate::settling::lower_count;
 use monomial_order::{Memory, Monomial, Order, WordOrder};
 use poly_core::{Poly, Presentation};
 use std::alloc::Global;
@@ -46,34 +47,8 @@ fn with_witness<F: Field, O: Order>(
     Ok(replaced)
 }
 
-/// Whether the witness of t has no letter to replace at the i-th element.
-fn lacks_letter<F: Field, O: Order>(
-    alloc: Global,
-    p: &Presentation<F, O>,
-    b: &Basis<F, O>,
-    t: &Tracked<F>,
-    i: usize,
-) -> Result<bool, Memory>
-    requires presentation { IsValid F.ops O.order p.now }
-    requires basis { IsBasisOf (presented F.ops O.order p.now) b.now }
-    requires canonical { IsCanonicalPair (F.ops p.now.field) (O.order p.now.order) (by_order b.now.by_order) t.now }
-    requires inside { i < length b.now.elements }
-    ensures yes { IfOk result (λ r. r ≡ true → IsPassed (presented F.ops O.order p.now) b.now t.now i) }
-    ensures no { IfOk result (λ r. r ≡ false →
-        degree_of (O.order p.now.order) (get_or (values_of b.now.elements) i []) ≡ b.now.words.degree) }
-{
-    let s = &b.elements()[i];
-    let Some(first) = s.value.lead() else {
-        return Ok(true);
-    };
-    if p.order.degree(&first.at) != b.words().degree() {
-        return Ok(true);
-    }
-    let letter = Monomial::variable(alloc, p.generators.len() + i)?;
-    Ok(coefficient_at(&p.field, &t.by, &letter) == p.field.zero())
-}
-
-/// Replaces the letters of elements of the last degree in the witness of t.
+/// Replaces the letters of elements of the last degree in the witness of t. An element is copied only if its letter is
+/// there.
 fn lowered<F: Field, O: Order>(
     alloc: Global,
     p: &Presentation<F, O>,
@@ -86,9 +61,10 @@ fn lowered<F: Field, O: Order>(
     ensures { IfOk result (IsLoweredTo (presented F.ops O.order p.now) b.now t (length b.now.elements)) }
 {
     let elements = b.elements();
+    let count = lower_count(&p.order, b.words().leads(), b.words().degree());
     let mut rest = t;
-    'elements: for i in 0..elements.len() {
-        if lacks_letter(alloc, p, b, &rest, i)? {
+    'elements: for i in count..elements.len() {
+        if lacks_variable(alloc, &p.field, &rest.by, p.generators.len() + i)? {
             continue;
         }
         let s = &elements[i];

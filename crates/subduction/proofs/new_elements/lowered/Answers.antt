@@ -1,18 +1,42 @@
 use Rattle.std.proofs.Common.{◌≡◌, ◌+◌, ◌-◌, length, sym, ◌∙◌, ap, subst, arith}
 use Rattle.poly_core.specs.Presentation.{presented}
-use Rattle.polynomials.specs.Polynomial.{degree_of}
+use Rattle.monomial_order.specs.Monomial.{variable}
+use Rattle.polynomials.specs.Polynomial.{coefficient, degree_of}
 use Rattle.witness.specs.Tracking.{by_order, letter_poly, values_of, IsGradedPair}
 use Rattle.subduction.specs.NewElements.{IsWitnessPut}
-use Rattle.subduction.proofs.NextElement.{element_at, has_place, in_list, lowered_more, lowered_past, value_at, value_here}
+use Rattle.witness.specs.laws.Letters.{by_laws}
+use Rattle.subduction.proofs.SettledBasis.{comparable, count_is}
+use Rattle.subduction.proofs.NextElement.{last_degree, lowered_from, element_at, has_place, in_list, lowered_more, lowered_past, value_at}
 use Rattle.subduction.proofs.new_elements.lowered.Goals as goal
 
-pub lacks_letter-requires-clause-canonical : goal.lacks_letter-requires-clause-canonical
-lacks_letter-requires-clause-canonical g c = c.elements.invariant.canonical
+pub lower_count-count-requires : goal.lower_count-count-requires
+lower_count-count-requires g c =
+    let P = presented g.F.Field.ops g.O.Order.order c.args.p.now in
+    let B = c.requires.basis in
+    rw c.leads.ensures.same (rw c.words.ensures (comparable P c.requires.presentation.presentation c.args.b.now B B.parts.0 B.parts.1 B.parts.2))
+
+pub elements-init : goal.elements-init
+elements-init g c =
+    let P = presented g.F.Field.ops g.O.Order.order c.args.p.now in
+    let H = c.requires.presentation.presentation in
+    let B = c.requires.basis in
+    let p = B.parts in
+    let leads = rw c.words.ensures at c.leads.ensures.same in
+    let degree = rw c.words-2.ensures at c.degree.ensures in
+    lowered_from P H c.args.b.now B p.0 p.1 p.2 c.args.t c.requires.element c.lower_count-count.result
+    (count_is P H c.args.b.now B p.0 p.1 p.2 c.lower_count-count.result c.degree.result c.leads.result.now leads degree c.lower_count-count.ensures)
+
+pub lacks_variable-requires-clause-canonical : goal.lacks_variable-requires-clause-canonical
+lacks_variable-requires-clause-canonical g c = (by_order c.args.b.now.by_order, by_laws c.args.b.now.by_order, c.elements.invariant.canonical.by)
 
 pub elements-preserved-then-branch : goal.elements-preserved-then-branch
 elements-preserved-then-branch g c =
-    lowered_past (presented g.F.Field.ops g.O.Order.order c.args.p.now) c.requires.presentation.presentation c.args.b.now c.requires.basis
-    c.args.t c.elements.rest c.elements.i c.elements.invariant (c.in_ok-lacks_letter.ensures.yes c.if-branch.true)
+    let P = presented g.F.Field.ops g.O.Order.order c.args.p.now in
+    let K = g.F.Field.ops c.args.p.now.field in
+    let z = c.in_ok-lacks_variable.ensures.0 c.if-branch.true in
+    let long : c.len.result ≡ length P.generators = let a = c.len.ensures in let b = c.args.p.now.generators.ok in omega arith in
+    lowered_past P c.requires.presentation.presentation c.args.b.now c.requires.basis c.args.t c.elements.rest c.elements.i c.elements.invariant
+    (ap (λ n. coefficient K c.elements.rest.by (variable (n + c.elements.i))) (sym long) ∙ z)
 
 pub with_witness-requires-clause-t : goal.with_witness-requires-clause-t
 with_witness-requires-clause-t g c = rw c.by_order.ensures c.elements.invariant.canonical
@@ -52,7 +76,11 @@ elements-preserved g c =
     let l = rw c.elements-elements.ensures at c.elements-test.true in
     let e = rw c.elements-elements.ensures at c.index-elements-i.is in
     let h = element_at P H b B i s l e in
-    let last : degree_of P.order s.value ≡ b.words.degree = sym (ap (degree_of P.order) (value_here P H b B i s l e)) ∙ c.in_ok-lacks_letter.ensures.no c.if-branch.false in
+    let p = B.parts in
+    let leads = rw c.words.ensures at c.leads.ensures.same in
+    let degree = rw c.words-2.ensures at c.degree.ensures in
+    let count = count_is P H b B p.0 p.1 p.2 c.lower_count-count.result c.degree.result c.leads.result.now leads degree c.lower_count-count.ensures in
+    let last : degree_of P.order s.value ≡ b.words.degree = last_degree P H b B p.0 p.1 p.2 c.lower_count-count.result count i s (let a = c.elements.auto.i in omega arith) l e in
     let n = length P.generators in
     let A = subst (λ x. IsWitnessPut P x c.elements.rest s c.in_ok-letter.letter c.in_ok-rest.rest) (ap by_order c.by_order.ensures) c.in_ok-rest.ensures in
     lowered_more P H b B c.args.t c.elements.rest i c.elements.invariant s c.in_ok-letter.letter c.in_ok-rest.rest l e last

@@ -1,4 +1,4 @@
-use Rattle.std.proofs.Common.{◌≡◌, ◌<◌, ◌≤◌, ◌+◌, ◌-◌, ◌/◌, ◌++◌, sym, ap, subst, get_or, length, length-append, arith}
+use Rattle.std.proofs.Common.{◌<◌, ◌+◌, ◌-◌, ◌/◌, ◌++◌, sym, ap, subst, get_or, length, length-append, arith}
 use Rattle.subduction.proofs.LowerCounts.{in_lower, not_in_lower}
 use Rattle.subduction.proofs.settling.lower_count.Goals as goal
 
