@@ -21,6 +21,7 @@ use Rattle.completion.specs.declared.candidates.Found.{Found}
 use Rattle.completion.specs.declared.relations.Relation.{Relation}
 use Rattle.completion.specs.Relations.{AreRelations}
 use Rattle.completion.specs.Completion.{CompletionState, IsStanding}
+use Rattle.completion.proofs.Restored.{restored_standing}
 
 module _ {F E : Type 0} (P : Presented E) (H : IsPresentation P) (b : BasisState F E) (B : IsBasisOf P b) (none : b.words.degree ≡ 0) where
   open P use {order as O}
@@ -54,26 +55,10 @@ module _ {F E : Type 0} (P : Presented E) (H : IsPresentation P) (b : BasisState
   pub first_standing : {A : Type 0} → IsReducedBasis P 0 [] → b.elements ≡ [] → b.quotient.degree ≡ 0 → (p : Presentation F A E) (values : Table E) (relations : List (Relation F E))
       (queue : List (List Candidate)) (found : List (Found F E)) → values ≡ [] → relations ≡ [] → queue ≡ [] →
       IsStanding P (let s : CompletionState F A E = record { presentation = p; basis = b; values = values; kept = 0; relations = relations; degree = 0; read = 0; begun = false; queue = queue; found = found } in s)
-  first_standing law e q p values relations queue found v r w = record {
-    basis = B;
-    small = omega arith;
-    values = λ u x k. absurd (no_value x (subst (λ (t : Table E). value_in t u ≡ Some x) v k));
-    kept = λ u x k. absurd (no_value x (subst (λ (t : Table E). value_in t u ≡ Some x) v k));
-    short = λ t k. absurd (contains_none t (subst (λ ts. Contains ts t) e k));
-    none_later = λ d l. ap (λ (x : List (List Candidate)). list_of x d) w;
-    at_degree = λ _. record {
-      reduced = subst (IsReducedBasis P 0) (ap values_of (sym e)) law;
-      relations = subst (AreRelations P (values_of b.elements) 0) (sym r) (record {
+  first_standing law e q p values relations queue found v r w =
+      restored_standing P b B 0 (omega arith) q none (subst (IsReducedBasis P 0) (ap values_of (sym e)) law)
+      relations (subst (AreRelations P (values_of b.elements) 0) (sym r) (record {
         increasing = tt;
         exactly = λ u. (λ k. absurd (contains_none u k), λ h. absurd (no_low_word u h.0 h.1));
         rights = λ i t l. absurd (omega arith);
-      });
-      words = (omega arith, omega arith);
-      quotient = omega arith;
-      none_pending = ap (λ (x : List (List Candidate)). list_of x 1) w;
-    };
-    in_degree = λ n. cc;
-  }
-    where
-      no_value : (x : Polynomial E) → None ≡ Some x → ⊥
-      no_value x k = cc
+      })) p values queue found v w

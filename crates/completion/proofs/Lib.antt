@@ -14,6 +14,7 @@ mod ClosedDegree
 mod LastDegree
 mod ClosedCompletion
 mod Kept
+mod Restored
 mod FirstDegree
 mod NextDegree
 mod WordsAtDegree

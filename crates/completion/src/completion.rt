@@ -95,6 +95,44 @@ impl<F: Field, O: Order> Completion<F, O> {
         })
     }
 
+    /// The completion at the closed degree c that has these elements and relations. Witnesses stay as they are, short or
+    /// not. It takes no memory.
+    pub fn restore(
+        alloc: Global,
+        p: Presentation<F, O>,
+        c: u32,
+        b: Basis<F, O>,
+        relations: Vec<Relation<F>>,
+    ) -> Completion<F, O>
+        requires presentation { IsValid F.ops O.order p }
+        requires small { c ≤ BOUND_MAX }
+        requires basis { IsBasisOf (presented F.ops O.order p) b }
+        requires quotient { b.quotient.degree ≡ c }
+        requires words { b.words.degree ≡ c }
+        requires reduced { IsReducedBasis (presented F.ops O.order p) c (values_of b.elements) }
+        requires relations { AreRelations (presented F.ops O.order p) (values_of b.elements) c relations.items }
+        ensures completion { IsCompletion F.ops O.order result }
+        ensures presentation { result.presentation ≡ p }
+        ensures basis { result.basis ≡ b }
+        ensures relations { result.relations ≡ relations.items }
+        ensures degree { result.degree ≡ c }
+        ensures begun { result.begun ≡ false }
+        ensures read { result.read ≡ c }
+    {
+        Completion {
+            presentation: p,
+            basis: b,
+            values: Values::new(alloc, BOUND_MAX),
+            kept: 0,
+            relations,
+            degree: c,
+            read: c,
+            begun: false,
+            queue: DegreeQueue::new(alloc),
+            found: Vec::new(alloc),
+        }
+    }
+
     /// Begins the next degree: its candidates are the generators of this degree, in their order, and then the minimal
     /// reducible s-words, in increasing order.
     pub fn begin_degree(&mut self, alloc: Global) -> Result<(), Memory>
