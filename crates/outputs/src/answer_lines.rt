@@ -10,8 +10,9 @@ ghost use Rattle.completion.specs.Completion.{elements_of, IsCompletion, IsUncha
 ghost use Rattle.membership.specs.declared.reply.Reply.{Reply};
 ghost use Rattle.membership.specs.Answer.{IsCanonicalReply};
 ghost use Rattle.outputs.specs.Answers.{answer_line, AreAnswers, IsAnswerText, IsAnswerTo};
+ghost use Rattle.outputs.specs.Completing.{IsNew};
 
-use crate::completing::completed;
+use crate::completing::complete;
 use completion::{BOUND_MAX, Completion, Pick};
 use membership::{Reply, answer};
 use monomial_order::{Memory, Order};
@@ -121,6 +122,43 @@ fn answers_by<F: Field, O: Order>(
     Ok(text)
 }
 
+/// Runs a new completion to a bound, and answers.
+fn run_answers<F: Field, O: Order>(
+    alloc: Global,
+    c: &mut Completion<F, O>,
+    bound: u32,
+    queries: &[Poly<F>],
+) -> Result<Vec<u8>, Memory>
+    requires new { IsNew F.ops O.order c.old }
+    requires some { 1 ≤ bound }
+    requires small { bound ≤ BOUND_MAX }
+    requires canonical { let P = presented F.ops O.order c.old.presentation in
+        All (IsCanonical P.field P.order) queries.now }
+    requires low { All (IsLow (O.order c.old.presentation.order)) queries.now }
+    ensures { IfOk result (λ text. IsAnswerText F.ops O.order c.old.presentation bound queries.now text.items) }
+{
+    complete(alloc, c, bound, Pick::First)?;
+    answers_by(alloc, c, queries)
+}
+
+/// The answers by a new completion, which ends here.
+fn own_answers<F: Field, O: Order>(
+    alloc: Global,
+    mut c: Completion<F, O>,
+    bound: u32,
+    queries: &[Poly<F>],
+) -> Result<Vec<u8>, Memory>
+    requires new { IsNew F.ops O.order c }
+    requires some { 1 ≤ bound }
+    requires small { bound ≤ BOUND_MAX }
+    requires canonical { let P = presented F.ops O.order c.presentation in
+        All (IsCanonical P.field P.order) queries.now }
+    requires low { All (IsLow (O.order c.presentation.order)) queries.now }
+    ensures { IfOk result (λ text. IsAnswerText F.ops O.order c.presentation bound queries.now text.items) }
+{
+    run_answers(alloc, &mut c, bound, queries)
+}
+
 /// The lines that answer queries, by the reduced basis to a bound.
 pub fn answers<F: Field, O: Order>(
     alloc: Global,
@@ -135,6 +173,6 @@ pub fn answers<F: Field, O: Order>(
     requires low { All (IsLow (O.order p.order)) queries.now }
     ensures { IfOk result (λ text. IsAnswerText F.ops O.order p bound queries.now text.items) }
 {
-    let mut c = completed(alloc, p, bound, Pick::First)?;
-    answers_by(alloc, &mut c, queries)
+    let c = Completion::new(alloc, p)?;
+    own_answers(alloc, c, bound, queries)
 }

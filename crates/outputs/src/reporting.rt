@@ -1,26 +1,47 @@
 //! The report.
-ghost use Rattle.std.specs.Prelude.{◌≡◌, ◌≤◌, false, IfOk};
+ghost use Rattle.std.specs.Prelude.{◌≤◌, IfOk};
 ghost use Rattle.poly_core.specs.Presentation.{presented, IsValid};
-ghost use Rattle.completion.specs.Completion.{IsCompletion};
 ghost use Rattle.completion.specs.Report.{IsReport};
+ghost use Rattle.outputs.specs.Completing.{IsNew};
 
-use crate::completing::completed;
+use crate::completing::complete;
 use completion::{BOUND_MAX, Completion, Pick};
 use monomial_order::{Memory, Order};
 use poly_core::Presentation;
 use std::alloc::Global;
 use word_field::Field;
 
-/// The report of a completion.
-fn report_of<F: Field, O: Order>(alloc: Global, c: Completion<F, O>) -> Result<Vec<u8>, Memory>
-    requires completion { IsCompletion F.ops O.order c }
-    requires not_begun { c.begun ≡ false }
-    requires some { 1 ≤ c.degree }
-    ensures { let P = presented F.ops O.order c.presentation in
-        IfOk result (λ text. IsReport P c.presentation.names c.degree text.items) }
+/// Runs a new completion to a bound, and reports.
+fn run_report<F: Field, O: Order>(
+    alloc: Global,
+    c: &mut Completion<F, O>,
+    bound: u32,
+    pick: Pick,
+) -> Result<Vec<u8>, Memory>
+    requires new { IsNew F.ops O.order c.old }
+    requires some { 1 ≤ bound }
+    requires small { bound ≤ BOUND_MAX }
+    ensures { let P = presented F.ops O.order c.old.presentation in
+        IfOk result (λ text. IsReport P c.old.presentation.names bound text.items) }
 {
-    let mut owned = c;
-    owned.report(alloc)
+    complete(alloc, c, bound, pick)?;
+    c.report(alloc)
+}
+
+/// The report by a new completion, which ends here.
+fn own_report<F: Field, O: Order>(
+    alloc: Global,
+    mut c: Completion<F, O>,
+    bound: u32,
+    pick: Pick,
+) -> Result<Vec<u8>, Memory>
+    requires new { IsNew F.ops O.order c }
+    requires some { 1 ≤ bound }
+    requires small { bound ≤ BOUND_MAX }
+    ensures { let P = presented F.ops O.order c.presentation in
+        IfOk result (λ text. IsReport P c.presentation.names bound text.items) }
+{
+    run_report(alloc, &mut c, bound, pick)
 }
 
 /// The report on a presentation to a bound.
@@ -35,6 +56,6 @@ pub fn report<F: Field, O: Order>(
     requires small { bound ≤ BOUND_MAX }
     ensures { IfOk result (λ text. IsReport (presented F.ops O.order p) p.names bound text.items) }
 {
-    let c = completed(alloc, p, bound, pick)?;
-    report_of(alloc, c)
+    let c = Completion::new(alloc, p)?;
+    own_report(alloc, c, bound, pick)
 }

@@ -4,9 +4,10 @@ ghost use Rattle.std.specs.Fmt.{decimal};
 ghost use Rattle.poly_core.specs.Presentation.{presented, IsValid};
 ghost use Rattle.completion.specs.Completion.{IsCompletion};
 ghost use Rattle.completion.specs.Report.{mark_text};
+ghost use Rattle.outputs.specs.Completing.{IsNew};
 ghost use Rattle.outputs.specs.Summary.{trial_text, IsSummary};
 
-use crate::completing::completed;
+use crate::completing::complete;
 use completion::{BOUND_MAX, Completion, Pick};
 use monomial_order::{Memory, Order};
 use poly_core::Presentation;
@@ -50,6 +51,39 @@ fn summary_of<F: Field, O: Order>(
     Ok(summary_text(alloc, number, bound, c.basis().len(), mark)?)
 }
 
+/// Runs a new completion to a bound, and sums up.
+fn run_summary<F: Field, O: Order>(
+    alloc: Global,
+    c: &mut Completion<F, O>,
+    number: u32,
+    bound: u32,
+) -> Result<String, Memory>
+    requires new { IsNew F.ops O.order c.old }
+    requires some { 1 ≤ bound }
+    requires small { bound ≤ BOUND_MAX }
+    ensures { let P = presented F.ops O.order c.old.presentation in
+        IfOk result (λ s. IsSummary P number bound (string_bytes s)) }
+{
+    complete(alloc, c, bound, Pick::First)?;
+    summary_of(alloc, c, number, bound)
+}
+
+/// The summary of a new completion, which ends here.
+fn own_summary<F: Field, O: Order>(
+    alloc: Global,
+    mut c: Completion<F, O>,
+    number: u32,
+    bound: u32,
+) -> Result<String, Memory>
+    requires new { IsNew F.ops O.order c }
+    requires some { 1 ≤ bound }
+    requires small { bound ≤ BOUND_MAX }
+    ensures { let P = presented F.ops O.order c.presentation in
+        IfOk result (λ s. IsSummary P number bound (string_bytes s)) }
+{
+    run_summary(alloc, &mut c, number, bound)
+}
+
 /// The summary of a completion to a bound, with the number of a trial.
 pub fn summary<F: Field, O: Order>(
     alloc: Global,
@@ -62,6 +96,6 @@ pub fn summary<F: Field, O: Order>(
     requires small { bound ≤ BOUND_MAX }
     ensures { IfOk result (λ s. IsSummary (presented F.ops O.order p) number bound (string_bytes s)) }
 {
-    let mut c = completed(alloc, p, bound, Pick::First)?;
-    summary_of(alloc, &mut c, number, bound)
+    let c = Completion::new(alloc, p)?;
+    own_summary(alloc, c, number, bound)
 }
