@@ -162,24 +162,6 @@ fn run_answers<F: Field, O: Order>(
     answers_by(alloc, c, queries)
 }
 
-/// The answers by a new completion, which ends here.
-fn own_answers<F: Field, O: Order>(
-    alloc: Global,
-    mut c: Completion<F, O>,
-    bound: u32,
-    queries: &[Poly<F>],
-) -> Result<Vec<u8>, Memory>
-    requires new { IsNew F.ops O.order c }
-    requires some { 1 ≤ bound }
-    requires small { bound ≤ BOUND_MAX }
-    requires canonical { let P = presented F.ops O.order c.presentation in
-        All (IsCanonical P.field P.order) queries.now }
-    requires low { All (IsLow (O.order c.presentation.order)) queries.now }
-    ensures { IfOk result (λ text. IsAnswerText F.ops O.order c.presentation bound queries.now text.items) }
-{
-    run_answers(alloc, &mut c, bound, queries)
-}
-
 /// The lines that answer queries, by the reduced basis to a bound.
 pub fn answers<F: Field, O: Order>(
     alloc: Global,
@@ -194,6 +176,8 @@ pub fn answers<F: Field, O: Order>(
     requires low { All (IsLow (O.order p.order)) queries.now }
     ensures { IfOk result (λ text. IsAnswerText F.ops O.order p bound queries.now text.items) }
 {
-    let c = Completion::new(alloc, p)?;
-    own_answers(alloc, c, bound, queries)
+    let mut c = Completion::new(alloc, p)?;
+    let text = run_answers(alloc, &mut c, bound, queries);
+    drop(c);
+    text
 }

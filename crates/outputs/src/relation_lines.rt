@@ -117,20 +117,6 @@ fn run_relations<F: Field, O: Order>(
     lines_of(alloc, c)
 }
 
-/// The relations by a new completion, which ends here.
-fn own_relations<F: Field, O: Order>(
-    alloc: Global,
-    mut c: Completion<F, O>,
-    bound: u32,
-) -> Result<Vec<u8>, Memory>
-    requires new { IsNew F.ops O.order c }
-    requires small { bound ≤ BOUND_MAX }
-    ensures { let P = presented F.ops O.order c.presentation in
-        IfOk result (λ text. IsRelationsText F P bound text.items) }
-{
-    run_relations(alloc, &mut c, bound)
-}
-
 /// The relations of the reduced basis to a bound, one on each line behind their number.
 pub fn relations<F: Field, O: Order>(
     alloc: Global,
@@ -142,6 +128,8 @@ pub fn relations<F: Field, O: Order>(
     requires small { bound ≤ BOUND_MAX }
     ensures { IfOk result (λ text. IsRelationsText F (presented F.ops O.order p) bound text.items) }
 {
-    let c = Completion::new(alloc, p)?;
-    own_relations(alloc, c, bound)
+    let mut c = Completion::new(alloc, p)?;
+    let text = run_relations(alloc, &mut c, bound);
+    drop(c);
+    text
 }

@@ -28,22 +28,6 @@ fn run_report<F: Field, O: Order>(
     c.report(alloc)
 }
 
-/// The report by a new completion, which ends here.
-fn own_report<F: Field, O: Order>(
-    alloc: Global,
-    mut c: Completion<F, O>,
-    bound: u32,
-    pick: Pick,
-) -> Result<Vec<u8>, Memory>
-    requires new { IsNew F.ops O.order c }
-    requires some { 1 ≤ bound }
-    requires small { bound ≤ BOUND_MAX }
-    ensures { let P = presented F.ops O.order c.presentation in
-        IfOk result (λ text. IsReport P c.presentation.names bound text.items) }
-{
-    run_report(alloc, &mut c, bound, pick)
-}
-
 /// The report on a presentation to a bound.
 pub fn report<F: Field, O: Order>(
     alloc: Global,
@@ -56,6 +40,8 @@ pub fn report<F: Field, O: Order>(
     requires small { bound ≤ BOUND_MAX }
     ensures { IfOk result (λ text. IsReport (presented F.ops O.order p) p.names bound text.items) }
 {
-    let c = Completion::new(alloc, p)?;
-    own_report(alloc, c, bound, pick)
+    let mut c = Completion::new(alloc, p)?;
+    let text = run_report(alloc, &mut c, bound, pick);
+    drop(c);
+    text
 }

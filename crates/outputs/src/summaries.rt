@@ -68,22 +68,6 @@ fn run_summary<F: Field, O: Order>(
     summary_of(alloc, c, number, bound)
 }
 
-/// The summary of a new completion, which ends here.
-fn own_summary<F: Field, O: Order>(
-    alloc: Global,
-    mut c: Completion<F, O>,
-    number: u32,
-    bound: u32,
-) -> Result<String, Memory>
-    requires new { IsNew F.ops O.order c }
-    requires some { 1 ≤ bound }
-    requires small { bound ≤ BOUND_MAX }
-    ensures { let P = presented F.ops O.order c.presentation in
-        IfOk result (λ s. IsSummary P number bound (string_bytes s)) }
-{
-    run_summary(alloc, &mut c, number, bound)
-}
-
 /// The summary of a completion to a bound, with the number of a trial.
 pub fn summary<F: Field, O: Order>(
     alloc: Global,
@@ -96,6 +80,8 @@ pub fn summary<F: Field, O: Order>(
     requires small { bound ≤ BOUND_MAX }
     ensures { IfOk result (λ s. IsSummary (presented F.ops O.order p) number bound (string_bytes s)) }
 {
-    let c = Completion::new(alloc, p)?;
-    own_summary(alloc, c, number, bound)
+    let mut c = Completion::new(alloc, p)?;
+    let text = run_summary(alloc, &mut c, number, bound);
+    drop(c);
+    text
 }

@@ -6,5 +6,5 @@ use Rattle.outputs.proofs.relation_lines.relations.Goals as goal
 
 pub returns : goal.returns
 returns g c =
-    subst (λ p. IfOk c.own_relations.result (λ text. IsRelationsText g.row.F.Denot (presented g.F.Field.ops g.O.Order.order p) c.args.bound text.items))
-    c.in_ok-c.ensures.presentation c.own_relations.ensures
+    subst (λ p. IfOk c.run_relations-text.result (λ text. IsRelationsText g.row.F.Denot (presented g.F.Field.ops g.O.Order.order p) c.args.bound text.items))
+    c.in_ok-c.ensures.presentation c.run_relations-text.ensures
