@@ -1,5 +1,5 @@
 //! The lines that answer queries.
-ghost use Rattle.std.specs.Prelude.{◌≡◌, ◌≤◌, ◌++◌, codes, false, string_bytes, All, IfOk, OnOk};
+ghost use Rattle.std.specs.Prelude.{◌≡◌, ◌≤◌, [], ◌++◌, codes, false, string_bytes, All, IfOk, OnOk};
 ghost use Rattle.std.specs.Fmt.{decimal};
 ghost use Rattle.poly_core.specs.Presentation.{presented, IsValid};
 ghost use Rattle.poly_core.specs.Text.{poly_text, AreNamed, AreValues};
@@ -10,8 +10,9 @@ ghost use Rattle.completion.specs.Completion.{elements_of, IsCompletion, IsUncha
 ghost use Rattle.membership.specs.declared.reply.Reply.{Reply};
 ghost use Rattle.membership.specs.Answer.{IsCanonicalReply};
 ghost use Rattle.outputs.specs.Answers.{answer_line, AreAnswers, IsAnswerText, IsAnswerTo};
+ghost use Rattle.outputs.specs.Completing.{IsNew};
 
-use crate::completing::completed;
+use crate::completing::complete;
 use completion::{BOUND_MAX, Completion, Pick};
 use membership::{Reply, answer};
 use monomial_order::{Memory, Order};
@@ -99,6 +100,29 @@ fn push_answer<F: Field, O: Order>(
     push_line(alloc, text, c.presentation(), &reply)
 }
 
+/// Writes the lines that answer queries.
+fn push_answers<F: Field, O: Order>(
+    alloc: Global,
+    text: &mut Vec<u8>,
+    c: &mut Completion<F, O>,
+    queries: &[Poly<F>],
+) -> Result<(), Memory>
+    requires empty { text.old.items ≡ [] }
+    requires completion { IsCompletion F.ops O.order c.old }
+    requires not_begun { c.old.begun ≡ false }
+    requires some { 1 ≤ c.old.degree }
+    requires canonical { let P = presented F.ops O.order c.old.presentation in
+        All (IsCanonical P.field P.order) queries.now }
+    requires low { All (IsLow (O.order c.old.presentation.order)) queries.now }
+    ensures { OnOk result (AreAnswers F.ops O.order c.old.presentation c.old.degree (elements_of c.old)
+        queries.now text.new.items) }
+{
+    'queries: for query in queries {
+        push_answer(alloc, text, c, query)?;
+    }
+    Ok(())
+}
+
 /// The lines that answer queries by a completion.
 fn answers_by<F: Field, O: Order>(
     alloc: Global,
@@ -115,10 +139,27 @@ fn answers_by<F: Field, O: Order>(
         queries.now text.items) }
 {
     let mut text = Vec::new(alloc);
-    'queries: for query in queries {
-        push_answer(alloc, &mut text, c, query)?;
-    }
+    push_answers(alloc, &mut text, c, queries)?;
     Ok(text)
+}
+
+/// Runs a new completion to a bound, and answers.
+fn run_answers<F: Field, O: Order>(
+    alloc: Global,
+    c: &mut Completion<F, O>,
+    bound: u32,
+    queries: &[Poly<F>],
+) -> Result<Vec<u8>, Memory>
+    requires new { IsNew F.ops O.order c.old }
+    requires some { 1 ≤ bound }
+    requires small { bound ≤ BOUND_MAX }
+    requires canonical { let P = presented F.ops O.order c.old.presentation in
+        All (IsCanonical P.field P.order) queries.now }
+    requires low { All (IsLow (O.order c.old.presentation.order)) queries.now }
+    ensures { IfOk result (λ text. IsAnswerText F.ops O.order c.old.presentation bound queries.now text.items) }
+{
+    complete(alloc, c, bound, Pick::First)?;
+    answers_by(alloc, c, queries)
 }
 
 /// The lines that answer queries, by the reduced basis to a bound.
@@ -135,6 +176,8 @@ pub fn answers<F: Field, O: Order>(
     requires low { All (IsLow (O.order p.order)) queries.now }
     ensures { IfOk result (λ text. IsAnswerText F.ops O.order p bound queries.now text.items) }
 {
-    let mut c = completed(alloc, p, bound, Pick::First)?;
-    answers_by(alloc, &mut c, queries)
+    let mut c = Completion::new(alloc, p)?;
+    let text = run_answers(alloc, &mut c, bound, queries);
+    drop(c);
+    text
 }

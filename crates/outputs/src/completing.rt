@@ -1,27 +1,23 @@
-//! Completes a presentation to a bound.
-ghost use Rattle.std.specs.Prelude.{◌≤◌, IfOk};
-ghost use Rattle.poly_core.specs.Presentation.{IsValid};
-ghost use Rattle.outputs.specs.Completing.{IsCompletedTo};
+//! Completes to a bound.
+ghost use Rattle.std.specs.Prelude.{◌≤◌, OnOk};
+ghost use Rattle.outputs.specs.Completing.{IsCompletedTo, IsNew};
 
 use completion::{BOUND_MAX, Completion, Pick};
 use monomial_order::{Memory, Order};
-use poly_core::Presentation;
 use std::alloc::Global;
 use word_field::Field;
 
-/// The completion of a presentation to a bound.
-pub(crate) fn completed<F: Field, O: Order>(
+/// Runs a new completion to a bound.
+pub(crate) fn complete<F: Field, O: Order>(
     alloc: Global,
-    p: Presentation<F, O>,
+    c: &mut Completion<F, O>,
     bound: u32,
     pick: Pick,
-) -> Result<Completion<F, O>, Memory>
-    requires valid { IsValid F.ops O.order p }
-    requires some { 1 ≤ bound }
+) -> Result<(), Memory>
+    requires new { IsNew F.ops O.order c.old }
     requires small { bound ≤ BOUND_MAX }
-    ensures { IfOk result (IsCompletedTo F.ops O.order p bound) }
+    ensures { OnOk result (IsCompletedTo F.ops O.order c.old.presentation bound c.new) }
 {
-    let mut c = Completion::new(alloc, p)?;
     c.run_to(alloc, bound, pick)?;
-    Ok(c)
+    Ok(())
 }

@@ -3,9 +3,10 @@ ghost use Rattle.std.specs.Prelude.{◌≡◌, ◌≤◌, ◌++◌, codes, false
 ghost use Rattle.std.specs.Fmt.{decimal};
 ghost use Rattle.poly_core.specs.Presentation.{presented, IsValid};
 ghost use Rattle.completion.specs.Completion.{IsCompletion};
+ghost use Rattle.outputs.specs.Completing.{IsNew};
 ghost use Rattle.outputs.specs.RelationLines.{element_names, relation_line, relation_lines, relations_text, IsPrintable, IsRelationsText};
 
-use crate::completing::completed;
+use crate::completing::complete;
 use completion::{BOUND_MAX, Completion, Pick, Relation};
 use monomial_order::{Memory, Order};
 use poly_core::{Names, Poly, Presentation, write_monomial};
@@ -66,6 +67,29 @@ fn names_behind(places: usize) -> Names
     }
 }
 
+/// The line of the number of relations.
+fn counted(alloc: Global, count: usize) -> Result<Vec<u8>, Memory>
+    ensures { IfOk result (λ text. text.items ≡ codes "relations " ++ (decimal count ++ codes "\n")) }
+{
+    let head = head(alloc, count)?;
+    Ok(Vec::from_slice(alloc, head.as_bytes())?)
+}
+
+/// Appends the lines of the relations of a completion.
+fn push_relations<F: Field, O: Order>(
+    alloc: Global,
+    text: &mut Vec<u8>,
+    c: &Completion<F, O>,
+) -> Result<(), Memory>
+    requires completion { IsCompletion F.ops O.order c.now }
+    requires not_begun { c.now.begun ≡ false }
+    ensures { let P = presented F.ops O.order c.now.presentation in OnOk result (text.new.items ≡
+        text.old.items ++ relation_lines P.field (element_names P.order.places) c.now.relations) }
+{
+    let names = names_behind(c.presentation().order.places());
+    push_lines(alloc, text, &c.presentation().field, &names, c.relations())
+}
+
 /// The number of relations of a completion, and a line for each.
 fn lines_of<F: Field, O: Order>(alloc: Global, c: &Completion<F, O>) -> Result<Vec<u8>, Memory>
     requires completion { IsCompletion F.ops O.order c.now }
@@ -73,12 +97,24 @@ fn lines_of<F: Field, O: Order>(alloc: Global, c: &Completion<F, O>) -> Result<V
     ensures { let P = presented F.ops O.order c.now.presentation in IfOk result
         (λ text. text.items ≡ relations_text P.field (element_names P.order.places) c.now.relations) }
 {
-    let names = names_behind(c.presentation().order.places());
-    let relations = c.relations();
-    let head = head(alloc, relations.len())?;
-    let mut text = Vec::from_slice(alloc, head.as_bytes())?;
-    push_lines(alloc, &mut text, &c.presentation().field, &names, relations)?;
+    let mut text = counted(alloc, c.relations().len())?;
+    push_relations(alloc, &mut text, c)?;
     Ok(text)
+}
+
+/// Runs a new completion to a bound, and lists its relations.
+fn run_relations<F: Field, O: Order>(
+    alloc: Global,
+    c: &mut Completion<F, O>,
+    bound: u32,
+) -> Result<Vec<u8>, Memory>
+    requires new { IsNew F.ops O.order c.old }
+    requires small { bound ≤ BOUND_MAX }
+    ensures { let P = presented F.ops O.order c.old.presentation in
+        IfOk result (λ text. IsRelationsText F P bound text.items) }
+{
+    complete(alloc, c, bound, Pick::First)?;
+    lines_of(alloc, c)
 }
 
 /// The relations of the reduced basis to a bound, one on each line behind their number.
@@ -92,6 +128,8 @@ pub fn relations<F: Field, O: Order>(
     requires small { bound ≤ BOUND_MAX }
     ensures { IfOk result (λ text. IsRelationsText F (presented F.ops O.order p) bound text.items) }
 {
-    let c = completed(alloc, p, bound, Pick::First)?;
-    lines_of(alloc, &c)
+    let mut c = Completion::new(alloc, p)?;
+    let text = run_relations(alloc, &mut c, bound);
+    drop(c);
+    text
 }

@@ -1,8 +1,10 @@
-use Rattle.outputs.proofs.Completed.{relations_printed}
-use Rattle.std.proofs.lemmas.Result.{IfOk-weaker}
+use Rattle.std.proofs.Common.{subst}
+use Rattle.std.specs.Prelude.{IfOk}
+use Rattle.poly_core.specs.Presentation.{presented}
+use Rattle.outputs.specs.RelationLines.{IsRelationsText}
 use Rattle.outputs.proofs.relation_lines.relations.Goals as goal
 
 pub returns : goal.returns
 returns g c =
-    IfOk-weaker c.lines_of.result _ _ (λ text k. relations_printed g.F.Field.ops g.O.Order.order c.args.p c.args.bound c.in_ok-c.c c.in_ok-c.ensures text.items k)
-    c.lines_of.ensures
+    subst (λ p. IfOk c.run_relations-text.result (λ text. IsRelationsText g.row.F.Denot (presented g.F.Field.ops g.O.Order.order p) c.args.bound text.items))
+    c.in_ok-c.ensures.presentation c.run_relations-text.ensures

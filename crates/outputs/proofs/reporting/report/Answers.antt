@@ -1,8 +1,10 @@
-use Rattle.outputs.proofs.Completed.{report_printed}
-use Rattle.std.proofs.lemmas.Result.{IfOk-weaker}
+use Rattle.std.proofs.Common.{subst}
+use Rattle.std.specs.Prelude.{IfOk}
+use Rattle.poly_core.specs.Presentation.{presented}
+use Rattle.completion.specs.Report.{IsReport}
 use Rattle.outputs.proofs.reporting.report.Goals as goal
 
 pub returns : goal.returns
 returns g c =
-    IfOk-weaker c.report.result _ _ (λ text k. report_printed g.F.Field.ops g.O.Order.order c.args.p c.args.bound c.in_ok-c.c c.in_ok-c.ensures text.items k)
-    c.report.ensures.report
+    subst (λ p. IfOk c.run_report-text.result (λ text. IsReport (presented g.F.Field.ops g.O.Order.order p) p.names c.args.bound text.items))
+    c.in_ok-c.ensures.presentation c.run_report-text.ensures

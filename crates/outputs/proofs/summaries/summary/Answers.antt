@@ -1,15 +1,10 @@
-use Rattle.std.proofs.Common.{◌∙◌, ap, length}
+use Rattle.std.proofs.Common.{subst}
+use Rattle.std.specs.Prelude.{string_bytes, IfOk}
 use Rattle.poly_core.specs.Presentation.{presented}
-use Rattle.completion.specs.Completion.{elements_of}
-use Rattle.outputs.specs.Summary.{trial_text}
-use Rattle.outputs.proofs.Completed.{summary_printed}
+use Rattle.outputs.specs.Summary.{IsSummary}
 use Rattle.outputs.proofs.summaries.summary.Goals as goal
 
 pub returns : goal.returns
 returns g c =
-    let s = c.in_ok-c.c in
-    let found = c.in_ok-is_complete.ensures in
-    summary_printed g.F.Field.ops g.O.Order.order c.args.p c.args.bound s c.in_ok-c.ensures c.args.number c.basis.result.now
-    c.in_ok-is_complete.field-0 _ (c.basis.ensures.value ∙ found.unchanged.elements)
-    (c.later_is_open.ensures (presented g.F.Field.ops g.O.Order.order s.presentation) (elements_of s) s.degree) found.yes found.no
-    (c.in_ok-summary_text.ensures ∙ ap (λ mark. trial_text c.args.number c.args.bound (length c.basis.result.now) mark) c.mark_of-mark.ensures)
+    subst (λ p. IfOk c.run_summary-text.result (λ s. IsSummary (presented g.F.Field.ops g.O.Order.order p) c.args.number c.args.bound (string_bytes s)))
+    c.in_ok-c.ensures.presentation c.run_summary-text.ensures

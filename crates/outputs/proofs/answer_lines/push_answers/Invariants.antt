@@ -1,7 +1,7 @@
 use Rattle.std.proofs.Common.{take}
 use Rattle.completion.specs.Completion.{elements_of, IsCompletion, IsUnchanged}
 use Rattle.outputs.specs.Answers.{AreAnswers}
-use Rattle.outputs.proofs.answer_lines.answers_by.Given as goal
+use Rattle.outputs.proofs.answer_lines.push_answers.Given as goal
 
 -- the queries so far are answered, and the completion is as before
 abbrev pub invariant-queries : goal.invariant-queries

@@ -4,7 +4,7 @@ use Rattle.completion.specs.Completion.{elements_of}
 use Rattle.outputs.specs.Answers.{answer_line, IsAnswerTo}
 use Rattle.outputs.proofs.Lines.{one_more}
 use Rattle.completion.specs.laws.Unchanged.{before, unchanged_twice}
-use Rattle.outputs.proofs.answer_lines.answers_by.Goals as goal
+use Rattle.outputs.proofs.answer_lines.push_answers.Goals as goal
 
 pub queries-preserved : goal.queries-preserved
 queries-preserved g c =
