@@ -1,5 +1,5 @@
 //! Tables of rules: x of degree 1, and letters for x^2 and x^3.
-ghost use Rattle.std.specs.Prelude.{◌≡◌, ◌∷◌, [], take, IfOk};
+ghost use Rattle.std.specs.Prelude.{◌≡◌, ◌≢◌, ◌∷◌, ◌++◌, [], take, IfOk, OnOk, Some};
 ghost use Rattle.monomial_order.specs.Monomial.{IsTrimmed};
 ghost use Rattle.word_laws.specs.Words.{word_order_of};
 ghost use Rattle.word_rewriting.specs.Samples.{sample_rules, square_and_cube};
@@ -31,19 +31,28 @@ fn exact(alloc: Global, exponents: &[u16]) -> Result<Monomial, Fail>
     Ok(Monomial::from_places(alloc, exponents)?)
 }
 
+/// Adds the rule from one word to another.
+fn push_rule(alloc: Global, table: &mut RuleTable, left: &[u16], right: &[u16]) -> Result<(), Fail>
+    requires trimmed { IsTrimmed left.now }
+    requires trimmed_right { IsTrimmed right.now }
+    requires nonempty { left.now ≢ [] }
+    ensures { OnOk result (table.new ≡ table.old ++ record { left = left.now; right = Some right.now } ∷ []) }
+{
+    let left = exact(alloc, left)?;
+    let right = exact(alloc, right)?;
+    table.push(alloc, left, Some(right))?;
+    Ok(())
+}
+
 /// The rules x^2 to s1, x*s1 to s2, x*s2 to s1^2, and s1^3 to s2^2.
 fn table(alloc: Global) -> Result<RuleTable, Fail>
     ensures { IfOk result (λ t. t ≡ sample_rules) }
 {
     let mut table = RuleTable::new(alloc);
-    let (left, right) = (exact(alloc, &[2])?, exact(alloc, &[0, 1])?);
-    table.push(alloc, left, Some(right))?;
-    let (left, right) = (exact(alloc, &[1, 1])?, exact(alloc, &[0, 0, 1])?);
-    table.push(alloc, left, Some(right))?;
-    let (left, right) = (exact(alloc, &[1, 0, 1])?, exact(alloc, &[0, 2])?);
-    table.push(alloc, left, Some(right))?;
-    let (left, right) = (exact(alloc, &[0, 3])?, exact(alloc, &[0, 0, 2])?);
-    table.push(alloc, left, Some(right))?;
+    push_rule(alloc, &mut table, &[2], &[0, 1])?;
+    push_rule(alloc, &mut table, &[1, 1], &[0, 0, 1])?;
+    push_rule(alloc, &mut table, &[1, 0, 1], &[0, 2])?;
+    push_rule(alloc, &mut table, &[0, 3], &[0, 0, 2])?;
     Ok(table)
 }
 

@@ -1,4 +1,4 @@
-use Rattle.std.proofs.Common.{◌≡◌, ◌<◌, ℕ, List, [], ◌∷◌, length, get_or, take, sym, ◌∙◌, ap, subst, arith}
+use Rattle.std.proofs.Common.{◌<◌, ℕ, List, [], ◌∷◌, take, sym, ◌∙◌, ap, subst, arith}
 use Rattle.std.specs.Prelude.{Contains}
 use Rattle.std.proofs.lemmas.List.{get_or-take, length-take}
 use Rattle.monomial_order.specs.Monomial.{IsMultiple}
@@ -6,7 +6,6 @@ use Rattle.monomial_order.specs.Orders.{word_order}
 use Rattle.word_laws.specs.Words.{word_order_of}
 use Rattle.word_rewriting.specs.Rewriting.{RewriteRule}
 use Rattle.word_rewriting.specs.Samples.{sample_rules, square_and_cube}
-use Rattle.word_rewriting.specs.laws.Confluence.{IsDecreasingRule}
 use Rattle.word_rewriting.specs.laws.Criterion.{decreasing_rules}
 use Rattle.word_rules.specs.Rules.{AreDecreasing}
 use Rattle.worked_words.proofs.rules.pair_is.Goals as goal
