@@ -1,5 +1,5 @@
 //! Operations of polynomials in x and y over the field of 101 elements.
-ghost use Rattle.std.specs.Prelude.{◌≡◌, ◌≤◌, All, IfOk, IfSome, IsTrue};
+ghost use Rattle.std.specs.Prelude.{◌≡◌, ◌≤◌, ◌<◌, length, All, IfOk, IfSome, IsTrue, OnOk};
 ghost use Rattle.monomial_order.specs.Limits.{exponent_max};
 ghost use Rattle.poly_core.specs.Presentation.{weight_order_of};
 ghost use Rattle.polynomials.specs.Value.{value_degree, HasSmallValue};
@@ -201,37 +201,55 @@ fn answer(alloc: Global, p: &Ring, row: &str) -> Result<String, Fail>
     text_of(alloc, p, &found)
 }
 
-#[test]
-fn operations_of_polynomials(rt: HostRuntime) -> Result<(), Fail> {
-    let alloc = rt.alloc();
-    let p = ring(alloc, X_AND_Y)?;
-    for row in [
-        "y | plus | x | x + y",
-        "x + y | plus | 100*x | y",
-        "x + y | plus, taking | 100*x | y",
-        "x + y | minus | x + y | 0",
-        "x + y | times the term | 3*x | 3*x^2 + 3*x*y",
-        "x + y | times | x + y | x^2 + 2*x*y + y^2",
-        "x + y | times | 0 | 0",
-        "x + y | scaled by | 2 | 2*x + 2*y",
-        "x + y | scaled by | 101 | 0",
-        "2*x + 4*y | monic | 1 | x + 2*y",
-        "0 | monic | 1 | 0",
-        "2*x*y + 1 | copied | 1 | 2*x*y + 1",
-        "2*x*y + 1 | component | 1 | 0",
-        "x^2 + y | component | 1 | y",
-        "x^2 - 2*y | at | x + y\nx*y | x^2 + y^2",
-        "3 | at | x\ny | 3",
-        "0 | at | x\ny | 0",
-        // the first coefficient, the degree, and whether it is homogeneous
-        "2*x*y + 1 | has | 2, Some(2), false",
-        "x^2 + y | has | 1, Some(2), false",
-        "y | has | 1, Some(1), true",
-        "0 | has | 0, None, true",
-    ] {
-        judge(row, answer(alloc, &p, row)?.as_str())?;
+/// Compares the answer to a row.
+fn see_row(alloc: Global, p: &Ring, row: &str) -> Result<(), Fail>
+    requires { IsRing p.now }
+{
+    judge(row, answer(alloc, p, row)?.as_str())
+}
+
+/// Compares the answers to rows, each in a line.
+fn see_rows(alloc: Global, p: &Ring, rows: &str) -> Result<(), Fail>
+    requires { IsRing p.now }
+{
+    for row in rows.lines() {
+        see_row(alloc, p, row)?;
     }
     Ok(())
+}
+
+/// Rows with what the operation makes.
+const MADE: &str = "\
+y | plus | x | x + y
+x + y | plus | 100*x | y
+x + y | plus, taking | 100*x | y
+x + y | minus | x + y | 0
+x + y | times the term | 3*x | 3*x^2 + 3*x*y
+x + y | times | x + y | x^2 + 2*x*y + y^2
+x + y | times | 0 | 0
+x + y | scaled by | 2 | 2*x + 2*y
+x + y | scaled by | 101 | 0
+2*x + 4*y | monic | 1 | x + 2*y
+0 | monic | 1 | 0
+2*x*y + 1 | copied | 1 | 2*x*y + 1
+2*x*y + 1 | component | 1 | 0
+x^2 + y | component | 1 | y";
+
+/// Rows with the first coefficient, the degree, and whether it is homogeneous.
+const HELD: &str = "\
+2*x*y + 1 | has | 2, Some(2), false
+x^2 + y | has | 1, Some(2), false
+y | has | 1, Some(1), true
+0 | has | 0, None, true";
+
+#[test]
+fn operations_of_polynomials(rt: HostRuntime) -> Result<(), Fail> {
+    let p = ring(rt.alloc(), X_AND_Y)?;
+    see_rows(rt.alloc(), &p, MADE)?;
+    see_row(rt.alloc(), &p, "x^2 - 2*y | at | x + y\nx*y | x^2 + y^2")?;
+    see_row(rt.alloc(), &p, "3 | at | x\ny | 3")?;
+    see_row(rt.alloc(), &p, "0 | at | x\ny | 0")?;
+    see_rows(rt.alloc(), &p, HELD)
 }
 
 /// How many terms there are, and the coefficient of the first, of polynomials that are made without a reader.
@@ -262,15 +280,32 @@ fn terms_of_no_reader(rt: HostRuntime) -> Result<(), Fail> {
     Ok(())
 }
 
-#[test]
-fn each_name_has_one_index(rt: HostRuntime) -> Result<(), Fail> {
-    let alloc = rt.alloc();
-    let mut table = NameTable::new(alloc);
+/// The indices of x and w, and the number of names.
+fn places_text(alloc: Global, table: &NameTable) -> Result<String, Fail> {
+    let (x, w, count) = (table.place("x"), table.place("w"), table.len());
+    Ok(format!(in alloc; "{x:?} {w:?} {count}")?)
+}
+
+/// Whether there are no names, what two calls with the name x say, and what the table has then.
+fn names_text(alloc: Global, table: &mut NameTable) -> Result<String, Fail>
+    ensures { OnOk result (0 < length table.new) }
+{
     let is_empty = table.is_empty();
     let first = table.push("x")?;
     let again = table.push("x")?;
-    let (x, w, count) = (table.place("x"), table.place("w"), table.len());
-    let found = format!(in alloc; "{is_empty} {first} {again} {x:?} {w:?} {count}")?;
+    let places = places_text(alloc, table)?;
+    Ok(format!(in alloc; "{is_empty} {first} {again} {places}")?)
+}
+
+/// Compares what a table says of the name x.
+fn see_names(alloc: Global, table: &mut NameTable) -> Result<(), Fail> {
+    let found = names_text(alloc, table)?;
     judge("x, x | true true false Some(0) None 1", found.as_str())?;
     ensure(table.name(0) == "x", "the name of index 0")
+}
+
+#[test]
+fn each_name_has_one_index(rt: HostRuntime) -> Result<(), Fail> {
+    let mut table = NameTable::new(rt.alloc());
+    see_names(rt.alloc(), &mut table)
 }

@@ -52,14 +52,29 @@ fn called(alloc: Global, c: &mut RingCompletion, pick: Pick, line: &str) -> Resu
     }
 }
 
-/// Fails unless each call of a script has its answer, one after the other on a new completion.
-fn check(alloc: Global, presentation: &str, pick: Pick, script: &[&str]) -> Result<(), Fail> {
-    let mut c = started(alloc, presentation)?;
+/// Fails unless the call of a line has its answer.
+fn see(alloc: Global, c: &mut RingCompletion, pick: Pick, line: &str) -> Result<(), Fail>
+    requires { IsAtRest c.old }
+    ensures { IfOk result (λ _. IsAtRest c.new) }
+{
+    let answer = called(alloc, c, pick, line)?;
+    judge(line, answer.as_str())
+}
+
+/// Fails unless each call of a script has its answer, one after the other.
+fn see_all(alloc: Global, c: &mut RingCompletion, pick: Pick, script: &[&str]) -> Result<(), Fail>
+    requires { IsAtRest c.old }
+{
     'lines: for line in script {
-        let answer = called(alloc, &mut c, pick, line)?;
-        judge(line, answer.as_str())?;
+        see(alloc, c, pick, line)?;
     }
     Ok(())
+}
+
+/// The same on a new completion.
+fn check(alloc: Global, presentation: &str, pick: Pick, script: &[&str]) -> Result<(), Fail> {
+    let mut c = started(alloc, presentation)?;
+    see_all(alloc, &mut c, pick, script)
 }
 
 /// The same for runs that take the first candidate, and for those that take the last one.

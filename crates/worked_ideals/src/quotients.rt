@@ -1,75 +1,26 @@
 //! Ideals whose leads and normal forms were worked out by hand.
-ghost use Rattle.std.specs.Prelude.{◌≡◌, ◌≤◌, IfOk};
-ghost use Rattle.word_field.specs.Residues.{residues};
-ghost use Rattle.monomial_order.specs.Limits.{degree_max};
-ghost use Rattle.poly_core.specs.Presentation.{weight_order_of, presented};
-ghost use Rattle.quotient_gb.specs.Quotient.{IsQuotientOf};
-ghost use Rattle.worked_rows.specs.Rings.{IsIn, IsRing};
+ghost use Rattle.worked_ideals.specs.Cases.{IsCase};
 
+use crate::cases::{Case, case_of, close, extend, is_standard, normal_text};
 use crate::leads::are_monomials;
-use monomial_order::{Order, WeightOrder};
-use poly_core::Poly;
-use quotient_gb::Quotient;
 use std::alloc::Global;
 use std::test::Fail;
-use word_field::WordField;
-use worked_rows::monomials::monomial;
-use worked_rows::rings::{Ring, polynomial, ring, text_of};
 use worked_rows::rows::{ensure, judge, number, part};
-use worked_words::zeros::{CLOSING_MAX, DEGREE_MAX};
+use worked_words::zeros::DEGREE_MAX;
 
-/// The ring modulo the ideal of a row: its size, names, weights, order, and the generators of the ideal.
-fn ring_of(alloc: Global, row: &str) -> Result<Ring, Fail>
-    ensures { IfOk result IsRing }
-{
-    let size = part(row, 0);
-    let names = part(row, 1);
-    let weights = part(row, 2);
-    let order = part(row, 3);
-    let ideal = ideal(alloc, part(row, 4))?;
-    let text = format!(in alloc;
-        "subalgebra 1\nfield {size}\nvars {names}\nweights {weights}\norder {order}\n{ideal}generators 0\nend\n"
-    )?;
-    ring(alloc, text.as_str())
-}
-
-/// The lines of the ideal with these generators.
-fn ideal(alloc: Global, generators: &str) -> Result<String, Fail> {
-    let mut count: u32 = 0;
-    let mut lines = String::new(alloc);
-    for generator in generators.split(", ") {
-        count = count.saturating_add(1);
-        lines.push_str("\n")?;
-        lines.push_str(generator)?;
-    }
-    Ok(format!(in alloc; "ideal {count}{lines}\n")?)
-}
-
-/// The quotient to half of the degree and then to the degree.
-fn quotient_to(
-    alloc: Global,
-    p: &Ring,
-    degree: u32,
-) -> Result<Quotient<WordField, WeightOrder>, Fail>
-    requires valid { IsRing p.now }
-    requires small { degree ≤ degree_max }
-    ensures quotient { IfOk result (IsQuotientOf (presented (λ f. residues f.modulus) weight_order_of p.now)) }
-    ensures degree { IfOk result (λ q. q.degree ≡ degree) }
-{
-    let mut quotient = Quotient::new(alloc, p)?;
-    quotient.extend_to(alloc, p, degree / 2)?;
-    quotient.extend_to(alloc, p, degree)?;
-    Ok(quotient)
+/// Compares the leads of the ideal of a row's case.
+fn see_leads_in(alloc: Global, case: &Case, row: &str) -> Result<(), Fail> {
+    ensure(!case.quotient.known_closed(), row)?;
+    ensure(
+        are_monomials(alloc, case.quotient.leads(), part(row, 6))?,
+        row,
+    )
 }
 
 /// Compares the leads of a row's ideal to a degree.
 fn see_leads(alloc: Global, row: &str) -> Result<(), Fail> {
-    let p = ring_of(alloc, row)?;
-    let degree = number(part(row, 5))?;
-    ensure(degree <= DEGREE_MAX, row)?;
-    let quotient = quotient_to(alloc, &p, degree)?;
-    ensure(!quotient.known_closed(), row)?;
-    ensure(are_monomials(alloc, quotient.leads(), part(row, 6))?, row)
+    let case = case_of(alloc, row)?;
+    see_leads_in(alloc, &case, row)
 }
 
 #[test]
@@ -101,42 +52,20 @@ fn leads_of_small_ideals(rt: HostRuntime) -> Result<(), Fail> {
     Ok(())
 }
 
-/// The normal form of a polynomial. If its degree is above that of the quotient, this finds the quotient closed first.
-fn normal_form(
-    alloc: Global,
-    p: &Ring,
-    quotient: &mut Quotient<WordField, WeightOrder>,
-    degree: u32,
-    a: &Poly<WordField>,
-) -> Result<Poly<WordField>, Fail>
-    requires valid { IsRing p.now }
-    requires quotient { IsQuotientOf (presented (λ f. residues f.modulus) weight_order_of p.now) quotient.old }
-    requires degree { quotient.old.degree ≡ degree }
-    requires canonical { IsIn p.now a.now }
-    ensures { IfOk result (IsIn p.now) }
+/// The normal form of a polynomial, and which of two monomials are standard, in the case of a row.
+fn answer_in(alloc: Global, case: &mut Case, row: &str) -> Result<String, Fail>
+    requires { IsCase case.old.ring case.old.degree case.old.quotient }
 {
-    let first = a.lead().ok_or("zero")?;
-    if p.order.degree(&first.at) <= degree {
-        return Ok(quotient.normal_form(alloc, p, a)?);
-    }
-    ensure(degree <= CLOSING_MAX, "a great degree")?;
-    let closed = quotient.closed(alloc, p)?;
-    ensure(closed, "not closed")?;
-    Ok(quotient.normal_form(alloc, p, a)?)
+    let text = normal_text(alloc, case, part(row, 6))?;
+    let is_first_standard = is_standard(alloc, case, part(row, 7))?;
+    let is_other_standard = is_standard(alloc, case, part(row, 8))?;
+    Ok(format!(in alloc; "{text}, {is_first_standard}, {is_other_standard}")?)
 }
 
-/// The normal form of a polynomial, and which of two monomials are standard.
+/// The answer to a row.
 fn answer(alloc: Global, row: &str) -> Result<String, Fail> {
-    let p = ring_of(alloc, row)?;
-    let degree = number(part(row, 5))?;
-    ensure(degree <= DEGREE_MAX, row)?;
-    let mut quotient = quotient_to(alloc, &p, degree)?;
-    let a = polynomial(alloc, &p, part(row, 6))?;
-    let found = normal_form(alloc, &p, &mut quotient, degree, &a)?;
-    let text = text_of(alloc, &p, &found)?;
-    let is_standard = quotient.is_standard(&monomial(alloc, part(row, 7))?);
-    let is_other_standard = quotient.is_standard(&monomial(alloc, part(row, 8))?);
-    Ok(format!(in alloc; "{text}, {is_standard}, {is_other_standard}")?)
+    let mut case = case_of(alloc, row)?;
+    answer_in(alloc, &mut case, row)
 }
 
 #[test]
@@ -156,19 +85,26 @@ fn normal_forms(rt: HostRuntime) -> Result<(), Fail> {
     Ok(())
 }
 
-/// Compares whether the quotient to a degree is closed, and its leads to a greater degree.
-fn see_closed(alloc: Global, row: &str) -> Result<(), Fail> {
-    let p = ring_of(alloc, row)?;
-    let degree = number(part(row, 5))?;
-    ensure(degree <= CLOSING_MAX, row)?;
-    let mut quotient = quotient_to(alloc, &p, degree)?;
-    let closed = quotient.closed(alloc, &p)?;
+/// Compares whether the quotient of a row's case is closed, and its leads to a greater degree.
+fn see_closed_in(alloc: Global, case: &mut Case, row: &str) -> Result<(), Fail>
+    requires { IsCase case.old.ring case.old.degree case.old.quotient }
+{
+    let closed = close(alloc, case)?;
     ensure(closed == (part(row, 6) == "closed"), row)?;
     let greater = number(part(row, 7))?;
     ensure(greater <= DEGREE_MAX, row)?;
-    quotient.extend_to(alloc, &p, greater)?;
-    ensure(quotient.known_closed() == closed, row)?;
-    ensure(are_monomials(alloc, quotient.leads(), part(row, 8))?, row)
+    extend(alloc, case, greater)?;
+    ensure(case.quotient.known_closed() == closed, row)?;
+    ensure(
+        are_monomials(alloc, case.quotient.leads(), part(row, 8))?,
+        row,
+    )
+}
+
+/// Compares whether the quotient to the degree of a row is closed, and its leads to a greater degree.
+fn see_closed(alloc: Global, row: &str) -> Result<(), Fail> {
+    let mut case = case_of(alloc, row)?;
+    see_closed_in(alloc, &mut case, row)
 }
 
 #[test]

@@ -1,9 +1,9 @@
 //! Tables of rules: x of degree 1, and letters for x^2 and x^3.
-ghost use Rattle.std.specs.Prelude.{◌≡◌, ◌∷◌, [], take, IfOk};
-ghost use Rattle.monomial_order.specs.Monomial.{IsTrimmed};
+ghost use Rattle.std.specs.Prelude.{◌≡◌, ◌≢◌, ◌<◌, ℕ, ◌∷◌, ◌++◌, [], length, take, IfOk, OnOk, Some};
+ghost use Rattle.monomial_order.specs.Monomial.{least_common_multiple, IsTrimmed};
 ghost use Rattle.word_laws.specs.Words.{word_order_of};
 ghost use Rattle.word_rewriting.specs.Samples.{sample_rules, square_and_cube};
-ghost use Rattle.word_rules.specs.Rules.{IsSmallWord};
+ghost use Rattle.word_rules.specs.Rules.{rule_at, IsSmallWord};
 
 use monomial_order::{Monomial, WordOrder};
 use std::alloc::Global;
@@ -31,19 +31,28 @@ fn exact(alloc: Global, exponents: &[u16]) -> Result<Monomial, Fail>
     Ok(Monomial::from_places(alloc, exponents)?)
 }
 
+/// Adds the rule from one word to another.
+fn push_rule(alloc: Global, table: &mut RuleTable, left: &[u16], right: &[u16]) -> Result<(), Fail>
+    requires trimmed { IsTrimmed left.now }
+    requires trimmed_right { IsTrimmed right.now }
+    requires nonempty { left.now ≢ [] }
+    ensures { OnOk result (table.new ≡ table.old ++ record { left = left.now; right = Some right.now } ∷ []) }
+{
+    let left = exact(alloc, left)?;
+    let right = exact(alloc, right)?;
+    table.push(alloc, left, Some(right))?;
+    Ok(())
+}
+
 /// The rules x^2 to s1, x*s1 to s2, x*s2 to s1^2, and s1^3 to s2^2.
 fn table(alloc: Global) -> Result<RuleTable, Fail>
     ensures { IfOk result (λ t. t ≡ sample_rules) }
 {
     let mut table = RuleTable::new(alloc);
-    let (left, right) = (exact(alloc, &[2])?, exact(alloc, &[0, 1])?);
-    table.push(alloc, left, Some(right))?;
-    let (left, right) = (exact(alloc, &[1, 1])?, exact(alloc, &[0, 0, 1])?);
-    table.push(alloc, left, Some(right))?;
-    let (left, right) = (exact(alloc, &[1, 0, 1])?, exact(alloc, &[0, 2])?);
-    table.push(alloc, left, Some(right))?;
-    let (left, right) = (exact(alloc, &[0, 3])?, exact(alloc, &[0, 0, 2])?);
-    table.push(alloc, left, Some(right))?;
+    push_rule(alloc, &mut table, &[2], &[0, 1])?;
+    push_rule(alloc, &mut table, &[1, 1], &[0, 0, 1])?;
+    push_rule(alloc, &mut table, &[1, 0, 1], &[0, 2])?;
+    push_rule(alloc, &mut table, &[0, 3], &[0, 0, 2])?;
     Ok(table)
 }
 
@@ -76,31 +85,74 @@ fn first_rules(alloc: Global, n: usize) -> Result<RuleTable, Fail>
     Ok(table)
 }
 
+/// Whether the least common multiple of two left sides is the word of a text. Fails if it is no small word.
+fn multiple_is(
+    alloc: Global,
+    table: &RuleTable,
+    i: usize,
+    j: usize,
+    text: &str,
+) -> Result<bool, Fail>
+    requires first { i < length table.now }
+    requires second { j < length table.now }
+    ensures small { IfOk result (λ _. IsSmallWord (word_order_of square_and_cube)
+        (least_common_multiple (rule_at table.now i).left (rule_at table.now j).left)) }
+{
+    let multiple = table.left(i).lcm(alloc, table.left(j))?;
+    check_small(&multiple)?;
+    Ok(is_word(alloc, 1, Some(&multiple), text)?)
+}
+
+/// Whether the least common multiple has the degree, and the members a common letter, that the row tells.
+fn looks_like(table: &RuleTable, i: usize, j: usize, row: &str) -> Result<bool, Fail>
+    requires first { i < length table.now }
+    requires second { j < length table.now }
+    requires small { IsSmallWord (word_order_of square_and_cube)
+        (least_common_multiple (rule_at table.now i).left (rule_at table.now j).left) }
+{
+    let has_degree = table.lcm_degree(&[1], &[2, 3], i, j) == number(part(row, 3))?;
+    let has_common_letter = part(row, 4) == "common letter";
+    Ok(has_degree && table.has_common_letter(i, j) == has_common_letter)
+}
+
+/// Whether these are the two normal forms that the row tells.
+fn are_forms(
+    alloc: Global,
+    u: Option<&Monomial>,
+    v: Option<&Monomial>,
+    row: &str,
+) -> Result<bool, Fail> {
+    Ok(is_word(alloc, 1, u, part(row, 5))? && is_word(alloc, 1, v, part(row, 6))?)
+}
+
+/// Whether the members have the normal forms that the row tells.
+fn forms_are(alloc: Global, table: &RuleTable, i: usize, j: usize, row: &str) -> Result<bool, Fail>
+    requires rules { (n : ℕ) × (table.now ≡ take n sample_rules) }
+    requires first { i < length table.now }
+    requires second { j < length table.now }
+    requires small { IsSmallWord (word_order_of square_and_cube)
+        (least_common_multiple (rule_at table.now i).left (rule_at table.now j).left) }
+{
+    word_rewriting::sample();
+    let order = order(alloc)?;
+    match table.different_forms(alloc, &order, i, j)? {
+        None => Ok(part(row, 5) == "same"),
+        Some((u, v)) => are_forms(alloc, u.as_ref(), v.as_ref(), row),
+    }
+}
+
 /// Whether the critical pair of two of the first n rules has the least common multiple, its degree, a letter in both
 /// members or none, and the different normal forms that the row tells.
 fn pair_is(alloc: Global, n: usize, row: &str) -> Result<bool, Fail> {
-    word_rewriting::sample();
-    let table = first_rules(alloc, n)?;
-    let order = order(alloc)?;
     let i = number(part(row, 0))? as usize;
     let j = number(part(row, 1))? as usize;
+    let table = first_rules(alloc, n)?;
     ensure(i < table.len() && j < table.len(), "no such rule")?;
-    let multiple = table.left(i).lcm(alloc, table.left(j))?;
-    check_small(&multiple)?;
-    let degree = table.lcm_degree(&[1], &[2, 3], i, j);
-    if !is_word(alloc, 1, Some(&multiple), part(row, 2))? || degree != number(part(row, 3))? {
-        return Ok(false);
-    }
-    if table.has_common_letter(i, j) != (part(row, 4) == "common letter") {
-        return Ok(false);
-    }
-    match table.different_forms(alloc, &order, i, j)? {
-        None => Ok(part(row, 5) == "same"),
-        Some((u, v)) => Ok(
-            is_word(alloc, 1, u.as_ref(), part(row, 5))?
-                && is_word(alloc, 1, v.as_ref(), part(row, 6))?,
-        ),
-    }
+    Ok(
+        multiple_is(alloc, &table, i, j, part(row, 2))?
+            && looks_like(&table, i, j, row)?
+            && forms_are(alloc, &table, i, j, row)?,
+    )
 }
 
 /// Whether these are the indexes of the earlier rules that share a letter with a rule, in some order.
@@ -168,18 +220,31 @@ fn pairs_have_different_normal_forms(rt: HostRuntime) -> Result<(), Fail> {
 #[test]
 fn rules_share_letters(rt: HostRuntime) -> Result<(), Fail> {
     let alloc = rt.alloc();
-    let mut table = table(alloc)?;
+    let table = table(alloc)?;
     let mut marks = Marks::new(alloc);
     for (j, row) in ["", "0", "0 1", "1"].iter().enumerate() {
         ensure(shares(alloc, &table, &mut marks, j, row)?, row)?;
     }
+    Ok(())
+}
+
+/// The rules and one from s1*s2 to zero.
+fn longer_table(alloc: Global) -> Result<RuleTable, Fail> {
+    let mut table = table(alloc)?;
     let last = exact(alloc, &[0, 1, 1])?;
-    table.push(alloc, last.copy(alloc)?, None)?;
+    table.push(alloc, last, None)?;
+    Ok(table)
+}
+
+#[test]
+fn a_rule_to_zero(rt: HostRuntime) -> Result<(), Fail> {
+    let alloc = rt.alloc();
+    let mut table = longer_table(alloc)?;
+    ensure(table.len() == 5, "five rules")?;
+    let mut marks = Marks::new(alloc);
     ensure(shares(alloc, &table, &mut marks, 4, "1 2 3")?, "s1*s2")?;
-    ensure(
-        table.right(4).is_none() && *table.left(4) == last,
-        "a rule to zero",
-    )?;
+    ensure(table.right(4).is_none(), "a right side")?;
+    ensure(is_word(alloc, 1, Some(table.left(4)), "s1*s2")?, "s1*s2")?;
     table.truncate(4);
     ensure(table.len() == 4, "no rule to zero")
 }

@@ -29,16 +29,20 @@ fn step(
     }
 }
 
+/// The factors of the monomial of a text, or its least word.
+fn found(alloc: Global, words: &Words, verb: &str, text: &str) -> Result<Option<Monomial>, Fail> {
+    let m = monomial(alloc, text)?;
+    if verb == "factor" {
+        return factor(alloc, words, &m);
+    }
+    least(alloc, words, &m)
+}
+
 /// Compares the factors or the least word of a monomial, as in `factor x^2*y = s1*s2`.
 fn look(alloc: Global, words: &Words, step: &str) -> Result<(), Fail> {
     let (left, expected) = step.split_once(" = ").ok_or("no step")?;
     let (verb, what) = left.split_once(' ').ok_or("no step")?;
-    let m = monomial(alloc, what)?;
-    let found = if verb == "factor" {
-        factor(alloc, words, &m)?
-    } else {
-        least(alloc, words, &m)?
-    };
+    let found = found(alloc, words, verb, what)?;
     let n = x_degrees(words).len();
     ensure(is_word(alloc, n, found.as_ref(), expected)?, step)
 }
@@ -64,16 +68,27 @@ fn are_rules(alloc: Global, n: usize, rules: &[Rule], text: &str) -> Result<bool
     Ok(rest.next().is_none())
 }
 
+/// No leads, over variables of the degrees of a text.
+fn first_words(alloc: Global, text: &str) -> Result<Words, Fail> {
+    let degrees = numbers(alloc, text)?;
+    ensure(are_degrees(degrees.as_slice()), "no degrees")?;
+    Ok(Words::new(alloc, degrees.as_slice())?)
+}
+
+/// Does the steps of a text.
+fn walk(alloc: Global, words: &mut Words, steps: &str) -> Result<(), Fail> {
+    let mut zeros = Vec::new(alloc);
+    for text in steps.split(", ") {
+        step(alloc, words, &mut zeros, text)?;
+    }
+    Ok(())
+}
+
 /// Compares the rules after the steps: the degrees of x, y and z, the steps and the rules.
 fn see_rules(alloc: Global, row: &str) -> Result<(), Fail> {
-    let degrees = numbers(alloc, part(row, 0))?;
-    ensure(are_degrees(degrees.as_slice()), "no degrees")?;
-    let mut words = Words::new(alloc, degrees.as_slice())?;
-    let mut zeros = Vec::new(alloc);
-    for text in part(row, 1).split(", ") {
-        step(alloc, &mut words, &mut zeros, text)?;
-    }
-    let n = degrees.len();
+    let mut words = first_words(alloc, part(row, 0))?;
+    walk(alloc, &mut words, part(row, 1))?;
+    let n = x_degrees(&words).len();
     ensure(are_rules(alloc, n, words.rules(), part(row, 2))?, row)
 }
 

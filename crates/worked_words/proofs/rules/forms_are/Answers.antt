@@ -1,4 +1,4 @@
-use Rattle.std.proofs.Common.{◌≡◌, ◌<◌, ℕ, List, [], ◌∷◌, length, get_or, take, sym, ◌∙◌, ap, subst, arith}
+use Rattle.std.proofs.Common.{◌<◌, ℕ, List, [], ◌∷◌, take, sym, ◌∙◌, ap, subst, arith}
 use Rattle.std.specs.Prelude.{Contains}
 use Rattle.std.proofs.lemmas.List.{get_or-take, length-take}
 use Rattle.monomial_order.specs.Monomial.{IsMultiple}
@@ -6,10 +6,9 @@ use Rattle.monomial_order.specs.Orders.{word_order}
 use Rattle.word_laws.specs.Words.{word_order_of}
 use Rattle.word_rewriting.specs.Rewriting.{RewriteRule}
 use Rattle.word_rewriting.specs.Samples.{sample_rules, square_and_cube}
-use Rattle.word_rewriting.specs.laws.Confluence.{IsDecreasingRule}
 use Rattle.word_rewriting.specs.laws.Criterion.{decreasing_rules}
 use Rattle.word_rules.specs.Rules.{AreDecreasing}
-use Rattle.worked_words.proofs.rules.pair_is.Goals as goal
+use Rattle.worked_words.proofs.rules.forms_are.Goals as goal
 
 -- a rule among the first n is one of the rules
 listed : (n : ℕ) (R : List RewriteRule) (r : RewriteRule) → Contains (take n R) r → Contains R r
@@ -21,6 +20,6 @@ listed n R r h =
 pub different_forms-requires-clause-decreasing : goal.different_forms-requires-clause-decreasing
 different_forms-requires-clause-decreasing c =
     let order = ap (λ xs. word_order xs c.in_ok-order.order.s_degrees.items) c.in_ok-order.ensures.x ∙ ap (word_order (1 ∷ [])) c.in_ok-order.ensures.s in
-    subst (λ O. AreDecreasing O c.in_ok-table.table) (sym order)
-    (subst (AreDecreasing (word_order_of square_and_cube)) (sym c.in_ok-table.ensures)
-    (λ r h. decreasing_rules (IsMultiple []) square_and_cube sample_rules c.sample.ensures.rules r (listed c.args.n sample_rules r h)))
+    subst (λ O. AreDecreasing O c.args.table.now) (sym order)
+    (subst (AreDecreasing (word_order_of square_and_cube)) (sym c.requires.rules.1)
+    (λ r h. decreasing_rules (IsMultiple []) square_and_cube sample_rules c.sample.ensures.rules r (listed c.requires.rules.0 sample_rules r h)))
