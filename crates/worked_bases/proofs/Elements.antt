@@ -121,5 +121,12 @@ module _ (p : Presentation WordField WeightOrder ℕ) (V : IsRing p) where
           (subst (λ S. IsWitnessOrder (of_ring p) S w → IsTrackedElement (of_ring p) (by_order w) S t) (sym (map-append (λ t. t.value) s (t ∷ []))) (next.element (t.value ∷ [])) h);
     }
 
+  -- the generators and the next element, in the order with its letter
+  pub longer_basis : (s : List (Tracked WordField ℕ)) (t : Tracked WordField ℕ) (d : ℕ) (w v : WordOrder) (longer : List (Tracked WordField ℕ)) →
+      All (IsGeneratorElement p) s → IsWitnessOrder (of_ring p) (values_of s) w → v.x_degrees.items ≡ w.x_degrees.items →
+      v.s_degrees.items ≡ w.s_degrees.items ++ d ∷ [] → IsNext p v (values_of s) d t → longer ≡ s ++ t ∷ [] → IsBasis p v longer
+  longer_basis s t d w v longer each order ex es next e =
+      subst (IsBasis p v) (sym e) (push_basis s t v d each next (push_order s t d next.degree w v order ex es))
+
   pub low_degrees : (w : WordOrder) (h : Polynomial ℕ) → IsLow (by_order w) h → HasDegreesUpTo (residues p.field.modulus) (by_order w) 30000 h
   low_degrees w h low m n = all_found (residues p.field.modulus) V.presentation.field (by_order w) (by_laws w) (λ m. let W : MonomialOrder = by_order w in W.degree m ≤ 30000) h low m n

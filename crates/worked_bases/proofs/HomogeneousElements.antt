@@ -1,7 +1,6 @@
 -- Elements that tests make.
-use Rattle.std.proofs.Common.{◌≡◌, ◌≢◌, ◌≤◌, ℕ, sym, ◌∙◌, subst, List, [], ◌∷◌, ◌++◌, ⊎_elim, arith}
-use Rattle.std.specs.Prelude.{map, Contains}
-use Rattle.std.proofs.lemmas.List.{map-append}
+use Rattle.std.proofs.Common.{◌≡◌, ◌≤◌, ℕ, sym, ◌∙◌, subst, List, [], ◌∷◌, ◌++◌, ⊎_elim}
+use Rattle.std.specs.Prelude.{Contains}
 use Rattle.monomial_order.specs.declared.terms.Term.{Term}
 use Rattle.monomial_order.specs.laws.Lists.{contains_cases, contains_none, contains_here, contains_there}
 use Rattle.polynomials.specs.Polynomial.{Polynomial, IsCanonical, IsHomogeneous, IsZeroOrHomogeneous, IsDegree, lead_monomial}

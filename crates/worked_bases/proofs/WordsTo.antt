@@ -8,7 +8,7 @@ use Rattle.polynomials.specs.Subalgebra.{Presented, IsPresentation}
 use Rattle.word_laws.specs.Words.{lead_degrees, IsSWord}
 use Rattle.subalgebra_laws.specs.Words.{letters}
 use Rattle.subalgebra_laws.specs.laws.Letters.{letter_degrees, letter, letter_at, letter_word, s_one, s_product}
-use Rattle.word_values.specs.Values.{AreHomogeneousElements, word_degree}
+use Rattle.word_values.specs.Values.{AreHomogeneousElements}
 use Rattle.word_values.specs.laws.Letters.{product_degree, letter_degree}
 use Rattle.worked_bases.specs.WordsTo.{IsWordTo}
 

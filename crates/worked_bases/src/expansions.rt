@@ -189,6 +189,63 @@ fn judge_element(alloc: Global, p: &Ring, t: &Tracked<WordField>, text: &str) ->
     judge(text, found.as_str())
 }
 
+/// s1*s3.
+fn first_by_third(
+    alloc: Global,
+    p: &Ring,
+    w: &WordOrder,
+    s: &[Tracked<WordField>],
+) -> Result<Tracked<WordField>, Fail>
+    requires valid { IsRing p.now }
+    requires elements { All (IsGeneratorElement p.now) s.now }
+    requires room { HasPlaces (length p.now.generators.items + length s.now) w.now }
+    ensures pair { IfOk result (IsPair p.now w.now) }
+    ensures made { IfOk result (IsMade p.now w.now (values_of s.now) 4) }
+{
+    let a = letter(alloc, p, w, s, 0, 1)?;
+    judge_element(alloc, p, &a, "x + y by s1")?;
+    let c = letter(alloc, p, w, s, 2, 3)?;
+    let t = letter_product(alloc, p, w, &a, &c)?;
+    Ok(t)
+}
+
+/// s2^2.
+fn second_squared(
+    alloc: Global,
+    p: &Ring,
+    w: &WordOrder,
+    s: &[Tracked<WordField>],
+) -> Result<Tracked<WordField>, Fail>
+    requires valid { IsRing p.now }
+    requires elements { All (IsGeneratorElement p.now) s.now }
+    requires room { HasPlaces (length p.now.generators.items + length s.now) w.now }
+    ensures pair { IfOk result (IsPair p.now w.now) }
+    ensures made { IfOk result (IsMade p.now w.now (values_of s.now) 4) }
+{
+    let b = letter(alloc, p, w, s, 1, 2)?;
+    let t = letter_product(alloc, p, w, &b, &b)?;
+    Ok(t)
+}
+
+/// s1*s3 + 100*s2^2.
+fn products_difference(
+    alloc: Global,
+    p: &Ring,
+    w: &WordOrder,
+    s: &[Tracked<WordField>],
+) -> Result<Tracked<WordField>, Fail>
+    requires valid { IsRing p.now }
+    requires elements { All (IsGeneratorElement p.now) s.now }
+    requires room { HasPlaces (length p.now.generators.items + length s.now) w.now }
+    ensures pair { IfOk result (IsPair p.now w.now) }
+    ensures made { IfOk result (IsMade p.now w.now (values_of s.now) 4) }
+{
+    let first = first_by_third(alloc, p, w, s)?;
+    let second = second_squared(alloc, p, w, s)?;
+    let t = difference(alloc, p, w, &first, &second)?;
+    Ok(t)
+}
+
 /// The element s1*s3 + 100*s2^2, which is x*y^3.
 fn fourth(
     alloc: Global,
@@ -201,13 +258,7 @@ fn fourth(
     requires room { HasPlaces (length p.now.generators.items + length s.now) w.now }
     ensures { IfOk result (IsNext p.now w.now (values_of s.now) 4) }
 {
-    let a = letter(alloc, p, w, s, 0, 1)?;
-    let b = letter(alloc, p, w, s, 1, 2)?;
-    let c = letter(alloc, p, w, s, 2, 3)?;
-    judge_element(alloc, p, &a, "x + y by s1")?;
-    let first = letter_product(alloc, p, w, &a, &c)?;
-    let second = letter_product(alloc, p, w, &b, &b)?;
-    let t = difference(alloc, p, w, &first, &second)?;
+    let t = products_difference(alloc, p, w, s)?;
     judge_element(alloc, p, &t, "x*y^3 by s1*s3 + 100*s2^2")?;
     ensure(degree(p, &t.value) == 4, "another degree")?;
     ensure(
@@ -217,17 +268,27 @@ fn fourth(
     Ok(t)
 }
 
+/// The generators as elements, with the order of witnesses over them.
+fn generator_basis(alloc: Global, p: &Ring) -> Result<Basis, Fail>
+    requires { IsRing p.now }
+    ensures elements { IfOk result (λ b. All (IsGeneratorElement p.now) b.elements.items) }
+    ensures order { IfOk result (λ b. IsWitnessOrder (of_ring p.now) (values_of b.elements.items) b.order) }
+{
+    let elements = generators(alloc, p)?;
+    let order = witness_order(alloc, p, elements.as_slice())?;
+    Ok(Basis { order, elements })
+}
+
 /// The generators and the fourth element.
 fn four_elements(alloc: Global, p: &Ring) -> Result<Basis, Fail>
     requires { IsRing p.now }
     ensures { IfOk result (λ b. IsBasis p.now b.order b.elements.items) }
 {
-    let mut elements = generators(alloc, p)?;
-    let mut order = witness_order(alloc, p, elements.as_slice())?;
-    order.push_place(4)?;
-    let t = fourth(alloc, p, &order, elements.as_slice())?;
-    elements.push(t)?;
-    Ok(Basis { order, elements })
+    let mut b = generator_basis(alloc, p)?;
+    b.order.push_place(4)?;
+    let t = fourth(alloc, p, &b.order, b.elements.as_slice())?;
+    b.elements.push(t)?;
+    Ok(b)
 }
 
 /// The witness of a text. The letters are named as the variables of the other presentation.
@@ -267,12 +328,29 @@ fn expansion(
     witness_text(alloc, p, &e)
 }
 
-#[test]
-fn witnesses_in_the_generators_alone(rt: HostRuntime) -> Result<(), Fail> {
-    let alloc = rt.alloc();
-    let p = ring(alloc, SUM_AND_PRODUCTS)?;
-    let b = four_elements(alloc, &p)?;
-    let letters = ring(alloc, LETTERS)?;
+/// Compares the expansion of a row's witness over the basis.
+fn see_expansion(alloc: Global, p: &Ring, letters: &Ring, b: &Basis, row: &str) -> Result<(), Fail>
+    requires valid { IsRing p.now }
+    requires letters { IsRing letters.now }
+    requires basis { IsBasis p.now b.now.order b.now.elements.items }
+{
+    let found = expansion(
+        alloc,
+        p,
+        letters,
+        &b.order,
+        b.elements.as_slice(),
+        part(row, 0),
+    )?;
+    judge(row, found.as_str())
+}
+
+/// Compares each of the expansions over the basis.
+fn see_expansions(alloc: Global, p: &Ring, letters: &Ring, b: &Basis) -> Result<(), Fail>
+    requires valid { IsRing p.now }
+    requires letters { IsRing letters.now }
+    requires basis { IsBasis p.now b.now.order b.now.elements.items }
+{
     for row in [
         "s1*s3 + 100*s2^2 | g1*g3 + 100*g2^2",
         // two steps: a letter of degree 4, and letters of smaller degrees
@@ -286,15 +364,24 @@ fn witnesses_in_the_generators_alone(rt: HostRuntime) -> Result<(), Fail> {
         "s1^2*s3^2 + s2^3 + 5 | g1^2*g3^2 + g2^3 + 5",
         "0 | 0",
     ] {
-        let found = expansion(
-            alloc,
-            &p,
-            &letters,
-            &b.order,
-            b.elements.as_slice(),
-            part(row, 0),
-        )?;
-        judge(row, found.as_str())?;
+        see_expansion(alloc, p, letters, b, row)?;
     }
     Ok(())
+}
+
+/// The same over the generators and the fourth element.
+fn see_four(alloc: Global, p: &Ring, letters: &Ring) -> Result<(), Fail>
+    requires valid { IsRing p.now }
+    requires letters { IsRing letters.now }
+{
+    let b = four_elements(alloc, p)?;
+    see_expansions(alloc, p, letters, &b)
+}
+
+#[test]
+fn witnesses_in_the_generators_alone(rt: HostRuntime) -> Result<(), Fail> {
+    let alloc = rt.alloc();
+    let p = ring(alloc, SUM_AND_PRODUCTS)?;
+    let letters = ring(alloc, LETTERS)?;
+    see_four(alloc, &p, &letters)
 }

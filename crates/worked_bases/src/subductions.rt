@@ -1,10 +1,12 @@
 //! Subduction by bases of the generators, worked out by hand.
-ghost use Rattle.std.specs.Prelude.{ℕ, ◌<◌, ◌≤◌, length, IfOk};
+ghost use Rattle.std.specs.Prelude.{ℕ, ◌≡◌, ◌<◌, ◌≤◌, length, IfOk};
 ghost use Rattle.word_field.specs.Residues.{residues};
 ghost use Rattle.monomial_order.specs.MonomialOrder.{MonomialOrder};
-ghost use Rattle.polynomials.specs.Polynomial.{IsCanonical};
+ghost use Rattle.poly_core.specs.Presentation.{weight_order_of};
+ghost use Rattle.polynomials.specs.Polynomial.{degree_of, IsCanonical};
 ghost use Rattle.worked_rows.specs.Rings.{IsRing};
-ghost use Rattle.worked_bases.specs.LowBases.{IsLowBasis};
+ghost use Rattle.worked_bases.specs.Elements.{IsGeneratorElement};
+ghost use Rattle.worked_bases.specs.LowBases.{IsCase, IsLowBasis};
 
 use crate::expansions::nonzero_generator;
 use monomial_order::WeightOrder;
@@ -33,6 +35,35 @@ const ONE_TOO_MANY: &str =
 const QUADRICS: &str =
     "subalgebra 1\nfield 101\nvars x y\nweights 1 1\norder lex\nideal 0\ngenerators 2\nx^2 + y^2\nx^2 + x*y\nend\n";
 
+/// A ring with a basis of its generators.
+#[derive(Drop)]
+pub(crate) struct Case {
+    pub(crate) ring: Ring,
+    pub(crate) basis: Basis<WordField, WeightOrder>,
+}
+
+/// Adds what is left of a generator of the last degree, if something is left.
+fn add_rest(
+    alloc: Global,
+    p: &Ring,
+    b: &mut Basis<WordField, WeightOrder>,
+    t: &Tracked<WordField>,
+) -> Result<(), Fail>
+    requires valid { IsRing p.now }
+    requires basis { IsLowBasis p.now b.old }
+    requires element { IsGeneratorElement p.now t.now }
+    requires degree { degree_of (weight_order_of p.now.order) t.now.value ≡ b.old.words.degree }
+    requires low { b.old.words.degree ≤ 30000 }
+    ensures { IfOk result (λ _. IsLowBasis p.now b.new) }
+{
+    let s = subduce(alloc, p, b, t)?;
+    let Some(_first) = s.rest.value.lead() else {
+        return Ok(());
+    };
+    b.push(alloc, p, s.rest)?;
+    Ok(())
+}
+
 /// Adds what is left of a generator, if it has the last degree and something is left.
 fn take_generator(
     alloc: Global,
@@ -51,12 +82,7 @@ fn take_generator(
         return Ok(());
     }
     ensure(d <= 30_000, "a great degree")?;
-    let s = subduce(alloc, p, b, &t)?;
-    let Some(_first) = s.rest.value.lead() else {
-        return Ok(());
-    };
-    b.push(alloc, p, s.rest)?;
-    Ok(())
+    add_rest(alloc, p, b, &t)
 }
 
 /// Takes the generators of this degree.
@@ -143,16 +169,56 @@ fn subduced(
     Ok(format!(in alloc; "{word_sum}; {rest}")?)
 }
 
+/// A ring with what its generators leave to this degree.
+fn begin(alloc: Global, presentation: &str, bound: u32) -> Result<Case, Fail>
+    ensures { IfOk result (λ c. IsCase c.ring c.basis) }
+{
+    let ring = ring(alloc, presentation)?;
+    let basis = basis(alloc, &ring, bound)?;
+    Ok(Case { ring, basis })
+}
+
+/// Extends the basis of a case to a degree of at most 15000.
+fn extend_case(alloc: Global, case: &mut Case, d: u32) -> Result<(), Fail>
+    requires { IsCase case.old.ring case.old.basis }
+    ensures { IfOk result (λ _. IsCase case.new.ring case.new.basis) }
+{
+    extend(alloc, &case.ring, &mut case.basis, d)
+}
+
+/// The basis of the generators to the degree of a row's first part, extended to the degree of its second part.
+pub(crate) fn case_of(alloc: Global, presentation: &str, row: &str) -> Result<Case, Fail>
+    ensures { IfOk result (λ c. IsCase c.ring c.basis) }
+{
+    let first = number(part(row, 0))?;
+    let second = number(part(row, 1))?;
+    let mut case = begin(alloc, presentation, first)?;
+    extend_case(alloc, &mut case, second)?;
+    Ok(case)
+}
+
+/// The sum of words and the rest of the polynomial of a text, and whether the basis is closed.
+fn answer(alloc: Global, case: &mut Case, text: &str) -> Result<String, Fail>
+    requires { IsCase case.old.ring case.old.basis }
+{
+    let found = subduced(alloc, &case.ring, &case.basis, text)?;
+    let closed = case.basis.closed(alloc, &case.ring)?;
+    Ok(format!(in alloc; "{found}; {closed}")?)
+}
+
+/// Fails unless a row has the answer of its case.
+fn see_answer(alloc: Global, case: &mut Case, row: &str) -> Result<(), Fail>
+    requires { IsCase case.old.ring case.old.basis }
+{
+    let answer = answer(alloc, case, part(row, 2))?;
+    judge(row, answer.as_str())
+}
+
 /// Fails unless a row has the answer of the basis of the generators to its first part's degree, extended to the degree
 /// of its second part.
 fn check(alloc: Global, presentation: &str, row: &str) -> Result<(), Fail> {
-    let p = ring(alloc, presentation)?;
-    let mut b = basis(alloc, &p, number(part(row, 0))?)?;
-    extend(alloc, &p, &mut b, number(part(row, 1))?)?;
-    let found = subduced(alloc, &p, &b, part(row, 2))?;
-    let closed = b.closed(alloc, &p)?;
-    let answer = format!(in alloc; "{found}; {closed}")?;
-    judge(row, answer.as_str())
+    let mut case = case_of(alloc, presentation, row)?;
+    see_answer(alloc, &mut case, row)
 }
 
 #[test]

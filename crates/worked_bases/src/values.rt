@@ -82,6 +82,13 @@ fn elements(
     Ok(elements)
 }
 
+/// A word, and a bound of its degree.
+#[derive(Drop)]
+struct LowWord {
+    word: Monomial,
+    bound: u32,
+}
+
 /// The degree of an element.
 fn letter_degree(p: &Ring, elements: &[Tracked<WordField>], letter: usize) -> Result<u32, Fail>
     requires elements { AreHomogeneousElements (of_ring p.now) (values_of elements.now) }
@@ -119,6 +126,29 @@ fn longer(
     Ok(variable.times(alloc, word)?)
 }
 
+/// Adds the letter of a number, which is counted from 0.
+fn add_letter(
+    alloc: Global,
+    p: &Ring,
+    elements: &[Tracked<WordField>],
+    w: &mut LowWord,
+    number: &str,
+) -> Result<(), Fail>
+    requires valid { IsRing p.now }
+    requires elements { AreHomogeneousElements (of_ring p.now) (values_of elements.now) }
+    requires word { IsWordTo (of_ring p.now) (values_of elements.now) w.old.bound w.old.word }
+    ensures { let P = of_ring p.now in
+        IfOk result (λ _. IsWordTo P (values_of elements.now) w.new.bound w.new.word) }
+{
+    let letter = number.parse::<usize>()?;
+    ensure(letter < elements.len(), number)?;
+    let degree = letter_degree(p, elements, letter)?;
+    ensure(w.bound <= 30_000 && degree <= 30_000, number)?;
+    w.word = longer(alloc, p, elements, &w.word, w.bound, letter, degree)?;
+    w.bound += degree;
+    Ok(())
+}
+
 /// The word of letters, which are counted from 0.
 pub(crate) fn word_of(
     alloc: Global,
@@ -131,18 +161,15 @@ pub(crate) fn word_of(
     ensures { let P = of_ring p.now in
         IfOk result (IsWordTo P (values_of elements.now) 60000) }
 {
-    let mut word = Monomial::one(alloc);
-    let mut bound: u32 = 0;
+    let mut w = LowWord {
+        word: Monomial::one(alloc),
+        bound: 0,
+    };
     'letters: for number in list.split_whitespace() {
-        let letter = number.parse::<usize>()?;
-        ensure(letter < elements.len(), list)?;
-        let degree = letter_degree(p, elements, letter)?;
-        ensure(bound <= 30_000 && degree <= 30_000, list)?;
-        word = longer(alloc, p, elements, &word, bound, letter, degree)?;
-        bound += degree;
+        add_letter(alloc, p, elements, &mut w, number)?;
     }
-    ensure(bound <= 60_000, list)?;
-    Ok(word)
+    ensure(w.bound <= 60_000, list)?;
+    Ok(w.word)
 }
 
 /// The canonical text of the value of a word.

@@ -1,4 +1,4 @@
-use Rattle.std.proofs.Common.{◌≡◌, arith, subst, sym, ap, ◌∙◌, refl}
+use Rattle.std.proofs.Common.{subst, sym, ◌∙◌}
 use Rattle.polynomials.specs.Polynomial.{AllAt}
 use Rattle.witness.specs.Tracking.{values_of}
 use Rattle.worked_bases.specs.Elements.{UsesBelow}
@@ -6,16 +6,11 @@ use Rattle.worked_bases.proofs.Elements.{next_element, same_test}
 use Rattle.worked_bases.proofs.expansions.fourth.Goals as goal
 
 pub judge_element-requires-clause-pair : goal.judge_element-requires-clause-pair
-judge_element-requires-clause-pair c = (c.args.w.now, c.in_ok-a.ensures.pair)
-
-pub judge_element-requires-2-clause-pair : goal.judge_element-requires-2-clause-pair
-judge_element-requires-2-clause-pair c = (c.args.w.now, c.in_ok-t.ensures.pair)
+judge_element-requires-clause-pair c = (c.args.w.now, c.in_ok-t.ensures.pair)
 
 pub returns : goal.returns
 returns c =
-    let fs = values_of c.args.s.now in
-    next_element c.args.p.now c.requires.valid c.args.w.now fs 4 c.in_ok-t.t c.in_ok-t.ensures.pair
-    (c.in_ok-t.ensures.made fs 4 (c.in_ok-first.ensures.made fs 1 3 c.in_ok-a.ensures.made c.in_ok-c.ensures.made) (c.in_ok-second.ensures.made fs 2 2 c.in_ok-b.ensures.made c.in_ok-b.ensures.made))
+    next_element c.args.p.now c.requires.valid c.args.w.now (values_of c.args.s.now) 4 c.in_ok-t.t c.in_ok-t.ensures.pair c.in_ok-t.ensures.made
     (sym c.degree.ensures ∙ same_test c.degree.result 4 c.in_ok-ensure.ensures)
     (subst (λ ds. AllAt (UsesBelow ds 4) c.in_ok-t.t.by) c.as_slice.ensures.value
     (subst (λ h. AllAt (UsesBelow c.as_slice.result.now 4) h) c.terms.ensures (c.uses_below.ensures c.in_ok-ensure-2.ensures)))

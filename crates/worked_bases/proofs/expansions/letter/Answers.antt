@@ -1,4 +1,4 @@
-use Rattle.std.proofs.Common.{◌≡◌, ◌+◌, ◌-◌, ◌<◌, ◌++◌, ◌∙◌, sym, subst, length, arith}
+use Rattle.std.proofs.Common.{◌+◌, ◌-◌, ◌<◌, ◌++◌, ◌∙◌, sym, subst, length, arith}
 use Rattle.word_field.specs.Residues.{residues}
 use Rattle.poly_core.specs.Presentation.{weight_order_of}
 use Rattle.witness.specs.Tracking.{by_order, values_of, IsGradedPair}

@@ -1,5 +1,4 @@
-use Rattle.std.proofs.Common.{◌≡◌, ◌+◌, ◌<◌, true, arith}
-use Rattle.std.proofs.lemmas.Bool.Decides.{nat_tests}
+use Rattle.std.proofs.Common.{◌+◌, arith}
 use Rattle.worked_bases.proofs.Elements.{generator_in, generator_element, positive_test}
 use Rattle.worked_bases.proofs.expansions.nonzero_generator.Goals as goal
 

@@ -1,4 +1,4 @@
-use Rattle.std.proofs.Common.{◌≡◌, subst, sym, ◌∙◌}
+use Rattle.std.proofs.Common.{subst, sym, ◌∙◌}
 use Rattle.polynomial_text.specs.Canonical.{AreDifferent}
 use Rattle.polynomial_text.specs.laws.Names.{names_differ}
 use Rattle.worked_bases.proofs.Elements.{same_test}

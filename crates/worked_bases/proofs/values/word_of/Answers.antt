@@ -9,4 +9,4 @@ pub letters-init : goal.letters-init
 letters-init c =
     let P = of_ring c.args.p.now in
     let S = values_of c.args.elements.now in
-    subst (IsWordTo P S 0) (sym c.one-word.ensures) (one_to P S)
+    subst (IsWordTo P S 0) (sym c.one.ensures) (one_to P S)
