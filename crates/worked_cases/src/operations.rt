@@ -208,48 +208,43 @@ fn see_row(alloc: Global, p: &Ring, row: &str) -> Result<(), Fail>
     judge(row, answer(alloc, p, row)?.as_str())
 }
 
-/// Compares the answers to rows, each in a line.
-fn see_rows(alloc: Global, p: &Ring, rows: &str) -> Result<(), Fail>
+/// Compares the answers to all rows.
+fn see_operations(alloc: Global, p: &Ring) -> Result<(), Fail>
     requires { IsRing p.now }
 {
-    for row in rows.lines() {
+    for row in [
+        "y | plus | x | x + y",
+        "x + y | plus | 100*x | y",
+        "x + y | plus, taking | 100*x | y",
+        "x + y | minus | x + y | 0",
+        "x + y | times the term | 3*x | 3*x^2 + 3*x*y",
+        "x + y | times | x + y | x^2 + 2*x*y + y^2",
+        "x + y | times | 0 | 0",
+        "x + y | scaled by | 2 | 2*x + 2*y",
+        "x + y | scaled by | 101 | 0",
+        "2*x + 4*y | monic | 1 | x + 2*y",
+        "0 | monic | 1 | 0",
+        "2*x*y + 1 | copied | 1 | 2*x*y + 1",
+        "2*x*y + 1 | component | 1 | 0",
+        "x^2 + y | component | 1 | y",
+        "x^2 - 2*y | at | x + y\nx*y | x^2 + y^2",
+        "3 | at | x\ny | 3",
+        "0 | at | x\ny | 0",
+        // the first coefficient, the degree, and whether it is homogeneous
+        "2*x*y + 1 | has | 2, Some(2), false",
+        "x^2 + y | has | 1, Some(2), false",
+        "y | has | 1, Some(1), true",
+        "0 | has | 0, None, true",
+    ] {
         see_row(alloc, p, row)?;
     }
     Ok(())
 }
 
-/// Rows with what the operation makes.
-const MADE: &str = "\
-y | plus | x | x + y
-x + y | plus | 100*x | y
-x + y | plus, taking | 100*x | y
-x + y | minus | x + y | 0
-x + y | times the term | 3*x | 3*x^2 + 3*x*y
-x + y | times | x + y | x^2 + 2*x*y + y^2
-x + y | times | 0 | 0
-x + y | scaled by | 2 | 2*x + 2*y
-x + y | scaled by | 101 | 0
-2*x + 4*y | monic | 1 | x + 2*y
-0 | monic | 1 | 0
-2*x*y + 1 | copied | 1 | 2*x*y + 1
-2*x*y + 1 | component | 1 | 0
-x^2 + y | component | 1 | y";
-
-/// Rows with the first coefficient, the degree, and whether it is homogeneous.
-const HELD: &str = "\
-2*x*y + 1 | has | 2, Some(2), false
-x^2 + y | has | 1, Some(2), false
-y | has | 1, Some(1), true
-0 | has | 0, None, true";
-
 #[test]
 fn operations_of_polynomials(rt: HostRuntime) -> Result<(), Fail> {
     let p = ring(rt.alloc(), X_AND_Y)?;
-    see_rows(rt.alloc(), &p, MADE)?;
-    see_row(rt.alloc(), &p, "x^2 - 2*y | at | x + y\nx*y | x^2 + y^2")?;
-    see_row(rt.alloc(), &p, "3 | at | x\ny | 3")?;
-    see_row(rt.alloc(), &p, "0 | at | x\ny | 0")?;
-    see_rows(rt.alloc(), &p, HELD)
+    see_operations(rt.alloc(), &p)
 }
 
 /// How many terms there are, and the coefficient of the first, of polynomials that are made without a reader.
