@@ -90,12 +90,19 @@ fn compared(p: &Ring, a: &Poly<WordField>, b: &Poly<WordField>) -> Option<Orderi
     Some(p.order.compare(&a.at, &b.at))
 }
 
+/// How the order of a ring compares the two monomials of a row.
+fn outcome_in(alloc: Global, p: &Ring, row: &str) -> Result<Ordering, Fail>
+    requires { IsRing p.now }
+{
+    let a = polynomial(alloc, p, part(row, 3))?;
+    let b = polynomial(alloc, p, part(row, 4))?;
+    Ok(compared(p, &a, &b).ok_or("no monomial")?)
+}
+
 /// How the order of the row compares its two monomials.
 fn comparison(alloc: Global, row: &str) -> Result<String, Fail> {
     let p = ring_of(alloc, row)?;
-    let a = polynomial(alloc, &p, part(row, 3))?;
-    let b = polynomial(alloc, &p, part(row, 4))?;
-    let found = compared(&p, &a, &b).ok_or("no monomial")?;
+    let found = outcome_in(alloc, &p, row)?;
     Ok(format!(in alloc; "{found:?}")?)
 }
 

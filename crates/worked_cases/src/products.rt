@@ -18,15 +18,28 @@ pub(crate) fn small(alloc: Global, text: &str) -> Result<Monomial, Fail>
 }
 
 /// What the operation makes of two monomials, and None if the second does not divide the first.
+fn made(
+    alloc: Global,
+    a: &Monomial,
+    b: &Monomial,
+    operation: &str,
+) -> Result<Option<Monomial>, Fail>
+    requires first { (i : ℕ) → exponent a.now i ≤ 7 }
+    requires second { (i : ℕ) → exponent b.now i ≤ 7 }
+{
+    match operation {
+        "times" => Ok(Some(a.times(alloc, b)?)),
+        "by" => Ok(a.quotient(alloc, b)?),
+        "lcm" => Ok(Some(a.lcm(alloc, b)?.copy(alloc)?)),
+        _ => Err(Fail::new("no operation")),
+    }
+}
+
+/// The same for the monomials and the operation of a row.
 fn answer(alloc: Global, row: &str) -> Result<Option<Monomial>, Fail> {
     let a = small(alloc, part(row, 0))?;
     let b = small(alloc, part(row, 2))?;
-    match part(row, 1) {
-        "times" => Ok(Some(a.times(alloc, &b)?)),
-        "by" => Ok(a.quotient(alloc, &b)?),
-        "lcm" => Ok(Some(a.lcm(alloc, &b)?.copy(alloc)?)),
-        _ => Err(Fail::new("no operation")),
-    }
+    made(alloc, &a, &b, part(row, 1))
 }
 
 #[test]
