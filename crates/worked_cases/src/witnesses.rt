@@ -118,12 +118,20 @@ fn answer(alloc: Global, p: &Ring, w: &WordOrder, row: &str) -> Result<String, F
     texts_of(alloc, p, &found)
 }
 
-#[test]
-fn each_value_has_its_witness(rt: HostRuntime) -> Result<(), Fail> {
-    let alloc = rt.alloc();
-    let p = ring(alloc, SQUARES_AND_PRODUCT)?;
-    let mut w = p.gen_order.copy(alloc)?;
-    w.push_place(2)?;
+/// Compares the texts of a row.
+fn see(alloc: Global, p: &Ring, w: &WordOrder, row: &str) -> Result<(), Fail>
+    requires valid { IsRing p.now }
+    requires room { HasRoom p.now w.now }
+{
+    let found = answer(alloc, p, w, row)?;
+    judge(row, found.as_str())
+}
+
+/// Compares the texts of all rows.
+fn see_all(alloc: Global, p: &Ring, w: &WordOrder) -> Result<(), Fail>
+    requires valid { IsRing p.now }
+    requires room { HasRoom p.now w.now }
+{
     for row in [
         "g1 | reduced | x^2 + y^2 = g1",
         "g1 | scaled by | 1 | x^2 + y^2 = g1",
@@ -139,7 +147,31 @@ fn each_value_has_its_witness(rt: HostRuntime) -> Result<(), Fail> {
         "g1 | times | g1 | x^4 + 2*x^2*y^2 + y^4 = g1^2",
         "s1 | times | s1 | x^2*y^2 = s1^2",
     ] {
-        judge(row, answer(alloc, &p, &w, row)?.as_str())?;
+        see(alloc, p, w, row)?;
     }
     Ok(())
+}
+
+/// The order of words in the generators and s1.
+fn letters(alloc: Global, p: &Ring) -> Result<WordOrder, Fail>
+    requires { IsRing p.now }
+    ensures { IfOk result (HasRoom p.now) }
+{
+    let mut w = p.gen_order.copy(alloc)?;
+    w.push_place(2)?;
+    Ok(w)
+}
+
+/// The same with the letters of a ring.
+fn see_values(alloc: Global, p: &Ring) -> Result<(), Fail>
+    requires { IsRing p.now }
+{
+    let w = letters(alloc, p)?;
+    see_all(alloc, p, &w)
+}
+
+#[test]
+fn each_value_has_its_witness(rt: HostRuntime) -> Result<(), Fail> {
+    let p = ring(rt.alloc(), SQUARES_AND_PRODUCT)?;
+    see_values(rt.alloc(), &p)
 }
