@@ -1,6 +1,5 @@
 -- The degree 0: no monomial leads the ideal there, and no word is reducible.
 use Rattle.std.proofs.Common.{◌≡◌, ◌≤◌, sym, ap, subst, List, [], false, arith, ⊎_elim}
-use Rattle.std.specs.Prelude.{Contains, None, Some}
 use Rattle.monomial_order.specs.Monomial.{Exponents}
 use Rattle.monomial_order.specs.MonomialOrder.{IsMonomialOrder}
 use Rattle.monomial_order.specs.laws.Comparing.{degree_one, equal_or_not, none_below_one, some_exponent}
@@ -11,8 +10,7 @@ use Rattle.polynomials.specs.Polynomial.{Polynomial}
 use Rattle.polynomials.specs.Subalgebra.{Presented, IsPresentation, IsReducedBasis, LeadsIdeal}
 use Rattle.subalgebra_laws.specs.Words.{letters, IsMinimalWord}
 use Rattle.witness.specs.Tracking.{values_of}
-use Rattle.word_values.specs.Values.{value_in, word_degree, Table}
-use Rattle.degree_queue.specs.DegreeQueue.{list_of}
+use Rattle.word_values.specs.Values.{word_degree, Table}
 use Rattle.poly_core.specs.declared.presentations.Presentation.{Presentation}
 use Rattle.subduction.specs.Basis.{BasisState, IsBasisOf}
 use Rattle.subduction.specs.laws.Decisions.{words_have_zeros}

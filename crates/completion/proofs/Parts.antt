@@ -1,6 +1,5 @@
 -- A list of elements has one way to stand in parts by degrees.
 use Rattle.std.proofs.Common.{◌≡◌, ℕ, ◌<◌, sym, ◌∙◌, List}
-use Rattle.std.specs.Prelude.{All}
 use Rattle.std.proofs.lemmas.List.Elements.{All-contains}
 use Rattle.polynomials.specs.Polynomial.{degree_of}
 use Rattle.polynomials.specs.Subalgebra.{Presented}

@@ -5,5 +5,7 @@ pub mod Insertion
 pub mod Closed
 pub mod Closing
 pub mod Report
+pub mod LetterNames
+pub mod RelationLines
 pub mod Taking
 pub mod laws

@@ -1,5 +1,5 @@
 //! Completions.
-ghost use Rattle.std.specs.Prelude.{◌≡◌, suc, ◌≤◌, ◌<◌, [], length, max, remove, true, false, if◌then◌else◌, OnOk, OnErr, IfOk};
+ghost use Rattle.std.specs.Prelude.{◌≡◌, suc, ◌≤◌, ◌<◌, [], length, max, remove, true, false, All, if◌then◌else◌, OnOk, OnErr, IfOk};
 ghost use Rattle.poly_core.specs.Presentation.{presented, IsValid};
 ghost use Rattle.polynomials.specs.Subalgebra.{IsReducedBasis};
 ghost use Rattle.subalgebra_laws.specs.Bases.{IsClosedAt};
@@ -8,6 +8,8 @@ ghost use Rattle.subduction.specs.Basis.{IsBasisOf, IsKnownClosed};
 ghost use Rattle.completion.specs.Candidates.{AreCandidates, IsCandidate};
 ghost use Rattle.completion.specs.Closed.{HasLater};
 ghost use Rattle.completion.specs.Completion.{elements_of, pending_of, AreKept, IsCompletion, IsUnchanged};
+ghost use Rattle.completion.specs.LetterNames.{element_names};
+ghost use Rattle.completion.specs.RelationLines.{IsPrintable};
 ghost use Rattle.completion.specs.Relations.{AreRelations};
 ghost use Rattle.completion.specs.Report.{IsReport};
 ghost use Rattle.completion.specs.Taking.{IsTreated};
@@ -110,7 +112,8 @@ impl<F: Field, O: Order> Completion<F, O> {
         requires quotient { b.quotient.degree ≡ c }
         requires words { b.words.degree ≡ c }
         requires reduced { IsReducedBasis (presented F.ops O.order p) c (values_of b.elements) }
-        requires relations { AreRelations (presented F.ops O.order p) (values_of b.elements) c relations.items }
+        requires relations { let P = presented F.ops O.order p in
+            AreRelations P (values_of b.elements) c relations.items }
         ensures completion { IsCompletion F.ops O.order result }
         ensures presentation { result.presentation ≡ p }
         ensures basis { result.basis ≡ b }
@@ -335,6 +338,8 @@ impl<F: Field, O: Order> Completion<F, O> {
         ensures value { result.now ≡ self.now.relations }
         ensures exact { let P = presented F.ops O.order self.now.presentation in
             AreRelations P (elements_of self.now) self.now.degree result.now }
+        ensures printable { let P = presented F.ops O.order self.now.presentation in
+            All (IsPrintable P.field (element_names P.order.places)) result.now }
     {
         self.relations.as_slice()
     }

@@ -17,7 +17,9 @@ use Rattle.completion.specs.laws.Marks.{marked}
 use Rattle.completion.specs.Report.{mark_text, HasMark, IsReport}
 use Rattle.outputs.specs.Answers.{AreAnswers, IsAnswerText}
 use Rattle.outputs.specs.Completing.{IsCompletedTo}
-use Rattle.outputs.specs.RelationLines.{element_names, relations_text, IsRelationsText}
+use Rattle.completion.specs.LetterNames.{element_names}
+use Rattle.completion.specs.RelationLines.{relations_text}
+use Rattle.outputs.specs.RelationsText.{IsRelationsText}
 use Rattle.outputs.specs.Summary.{trial_text, IsSummary}
 
 module _ {F O E : Type 0} (ops : F → FieldOps E) (order : O → MonomialOrder) (p : Presentation F O E) (bound : ℕ) (c : CompletionState F O E)

@@ -1,4 +1,3 @@
 pub mod Completed
 pub mod Lines
-pub mod Printing
 pub mod Queries

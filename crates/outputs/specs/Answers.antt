@@ -4,20 +4,16 @@ use Rattle.std.specs.Fmt.{decimal}
 use Rattle.word_field.specs.Field.{FieldOps}
 use Rattle.monomial_order.specs.MonomialOrder.{MonomialOrder}
 use Rattle.poly_core.specs.declared.place_names.Names.{Names}
-use Rattle.poly_core.specs.declared.place_names.Names.TheVariants.{Numbered}
 use Rattle.poly_core.specs.declared.presentations.Presentation.{Presentation}
 use Rattle.poly_core.specs.Presentation.{presented}
 use Rattle.poly_core.specs.Text.{poly_text}
 use Rattle.polynomials.specs.Polynomial.{Polynomial}
 use Rattle.polynomials.specs.Subalgebra.{Presented, IsReducedBasis}
 use Rattle.witness.specs.Tracking.{by_order}
+use Rattle.completion.specs.LetterNames.{generator_names}
 use Rattle.membership.specs.Answer.{IsAnswer, IsCanonicalReply}
 use Rattle.membership.specs.declared.reply.Reply.{Reply}
 use Rattle.membership.specs.declared.reply.Reply.TheVariants.{Beyond, Member, No}
-
--- the generators are g1, g2, .. in the polynomial of a member
-abbrev pub generator_names : Names
-generator_names = Numbered 103 0  -- 103 is `g`
 
 -- the line of an answer
 abbrev pub answer_line : {F E : Type 0} → FieldOps E → Names → Reply F E → List ℕ

@@ -1,4 +1,4 @@
 pub mod Answers
 pub mod Completing
-pub mod RelationLines
+pub mod RelationsText
 pub mod Summary

@@ -12,7 +12,7 @@ use Rattle.presentation_text.specs.declared.any_presentation.AnyPresentation.The
 use Rattle.shelf_io.specs.Shelf.{Files}
 use Rattle.completion.specs.Report.{IsReport}
 use Rattle.outputs.specs.Answers.{IsAnswerText}
-use Rattle.outputs.specs.RelationLines.{IsRelationsText}
+use Rattle.outputs.specs.RelationsText.{IsRelationsText}
 use Rattle.sagbi_cli.specs.TrialText.{IsTrialText}
 use Rattle.sagbi_cli.specs.declared.command.Command.{Command}
 use Rattle.sagbi_cli.specs.declared.command.Command.TheVariants.{Complete, Ask, Relations, Trial}

@@ -1,6 +1,6 @@
 -- Elements are added at the end of a list: which words stay reducible, minimal or irreducible, and what stays a combination.
 use Rattle.std.proofs.Common.{◌≡◌, ℕ, ◌+◌, ◌-◌, ◌<◌, ◌≤◌, refl, sym, ◌∙◌, ap, subst, List, [], ◌∷◌, ◌++◌, inl, inr, ⊎_elim, length, get_or, length-append, append_assoc, arith}
-use Rattle.std.specs.Prelude.{map, sum, Contains}
+use Rattle.std.specs.Prelude.{map, Contains}
 use Rattle.std.proofs.lemmas.List.{length-map, map-append, get_or-append-add, get_or_default}
 use Rattle.std.proofs.lemmas.List.Elements.{Contains-get_or}
 use Rattle.std.specs.declared.cmp.Ordering.TheVariants.{Less}

@@ -1,21 +1,20 @@
 -- The letters over a list of monic elements: what they stand for, their order and their images.
-use Rattle.std.proofs.Common.{◌≡◌, ℕ, zero, suc, ◌+◌, ◌<◌, ◌≤◌, sym, ◌∙◌, ap, subst, List, [], ◌∷◌, ◌++◌, length, length-append, get_or, arith, cond, ⊎_elim}
+use Rattle.std.proofs.Common.{◌≡◌, ℕ, zero, suc, ◌+◌, ◌<◌, ◌≤◌, sym, ◌∙◌, ap, subst, List, [], ◌∷◌, ◌++◌, length, length-append, get_or, arith, cond}
 use Rattle.std.specs.Prelude.{map, Contains}
 use Rattle.std.proofs.lemmas.List.{length-map, get_or-append-add, get_or-map}
 use Rattle.monomial_order.specs.Monomial.{product, variable, IsMonomial}
 use Rattle.monomial_order.specs.MonomialOrder.{MonomialOrder, IsMonomialOrder}
-use Rattle.monomial_order.specs.laws.Lists.{contains_cases, contains_here, contains_none, contains_there, map_contains}
+use Rattle.monomial_order.specs.laws.Lists.{contains_here, contains_there, map_contains}
 use Rattle.monomial_order.specs.laws.Monomial.{product-one, variable_monomial}
 use Rattle.word_laws.specs.Words.{AreLetters, word_order_of, image_of, image, variables}
 use Rattle.word_laws.specs.laws.Images.{length-variables, degree_weighted}
 use Rattle.word_laws.specs.laws.Words.{word_laws, degree_image, degree_x, image_x}
-use Rattle.monomial_order.specs.laws.Comparing.{degree_one}
 use Rattle.polynomials.specs.Polynomial.{Polynomial, coefficient, term_of, lead_monomial}
 use Rattle.polynomials.specs.Subalgebra.{Presented, IsPresentation}
 use Rattle.polynomials.specs.laws.Same.{same_refl}
 use Rattle.polynomials.specs.laws.Decreasing.{IsDecreasing_IsPoly, IsLead_first}
 use Rattle.subalgebra_laws.specs.Words.{letters, letter_values, word_value}
-use Rattle.subalgebra_laws.specs.laws.Letters.{places_x, letter}
+use Rattle.subalgebra_laws.specs.laws.Letters.{lead_letters, letter, places_x}
 use Rattle.subalgebra_laws.specs.Bases.{IsMonicElement, AreMonicElements}
 use Rattle.polynomials.specs.laws.Coefficients.{single_term}
 use Rattle.subalgebra_laws.proofs.MonicProducts.{IsMonic, AreMonic, monic_value}
@@ -72,12 +71,6 @@ module _ {E : Type 0} (P : Presented E) (H : IsPresentation P) where
   elements_monic [] h = tt
   elements_monic (s ∷ T) h = (element_monic s (h s (contains_here s T)), elements_monic T (λ x k. h x (contains_there s T x k)))
 
-  variable_degrees : (i k : ℕ) → i + k ≤ P.order.places → (d : ℕ) → Contains (map P.order.degree (variables i k)) d → 1 ≤ d
-  variable_degrees i zero le d h = absurd (contains_none d h)
-  variable_degrees i (suc k) le d h =
-      ⊎_elim (λ e. subst (λ x. 1 ≤ x) e (H.order.degree_positive i (omega arith))) (λ r. variable_degrees (suc i) k (omega arith) d r)
-      (contains_cases (P.order.degree (variable i)) (map P.order.degree (variables (suc i) k)) d h)
-
   module _ (S : List (Polynomial E)) (HS : AreMonicElements P S) where
     pub values_monic : AreMonic P.field H.field P.order H.order (letter_values P S) (letter_images P S)
     values_monic = variables_monic 0 P.order.places (omega arith) S (map lead_monomial S) (elements_monic S HS)
@@ -93,11 +86,7 @@ module _ {E : Type 0} (P : Presented E) (H : IsPresentation P) where
         subst (λ k. IsMonomial P.order.places k × (1 ≤ P.order.degree k)) r.2 ((element_monic r.0 (HS r.0 r.1)).monomial, (HS r.0 r.1).positive)
 
     pub are_letters : AreLetters (letters P S)
-    are_letters = record {
-      positive = variable_degrees 0 P.order.places (omega arith);
-      leads = λ m h. subst (λ n. IsMonomial n m) (sym (places_x P S)) (lead_of_element m h).0;
-      not_one = λ m h e. let d = (lead_of_element m h).1 in let z : P.order.degree m ≡ P.order.degree [] = ap P.order.degree e in let o = degree_one P.order H.order in absurd (omega arith);
-    }
+    are_letters = lead_letters P H S lead_of_element
 
     pub letter_laws : IsMonomialOrder (word_order_of (letters P S))
     letter_laws = word_laws (letters P S) are_letters

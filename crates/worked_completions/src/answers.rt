@@ -7,9 +7,10 @@ ghost use Rattle.worked_rows.specs.Rings.{IsIn, IsRing};
 ghost use Rattle.worked_completions.specs.Completions.{IsAtRest};
 
 use crate::completions::RingCompletion;
-use crate::texts::{elements_text, on_one_line, relations_text, reply_text, subduced_text};
+use crate::texts::{elements_text, joined, on_one_line, relations_text, reply_text, subduced_text};
 use membership::answer;
 use poly_core::Poly;
+use state_file::write_state;
 use std::alloc::Global;
 use std::test::Fail;
 use witness::Tracked;
@@ -52,6 +53,16 @@ pub(crate) fn report(alloc: Global, c: &mut RingCompletion) -> Result<String, Fa
     has_degree(c)?;
     let text = c.report(alloc)?;
     let line = on_one_line(alloc, text)?;
+    Ok(line)
+}
+
+/// The lines of the state.
+pub(crate) fn state(alloc: Global, c: &RingCompletion) -> Result<String, Fail>
+    requires { IsAtRest c.now }
+{
+    has_degree(c)?;
+    let text = write_state(alloc, c)?;
+    let line = joined(alloc, text)?;
     Ok(line)
 }
 

@@ -7,12 +7,15 @@ const ENDLESS: &str =
     "subalgebra 1\nfield 101\nvars x y\nweights 1 1\norder lex\nideal 0\ngenerators 3\nx + y\nx*y\nx*y^2\nend\n";
 
 /// The same query is beyond the closed degree, and within it later.
-const RUN_CALLS: [&str; 13] = [
+const RUN_CALLS: [&str; 14] = [
     "run | 3 | 3",
     "relations | 0",
     "run | 4 | 4",
     "report | bound 4 / basis 4 / 1 1 x : x + y / 2 2 x*y : x*y / 3 3 x*y^2 : x*y^2 / 4 4 x*y^3 : x*y^3 / mark open",
     "relations | 1 / s1*s3 = s2^2 + s4",
+    "state |  | sagbi-state 2 / subalgebra 1 / field 101 / vars x y / weights 1 1 / order lex / ideal 0 / \
+     generators 3 / x + y / x*y / x*y^2 / end / degree 4 / elements 4 / x + y : g1 / x*y : g2 / x*y^2 : g3 / \
+     x*y^3 : s1*s3 + 100*s2^2 / relations 1 / s1*s3 = s2^2 + s4 / end",
     "complete | false",
     "answer | x*y^4 | beyond 5",
     "answer | x^3*y^2 + x^2*y^3 | beyond 5",

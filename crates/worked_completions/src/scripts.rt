@@ -2,7 +2,7 @@
 ghost use Rattle.std.specs.Prelude.{IfOk};
 ghost use Rattle.worked_completions.specs.Completions.{IsAtRest};
 
-use crate::answers::{answered, basis, is_complete, relations, report, subduced};
+use crate::answers::{answered, basis, is_complete, relations, report, state, subduced};
 use crate::completions::{RingCompletion, begin_and_run, close_by_hand, close_with, run, started};
 use completion::Pick;
 use std::alloc::Global;
@@ -16,6 +16,7 @@ fn shown(alloc: Global, c: &RingCompletion, call: &str) -> Result<String, Fail>
     match call {
         "basis" => basis(alloc, c),
         "relations" => relations(alloc, c),
+        "state" => state(alloc, c),
         _ => Err(Fail::new("no such call")),
     }
 }

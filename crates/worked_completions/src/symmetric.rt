@@ -6,7 +6,7 @@ use std::test::Fail;
 const SUM_AND_PRODUCT: &str =
     "subalgebra 1\nfield 101\nvars x y\nweights 1 1\norder lex\nideal 0\ngenerators 2\nx + y\nx*y\nend\n";
 
-const SUM_AND_PRODUCT_CALLS: [&str; 20] = [
+const SUM_AND_PRODUCT_CALLS: [&str; 21] = [
     "run | 1 | 1",
     "report | bound 1 / basis 1 / 1 1 x : x + y / mark open",
     "complete | false",
@@ -15,6 +15,8 @@ const SUM_AND_PRODUCT_CALLS: [&str; 20] = [
     "report | bound 2 / basis 2 / 1 1 x : x + y / 2 2 x*y : x*y / mark complete",
     "report | bound 2 / basis 2 / 1 1 x : x + y / 2 2 x*y : x*y / mark complete",
     "complete | true",
+    "state |  | sagbi-state 2 / subalgebra 1 / field 101 / vars x y / weights 1 1 / order lex / ideal 0 / \
+     generators 2 / x + y / x*y / end / degree 2 / elements 2 / x + y : g1 / x*y : g2 / relations 0 / end",
     "answer | x*y^4 | no x*y^4",
     "answer | x^3*y^2 + x^2*y^3 | member g1*g2^2",
     "subduce | x^2 + y^2 | s1^2 + 99*s2; 0",
@@ -41,11 +43,14 @@ const POWER_SUMS: &str =
     "subalgebra 1\nfield 101\nvars x y\nweights 1 1\norder lex\nideal 0\ngenerators 2\nx + y\nx^2 + y^2\nend\n";
 
 /// 2*x*y = g1^2 - g2, and 51 is the half of 1.
-const POWER_SUMS_CALLS: [&str; 5] = [
+const POWER_SUMS_CALLS: [&str; 6] = [
     "run | 1 | 1",
     "report | bound 1 / basis 1 / 1 1 x : x + y / mark open",
     "run | 2 | 2",
     "report | bound 2 / basis 2 / 1 1 x : x + y / 2 2 x*y : x*y / mark complete",
+    "state |  | sagbi-state 2 / subalgebra 1 / field 101 / vars x y / weights 1 1 / order lex / ideal 0 / \
+     generators 2 / x + y / x^2 + y^2 / end / degree 2 / elements 2 / x + y : g1 / x*y : 50*g2 + 51*s1^2 / \
+     relations 0 / end",
     "answer | x*y | member 51*g1^2 + 50*g2",
 ];
 

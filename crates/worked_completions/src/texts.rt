@@ -123,16 +123,21 @@ pub(crate) fn reply_text(alloc: Global, p: &Ring, reply: &Reply<WordField>) -> R
     }
 }
 
-/// The lines of a report but the first and the last, with ` / ` between them.
-pub(crate) fn on_one_line(alloc: Global, report: Vec<u8>) -> Result<String, Fail> {
-    let text = String::from_utf8(report)?;
+/// The lines of a text, with ` / ` between them.
+pub(crate) fn joined(alloc: Global, text: Vec<u8>) -> Result<String, Fail> {
+    let text = String::from_utf8(text)?;
     let mut line = String::new(alloc);
     'lines: for part in text.as_str().lines() {
-        if part == "report 1" || part == "end" {
-            continue;
-        }
         line.push_str(if line.is_empty() { "" } else { " / " })?;
         line.push_str(part)?;
     }
     Ok(line)
+}
+
+/// The lines of a report but the first and the last, with ` / ` between them.
+pub(crate) fn on_one_line(alloc: Global, report: Vec<u8>) -> Result<String, Fail> {
+    let line = joined(alloc, report)?;
+    let inner = line.as_str().strip_prefix("report 1 / ").ok_or("no report")?;
+    let inner = inner.strip_suffix(" / end").ok_or("no end")?;
+    Ok(format!(in alloc; "{inner}")?)
 }

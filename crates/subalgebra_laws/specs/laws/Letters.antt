@@ -1,20 +1,22 @@
 -- The letters over a list of polynomials: how many there are, which words they make, and what stays as the list grows.
-use Rattle.std.proofs.Common.{◌≡◌, ℕ, zero, suc, ◌+◌, ◌<◌, ◌≤◌, refl, sym, ◌∙◌, ap, List, [], ◌∷◌, ◌++◌, length, length-append, take, get_or, arith}
-use Rattle.std.specs.Prelude.{map, sum}
+use Rattle.std.proofs.Common.{◌≡◌, ℕ, zero, suc, ◌+◌, ◌<◌, ◌≤◌, refl, sym, ◌∙◌, ap, subst, ⊎_elim, List, [], ◌∷◌, ◌++◌, length, length-append, take, get_or, arith}
+use Rattle.std.specs.Prelude.{map, sum, Contains}
 use Rattle.std.proofs.lemmas.List.{length-map, map-append, get_or-append-add}
 use Rattle.std.proofs.lemmas.List.Sums.{sum_by-cons}
 use Rattle.std.proofs.Math.Seq.{take-nil}
 use Rattle.word_field.specs.Field.{IsField}
-use Rattle.monomial_order.specs.Monomial.{exponent, product, variable, weighted_degree}
+use Rattle.monomial_order.specs.Monomial.{exponent, product, variable, weighted_degree, IsMonomial}
+use Rattle.monomial_order.specs.laws.Comparing.{degree_one}
+use Rattle.monomial_order.specs.laws.Lists.{contains_cases, contains_none}
 use Rattle.monomial_order.specs.laws.Monomial.{IsMonomial-product, variable_monomial}
 use Rattle.monomial_order.specs.laws.Orders.{take-product, sum-product}
 use Rattle.monomial_order.specs.Orders.{word_order}
-use Rattle.word_laws.specs.Words.{word_order_of, variables, lead_degrees, IsWord, IsSWord}
+use Rattle.word_laws.specs.Words.{word_order_of, variables, lead_degrees, AreLetters, IsWord, IsSWord}
 use Rattle.word_laws.specs.laws.Images.{length-variables}
 use Rattle.word_laws.specs.laws.Words.{no_x_variable}
 use Rattle.word_laws.specs.laws.Longer.{longer_compare, longer_degree}
 use Rattle.polynomials.specs.Polynomial.{Polynomial, coefficient, Same, term_of, lead_monomial}
-use Rattle.polynomials.specs.Subalgebra.{Presented}
+use Rattle.polynomials.specs.Subalgebra.{Presented, IsPresentation}
 use Rattle.polynomials.specs.laws.Coefficients.{value_variable}
 use Rattle.subalgebra_laws.specs.Words.{letters, letter_values, word_value}
 
@@ -87,3 +89,18 @@ module _ {E : Type 0} (P : Presented E) (S T : List (Polynomial E)) where
   compare_stays v w hv hw =
       ap (λ ds. (word_order (letter_degrees P S) ds).compare v w) leads_split ∙
       longer_compare (letter_degrees P S) (lead_degrees (letters P S)) (map (weighted_degree (letter_degrees P S)) (map lead_monomial T)) v w hv hw
+
+module _ {E : Type 0} (P : Presented E) (H : IsPresentation P) where
+  variable_degrees : (i k : ℕ) → i + k ≤ P.order.places → (d : ℕ) → Contains (map P.order.degree (variables i k)) d → 1 ≤ d
+  variable_degrees i zero le d h = absurd (contains_none d h)
+  variable_degrees i (suc k) le d h =
+      ⊎_elim (λ e. subst (λ x. 1 ≤ x) e (H.order.degree_positive i (omega arith))) (λ r. variable_degrees (suc i) k (omega arith) d r)
+      (contains_cases (P.order.degree (variable i)) (map P.order.degree (variables (suc i) k)) d h)
+
+  -- leads that are monomials of positive degree are letters
+  pub lead_letters : (S : List (Polynomial E)) → ((m : List ℕ) → Contains (map lead_monomial S) m → IsMonomial P.order.places m × (1 ≤ P.order.degree m)) → AreLetters (letters P S)
+  lead_letters S h = record {
+    positive = variable_degrees 0 P.order.places (omega arith);
+    leads = λ m k. subst (λ n. IsMonomial n m) (sym (places_x P S)) (h m k).0;
+    not_one = λ m k e. let d = (h m k).1 in let z : P.order.degree m ≡ P.order.degree [] = ap P.order.degree e in let o = degree_one P.order H.order in absurd (omega arith);
+  }

@@ -2,7 +2,7 @@ use Rattle.std.proofs.Common.{subst}
 use Rattle.poly_core.specs.laws.Text.{decreasing_named, decreasing_values}
 use Rattle.witness.specs.Tracking.{by_order}
 use Rattle.membership.specs.Answer.{IsCanonicalReply}
-use Rattle.outputs.proofs.Printing.{named_all}
+use Rattle.completion.specs.laws.Printing.{named_all}
 use Rattle.outputs.proofs.answer_lines.push_line.Goals as goal
 
 pub push_poly-requires-clause-values : goal.push_poly-requires-clause-values

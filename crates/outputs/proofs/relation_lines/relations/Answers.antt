@@ -1,7 +1,7 @@
 use Rattle.std.proofs.Common.{subst}
 use Rattle.std.specs.Prelude.{IfOk}
 use Rattle.poly_core.specs.Presentation.{presented}
-use Rattle.outputs.specs.RelationLines.{IsRelationsText}
+use Rattle.outputs.specs.RelationsText.{IsRelationsText}
 use Rattle.outputs.proofs.relation_lines.relations.Goals as goal
 
 pub returns : goal.returns

@@ -1,19 +1,11 @@
 -- The lines of the relations.
-use Rattle.std.specs.Prelude.{◌≡◌, ℕ, List, [], ◌∷◌, ◌++◌, length, codes}
+use Rattle.std.specs.Prelude.{ℕ, List, [], ◌∷◌, ◌++◌, length, codes}
 use Rattle.std.specs.Fmt.{decimal}
 use Rattle.word_field.specs.Field.{FieldOps}
 use Rattle.poly_core.specs.declared.place_names.Names.{Names}
-use Rattle.poly_core.specs.declared.place_names.Names.TheVariants.{Numbered}
 use Rattle.poly_core.specs.Names.{IsNamed}
 use Rattle.poly_core.specs.Text.{monomial_text, poly_text, AreNamed, AreValues}
-use Rattle.polynomials.specs.Polynomial.{Polynomial}
-use Rattle.polynomials.specs.Subalgebra.{Presented, IsReducedBasis}
-use Rattle.completion.specs.Relations.{AreRelations}
 use Rattle.completion.specs.declared.relations.Relation.{Relation}
-
--- the elements are s1, s2, .. in words, behind so many variables
-abbrev pub element_names : ℕ → Names
-element_names places = Numbered 115 places  -- 115 is `s`
 
 module _ {F E : Type 0} (K : FieldOps E) (names : Names) where
   abbrev pub relation_line : Relation F E → List ℕ
@@ -34,11 +26,3 @@ module _ {F E : Type 0} (K : FieldOps E) (names : Names) where
   abbrev pub relations_text : List (Relation F E) → List ℕ
   relations_text relations =
       codes "relations " ++ (decimal (length relations) ++ (codes "\n" ++ relation_lines relations))
-
--- the text has the relations of the reduced basis to the bound
-pub record IsRelationsText (F : Type 0) {E : Type 0} (P : Presented E) (bound : ℕ) (text : List ℕ) : Type 0 where
-  pub basis : List (Polynomial E)
-  pub reduced : IsReducedBasis P bound basis
-  pub relations : List (Relation F E)
-  pub exact : AreRelations P basis bound relations
-  pub is : text ≡ relations_text P.field (element_names P.order.places) relations

@@ -1,6 +1,6 @@
 use Rattle.std.proofs.Common.{◌≡◌, ◌++◌, drop}
-use Rattle.outputs.specs.RelationLines.{relation_lines}
-use Rattle.outputs.proofs.relation_lines.push_lines.Given as goal
+use Rattle.completion.specs.RelationLines.{relation_lines}
+use Rattle.completion.proofs.relation_lines.push_lines.Given as goal
 
 -- with the lines that are left, the text is the old one with all lines
 abbrev pub invariant-lines : goal.invariant-lines

@@ -1,0 +1,4 @@
+pub mod Limits
+pub mod Parts
+pub mod StateText
+pub mod Writing
