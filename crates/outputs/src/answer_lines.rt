@@ -1,5 +1,5 @@
 //! The lines that answer queries.
-ghost use Rattle.std.specs.Prelude.{◌≡◌, ◌≤◌, [], ◌++◌, codes, false, string_bytes, All, IfOk, OnOk};
+ghost use Rattle.std.specs.Prelude.{◌≡◌, ℕ, ◌≤◌, List, ◌++◌, codes, false, string_bytes, All, IfOk, OnOk};
 ghost use Rattle.std.specs.Fmt.{decimal};
 ghost use Rattle.poly_core.specs.Presentation.{presented, IsValid};
 ghost use Rattle.poly_core.specs.Text.{poly_text, AreNamed, AreValues};
@@ -100,22 +100,21 @@ fn push_answer<F: Field, O: Order>(
     push_line(alloc, text, c.presentation(), &reply)
 }
 
-/// Writes the lines that answer queries.
+/// Appends the lines that answer queries.
 fn push_answers<F: Field, O: Order>(
     alloc: Global,
     text: &mut Vec<u8>,
     c: &mut Completion<F, O>,
     queries: &[Poly<F>],
 ) -> Result<(), Memory>
-    requires empty { text.old.items ≡ [] }
     requires completion { IsCompletion F.ops O.order c.old }
     requires not_begun { c.old.begun ≡ false }
     requires some { 1 ≤ c.old.degree }
     requires canonical { let P = presented F.ops O.order c.old.presentation in
         All (IsCanonical P.field P.order) queries.now }
     requires low { All (IsLow (O.order c.old.presentation.order)) queries.now }
-    ensures { OnOk result (AreAnswers F.ops O.order c.old.presentation c.old.degree (elements_of c.old)
-        queries.now text.new.items) }
+    ensures { OnOk result ((lines : List ℕ) × (text.new.items ≡ text.old.items ++ lines) ×
+        AreAnswers F.ops O.order c.old.presentation c.old.degree (elements_of c.old) queries.now lines) }
 {
     'queries: for query in queries {
         push_answer(alloc, text, c, query)?;

@@ -200,7 +200,7 @@ module _ {F E : Type 0} (P : Presented E) (H : IsPresentation P) (b : BasisState
   due_behind before (t ∷ rest) split = (
     due before t rest split,
     subst (λ T. AreDueElements P Two c T rest) (map-append (λ (u : Tracked F E). u.value) before (t ∷ []))
-    (due_behind (before ++ t ∷ []) rest (split ∙ sym (append_assoc before (t ∷ []) rest))),
+        (due_behind (before ++ t ∷ []) rest (split ∙ sym (append_assoc before (t ∷ []) rest))),
   )
 
   pub due_elements : AreDueElements P Two c [] b.elements

@@ -137,7 +137,10 @@ pub(crate) fn joined(alloc: Global, text: Vec<u8>) -> Result<String, Fail> {
 /// The lines of a report but the first and the last, with ` / ` between them.
 pub(crate) fn on_one_line(alloc: Global, report: Vec<u8>) -> Result<String, Fail> {
     let line = joined(alloc, report)?;
-    let inner = line.as_str().strip_prefix("report 1 / ").ok_or("no report")?;
+    let inner = line
+        .as_str()
+        .strip_prefix("report 1 / ")
+        .ok_or("no report")?;
     let inner = inner.strip_suffix(" / end").ok_or("no end")?;
     Ok(format!(in alloc; "{inner}")?)
 }

@@ -1,4 +1,4 @@
-use Rattle.std.proofs.Common.{take}
+use Rattle.std.proofs.Common.{◌≡◌, ◌++◌, ℕ, List, take}
 use Rattle.completion.specs.Completion.{elements_of, IsCompletion, IsUnchanged}
 use Rattle.outputs.specs.Answers.{AreAnswers}
 use Rattle.outputs.proofs.answer_lines.push_answers.Given as goal
@@ -8,6 +8,7 @@ abbrev pub invariant-queries : goal.invariant-queries
 invariant-queries g l = record {
   completion : IsCompletion g.F.Field.ops g.O.Order.order l.c;
   unchanged : IsUnchanged l.initial.c l.c;
-  answers : AreAnswers g.F.Field.ops g.O.Order.order l.initial.c.presentation l.initial.c.degree
-      (elements_of l.initial.c) (take l.query-index l.queries) l.text.items;
+  answers : (lines : List ℕ) × (l.text.items ≡ l.initial.text.items ++ lines)
+      × AreAnswers g.F.Field.ops g.O.Order.order l.initial.c.presentation l.initial.c.degree
+      (elements_of l.initial.c) (take l.query-index l.queries) lines;
 }
