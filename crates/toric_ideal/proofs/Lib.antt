@@ -26,3 +26,4 @@ pub mod SettledListings
 pub mod StandardLeads
 pub mod Renamings
 pub mod PushedLead
+pub mod SoundPushed

@@ -10,3 +10,4 @@ pub mod SortedRules
 pub mod State
 pub mod Closing
 pub mod Settling
+pub mod LeadChange
