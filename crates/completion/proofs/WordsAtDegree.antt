@@ -1,12 +1,11 @@
 -- The minimal reducible s-words of the degree of the words are at the end of the rules.
-use Rattle.std.proofs.Common.{◌≡◌, ℕ, zero, suc, ◌<◌, ◌≤◌, refl, sym, ◌∙◌, ap, subst, List, [], ◌∷◌, ◌++◌, length, take, drop, sum, Bool, true, false, cond, get_or, drop-cons, arith, ⊎_elim}
+use Rattle.std.proofs.Common.{◌≡◌, ℕ, zero, suc, ◌<◌, ◌≤◌, sym, ◌∙◌, ap, subst, List, [], ◌∷◌, ◌++◌, length, take, drop, sum, Bool, true, false, cond, get_or, drop-cons, arith, ⊎_elim}
 use Rattle.std.specs.Prelude.{map, filter, nat_eq, Contains, All}
 use Rattle.std.proofs.lemmas.List.{take-append-drop}
 use Rattle.std.proofs.lemmas.Bool.{eq-eqb, eqb-true}
 use Rattle.std.proofs.lemmas.List.Elements.{All-cons, All-contains}
-use Rattle.std.proofs.lemmas.List.Sums.{sum_by-cons}
 use Rattle.std.specs.declared.cmp.Ordering.TheVariants.{Less}
-use Rattle.monomial_order.specs.Monomial.{Exponents, exponent}
+use Rattle.monomial_order.specs.Monomial.{Exponents}
 use Rattle.monomial_order.specs.MonomialOrder.{MonomialOrder, IsIncreasing, IsMonomialOrder}
 use Rattle.monomial_order.specs.laws.Comparing.{degree_falls, increasing_below, increasing_cons, increasing_tail}
 use Rattle.monomial_order.specs.laws.Lists.{contains_at, contains_cases, contains_either, contains_map, contains_none, contains_right}
@@ -25,12 +24,6 @@ use Rattle.subduction.specs.Basis.{BasisState, IsBasisOf}
 use Rattle.subduction.specs.laws.Decisions.{ZerosRepresent, zeros_represent}
 use Rattle.monomial_order.specs.laws.Lists.{filter_has, filter_part}
 use Rattle.completion.specs.Candidates.{AreWordsAt}
-
--- no letter of the first ones
-pub none_first : (n : ℕ) (w : Exponents) → ((i : ℕ) → i < n → exponent w i ≡ 0) → sum (take n w) ≡ 0
-none_first zero w h = refl
-none_first (suc n) [] h = refl
-none_first (suc n) (e ∷ w) h = sum_by-cons (λ (y : ℕ). y) e (take n w) ∙ (let a : e ≡ 0 = h 0 (omega arith) in let b = none_first n w (λ i l. h (suc i) (omega arith)) in omega arith)
 
 module _ (O : MonomialOrder) {A : Type 0} (f : A → Exponents) where
   pub increasing_rest : (i : ℕ) (xs : List A) → IsIncreasing O (map f xs) → IsIncreasing O (map f (drop i xs))

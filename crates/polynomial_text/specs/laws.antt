@@ -6,6 +6,7 @@ pub mod Fronts
 pub mod GrammarRead
 pub mod GrammarReads
 pub mod Names
+pub mod NumberedNames
 pub mod Powers
 pub mod ReadTerms
 pub mod Steps

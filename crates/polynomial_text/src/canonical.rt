@@ -1,20 +1,14 @@
 //! Reading canonical lines.
-ghost use Rattle.std.specs.Prelude.{◌≤◌, ◌^◌, IfOk};
+ghost use Rattle.std.specs.Prelude.{IfOk};
 ghost use Rattle.polynomial_text.specs.Canonical.{AreDifferent, IsCanonicalReading};
 
+use crate::laws::has_short_words;
 use crate::line_fault::LineFault;
 use crate::poly_line::read_poly;
 use monomial_order::{Memory, Order};
 use poly_core::{Names, Poly};
 use std::alloc::Global;
 use word_field::Field;
-
-/// A size has 32 bits.
-fn has_short_words<F: Field>(f: &F)
-    ensures { (F.ops f.now).size ≤ 2 ^ 32 }
-{
-    let _size = f.size();
-}
 
 /// The polynomial whose canonical text the line is, if it is one. The line comes without its line feed.
 pub fn read_canonical<F: Field, O: Order>(

@@ -1,5 +1,5 @@
-//! The laws of reading a line, as the contract of a call that does nothing.
-ghost use Rattle.std.specs.Prelude.{◌≡◌, ◌↔◌, ℕ, List, Ok, Err};
+//! The laws of reading a line, as contracts of calls that do nothing.
+ghost use Rattle.std.specs.Prelude.{◌≡◌, ◌≤◌, ◌^◌, ◌↔◌, ℕ, List, Ok, Err};
 ghost use Rattle.polynomials.specs.Polynomial.{Polynomial};
 ghost use Rattle.polynomial_text.specs.Canonical.{AreDifferent};
 ghost use Rattle.polynomial_text.specs.Grammar.{IsLine};
@@ -22,3 +22,10 @@ pub fn reading_by_grammar<F: Field, O: Order>(field: &F, order: &O, names: &Name
         (terms_of (F.ops field.now) (O.order order.now) names.now line ≡ Err kind)
         ↔ IsLineFault (F.ops field.now) (O.order order.now) names.now line kind }
 {}
+
+/// A size has 32 bits.
+pub fn has_short_words<F: Field>(f: &F)
+    ensures { (F.ops f.now).size ≤ 2 ^ 32 }
+{
+    let _size = f.size();
+}

@@ -1,2 +1,10 @@
 mod Printable
 mod Written
+mod Degrees
+mod ElementLines
+mod LetterNames
+mod Numerals
+mod Parting
+mod RelationLines
+mod Witnesses
+mod Words

@@ -1,4 +1,5 @@
 pub mod Limits
+pub mod LineReadings
 pub mod Parts
 pub mod StateText
 pub mod Writing

@@ -1,9 +1,17 @@
 //! The texts of states: what their lines are, and writing them.
 #![tactic(auto)]
 
+mod count_line;
+mod element_line;
+mod line_parts;
+mod relation_line;
 mod version;
 mod writing;
 
+pub use count_line::read_count;
+pub use element_line::read_element;
+pub use line_parts::parts;
+pub use relation_line::read_relation;
 pub use version::Version;
 pub use writing::write;
 

@@ -142,8 +142,8 @@ fn replacement<F: Field, O: Order>(
     }
 }
 
-/// The greatest degree of a letter after the first k, and 0 if there is none.
-fn greatest_degree<F: Field>(w: &WordOrder, k: usize, e: &Poly<F>) -> u32
+/// The greatest degree of a letter in e after the first k letters, and 0 if there is none.
+pub fn greatest_degree<F: Field>(w: &WordOrder, k: usize, e: &Poly<F>) -> u32
     requires { AllAt (IsMonomial (length w.now.s_degrees.items)) e.now }
     ensures { (b : ℕ) → result ≤ b ↔ AllAt (UsesUpTo k w.now.s_degrees.items b) e.now }
 {

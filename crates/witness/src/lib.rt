@@ -8,6 +8,6 @@ mod letters;
 mod tracked;
 
 pub use arithmetic::{product, reduce, scale, sum};
-pub use expansion::expand;
+pub use expansion::{expand, greatest_degree};
 pub use letters::{element, generator};
 pub use tracked::Tracked;

@@ -1,7 +1,8 @@
 -- Which words and polynomials have names for all their letters.
-use Rattle.std.proofs.Common.{◌≡◌, ◌≢◌, ℕ, ◌≤◌, Bool, true, false, List, [], ◌∷◌, length, refl, sym, subst, ◌∙◌, ◌+◌, ◌-◌, ltb, le-ltb, IsSome, Some, None, rules, arith}
+use Rattle.std.proofs.Common.{◌≡◌, ◌≢◌, ℕ, zero, suc, ◌<◌, ◌≤◌, Bool, true, false, List, [], ◌∷◌, length, refl, sym, subst, ◌∙◌, ◌+◌, ◌-◌, ltb, le-ltb, IsSome, Some, None, rules, arith}
 use Rattle.std.proofs.lemmas.Bool.{ltb-false, ltb-true}
 use Rattle.std.proofs.lemmas.List.{length-map}
+use Rattle.std.proofs.lemmas.List.Sums.{sum_by-cons}
 use Rattle.std.specs.Prelude.{All, map, take, sum, if◌then◌else◌, get_or}
 use Rattle.std.specs.Fmt.{decimal}
 use Rattle.word_field.specs.Field.{FieldOps, IsField}
@@ -24,6 +25,12 @@ use Rattle.completion.specs.Relations.{AreRelations}
 use Rattle.completion.specs.declared.relations.Relation.{Relation}
 use Rattle.completion.specs.LetterNames.{element_names}
 use Rattle.completion.specs.RelationLines.{IsPrintable}
+
+-- a word with no letter of the first ones
+pub none_first : (n : ℕ) (w : Exponents) → ((i : ℕ) → i < n → exponent w i ≡ 0) → sum (take n w) ≡ 0
+none_first zero w h = refl
+none_first (suc n) [] h = refl
+none_first (suc n) (e ∷ w) h = sum_by-cons (λ (y : ℕ). y) e (take n w) ∙ (let a : e ≡ 0 = h 0 (omega arith) in let b = none_first n w (λ i l. h (suc i) (omega arith)) in omega arith)
 
 -- numbered names name each place that they do not skip
 pub named_behind : (prefix places : ℕ) (m : Exponents) → ((i : ℕ) → exponent m i ≢ 0 → places ≤ i) → IsNamed (Numbered prefix places) m

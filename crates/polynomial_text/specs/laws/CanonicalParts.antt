@@ -114,14 +114,14 @@ number_digits (d ∷ ds) back h some few stop =
 abbrev pub IsWritten : ℕ → Type 0
 IsWritten n = n < 2 ^ 32
 
-pub decimal_digits : (n : ℕ) → IsWritten n → list_all is_digit (decimal n) ≡ true
-decimal_digits n h = digits_decimal own n (omega arith)
+pub decimal_digits : (n : ℕ) → n < 2 ^ 64 → list_all is_digit (decimal n) ≡ true
+decimal_digits = digits_decimal own
 
 -- a number as it is written
 pub written_number : (n : ℕ) → IsWritten n → IsNumber (decimal n) n
 written_number n h =
     let short : length (decimal n) ≤ 10 = length-decimal-le 10 n (omega arith) (omega arith) (omega arith) in
-    record { digits = decimal_digits n h; some = decimal_nonempty n (omega arith); few = omega arith; value = digits_value-decimal own n (omega arith) }
+    record { digits = decimal_digits n (omega arith); some = decimal_nonempty n (omega arith); few = omega arith; value = digits_value-decimal own n (omega arith) }
 
 -- ---- parts at signs
 

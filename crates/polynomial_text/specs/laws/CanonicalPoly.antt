@@ -10,14 +10,16 @@ use Rattle.monomial_order.specs.laws.Comparing.{degree_one}
 use Rattle.poly_core.specs.declared.place_names.Names.{Names}
 use Rattle.poly_core.specs.Names.{is_name_byte}
 use Rattle.polynomials.specs.Polynomial.{Polynomial, same_monomial, coefficient, term_of, Same, IsDecreasing, IsCanonical}
+use Rattle.polynomials.specs.laws.Decreasing.{IsDecreasing_unique}
 use Rattle.poly_core.specs.Text.{join, term_text, poly_text, AreNamed}
 use Rattle.polynomial_text.specs.Bytes.{is_skipped, behind}
 use Rattle.polynomial_text.specs.Degrees.{IsLow}
 use Rattle.polynomial_text.specs.PolyLine.{terms_of}
-use Rattle.polynomial_text.specs.Canonical.{AreDifferent}
-use Rattle.polynomial_text.specs.Grammar.{AreBlanks, IsSum, one_term, terms}
+use Rattle.polynomial_text.specs.Canonical.{AreDifferent, IsCanonicalText}
+use Rattle.polynomial_text.specs.Grammar.{AreBlanks, sign_byte, IsSum, one_term, terms}
 use Rattle.polynomial_text.specs.laws.CanonicalParts.{Lack, Begins, begins_append, differs, name_no_blank}
-use Rattle.polynomial_text.specs.laws.GrammarReads.{line_derived, sum_in_line}
+use Rattle.polynomial_text.specs.laws.GrammarReads.{IsApart, feed_apart, line_derived, sum_lacks}
+use Rattle.polynomial_text.specs.laws.Steps.{same_ok}
 use Rattle.polynomial_text.specs.laws.CanonicalTerms.{IsTextOfTerm, blanks_before, blanks_after, text_of_term}
 
 begins_join : (x : List ℕ) (xs : List (List ℕ)) → Begins is_name_byte x → Begins is_name_byte (join (codes " + ") (x ∷ xs))
@@ -81,11 +83,29 @@ module _ {E : Type 0} (K : FieldOps E) (F : IsField K) (few : K.size ≤ 2 ^ 32)
   canonical_terms [] canonical named small = (term_of [] K.zero ∷ [], ap (terms_of K O names) (sym zero_is) ∙ line_derived K O names D (poly_text K names (term_of [] K.zero ∷ [])) (term_of [] K.zero ∷ []) (inl (derived K O names (term_of [] K.zero) [] (zero_text, tt))), zero_same)
   canonical_terms (t ∷ p) canonical named small = (t ∷ p, line_derived K O names D (poly_text K names (t ∷ p)) (t ∷ p) (inl (derived K O names t p (texts (t ∷ p) canonical.decreasing named small))), λ m. refl)
 
+  -- a line is the canonical text of one polynomial
+  pub canonical_one : (line : List ℕ) (p q : Polynomial E) → IsCanonicalText K O names line p → IsCanonicalText K O names line q → p ≡ q
+  canonical_one line p q h k =
+      let first = canonical_terms p h.canonical h.named h.small in
+      let second = canonical_terms q k.canonical k.named k.small in
+      let same : first.0 ≡ second.0 = same_ok first.0 second.0 (sym first.1 ∙ (ap (terms_of K O names) (sym h.text ∙ k.text) ∙ second.1)) in
+      IsDecreasing_unique K F O L p q h.canonical.decreasing k.canonical.decreasing (λ m. first.2 m ∙ (ap (λ ts. coefficient K ts m) same ∙ sym (second.2 m)))
+
+  -- it has no byte that is neither in a factor nor between factors or terms
+  pub canonical_lacks : (q : ℕ → Bool) → IsApart q → q 42 ≡ false → ((next : Bool) → q (sign_byte next) ≡ false) →
+      (p : Polynomial E) → IsCanonical K O p → AreNamed names p → IsLow O p → Lack q (poly_text K names p)
+  canonical_lacks q A star signs [] canonical named small = (A.name 48 refl, tt)
+  canonical_lacks q A star signs (t ∷ p) canonical named small =
+      sum_lacks K O names D q A star signs false (poly_text K names (t ∷ p)) (t ∷ p) (derived K O names t p (texts (t ∷ p) canonical.decreasing named small))
+
   -- it has no line feed
   pub canonical_line : (p : Polynomial E) → IsCanonical K O p → AreNamed names p → IsLow O p →
       Lack (λ b. b == 10) (poly_text K names p)
-  canonical_line [] canonical named small = (refl, tt)
-  canonical_line (t ∷ p) canonical named small = sum_in_line K O names D false (poly_text K names (t ∷ p)) (t ∷ p) (derived K O names t p (texts (t ∷ p) canonical.decreasing named small))
+  canonical_line = canonical_lacks (λ b. b == 10) feed_apart refl signs
+    where
+      signs : (next : Bool) → (sign_byte next == 10) ≡ false
+      signs true = refl
+      signs false = refl
 
   -- it is not skipped
   pub canonical_not_skipped : (p : Polynomial E) → IsCanonical K O p → AreNamed names p → IsLow O p →

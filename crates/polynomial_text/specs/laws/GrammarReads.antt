@@ -112,7 +112,7 @@ star_apart = record { blank = blank_no_star; name = differs is_name_byte 42 refl
 pub sign_apart : IsApart is_sign
 sign_apart = record { blank = blank_no_sign; name = λ b h. rw (differs is_name_byte 43 refl b h, differs is_name_byte 45 refl b h) refl; raised = refl }
 
-feed_apart : IsApart (λ b. eqb b 10)
+pub feed_apart : IsApart (λ b. eqb b 10)
 feed_apart = record { blank = differs is_blank 10 refl; name = differs is_name_byte 10 refl; raised = refl }
 
 module _ (q : ℕ → Bool) (A : IsApart q) where
@@ -266,15 +266,7 @@ module _ {E : Type 0} (K : FieldOps E) (O : MonomialOrder) (names : Names) (D : 
 
   -- ---- bytes that no line has
 
-  sum_lacks : (q : ℕ → Bool) → IsApart q → q 42 ≡ false → ((next : Bool) → q (sign_byte next) ≡ false) → (minus : Bool) (bytes : List ℕ) (ts : Polynomial E) → IsSum K O names minus bytes ts → Lack q bytes
+  pub sum_lacks : (q : ℕ → Bool) → IsApart q → q 42 ≡ false → ((next : Bool) → q (sign_byte next) ≡ false) → (minus : Bool) (bytes : List ℕ) (ts : Polynomial E) → IsSum K O names minus bytes ts → Lack q bytes
   sum_lacks q A star signs minus bytes ts (one_term _ _ t h) = product_lacks q A star (term_of [] (sign K O names minus)) t bytes h
   sum_lacks q A star signs minus bytes ts (terms _ next _ part rest t us is h more) =
       rw is (lack_append q part (sign_byte next ∷ rest) (product_lacks q A star (term_of [] (sign K O names minus)) t part h) (signs next, sum_lacks q A star signs next rest us more))
-
-  -- no line feed is in a sum
-  pub sum_in_line : (minus : Bool) (bytes : List ℕ) (ts : Polynomial E) → IsSum K O names minus bytes ts → Lack (λ b. eqb b 10) bytes
-  sum_in_line minus bytes ts h = sum_lacks (λ b. eqb b 10) feed_apart refl signs minus bytes ts h
-    where
-      signs : (next : Bool) → eqb (sign_byte next) 10 ≡ false
-      signs true = refl
-      signs false = refl

@@ -1,5 +1,5 @@
 use Rattle.std.proofs.Common.{refl, arith}
-use Rattle.completion.proofs.WordsAtDegree.{none_first}
+use Rattle.completion.specs.laws.Printing.{none_first}
 use Rattle.completion.proofs.candidates.has_none_of_first.Goals as goal
 
 pub returns : goal.returns
