@@ -72,7 +72,7 @@ module _ {E : Type 0} (K : FieldOps E) (F : IsField K) where
           none = ap (λ (v : Polynomial E). coefficient K v m) lk ∙ letter_other k m (λ q. o (ap (λ (v : Polynomial E). lead_monomial v) lk ∙ q))
 
   -- the first coefficient is that of the lead
-  first_is : (O : MonomialOrder) → IsMonomialOrder O → (p : Polynomial E) → IsDecreasing K O p → p ≢ [] → coefficient K p (lead_monomial p) ≡ first_coefficient K p
+  pub first_is : (O : MonomialOrder) → IsMonomialOrder O → (p : Polynomial E) → IsDecreasing K O p → p ≢ [] → coefficient K p (lead_monomial p) ≡ first_coefficient K p
   first_is O M [] h n = absurd (n refl)
   first_is O M (t ∷ p) h n = coefficient_first K F O M t p h.0
 
@@ -112,6 +112,10 @@ module _ {F E : Type 0} (P : Presented E) (H : IsPresentation P) (b : BasisState
       no_coefficient K F' s.by (variable (length fs + j))
       (λ n. let one = variable_at (length fs + j) in let l = h.tracked.lower (variable (length fs + j)) n j (λ z. let y = z in absurd (omega arith)) in omega arith)
 
+  -- a new element has the degree of the words
+  pub new_degree : (t : Tracked F E) → IsNewElement P b t → degree_of O t.value ≡ d
+  new_degree t N = N.graded.value (lead_monomial t.value) (decreasing_leads K F' O M t.value N.canonical.value.decreasing N.nonzero).nonzero
+
   module _ (lower last : List (Tracked F E)) (parts : AreInParts P d b.elements lower last) where
     -- t as it is, if the elements so far have smaller degrees
     pub lowered_from : (t : Tracked F E) → IsNewElement P b t → (count : ℕ) → count ≡ length lower → IsLoweredTo P b t count t
@@ -127,6 +131,7 @@ module _ {F E : Type 0} (P : Presented E) (H : IsPresentation P) (b : BasisState
           let less = parts.lower_less j t (omega arith) in
           absurd (omega arith);
       short = λ h _. h;
+      kept = λ _. refl;
     }
 
     -- from there on elements have the degree of the words
@@ -150,6 +155,7 @@ module _ {F E : Type 0} (P : Presented E) (H : IsPresentation P) (b : BasisState
       gone = λ j l k e. ⊎_elim (λ a. subst (λ x. coefficient K rest.by (variable (length fs + x)) ≡ K.zero) (sym a) z)
           (λ n. R.gone j (omega arith) k e) (numbers_or_not j i);
       short = R.short;
+      kept = R.kept;
     }
 
     module _ (s letter r : Tracked F E) (l : i < length b.elements) (e : s ≡ get_or b.elements i s) (last : degree_of O s.value ≡ d) (by : letter.by ≡ letter_poly K (length fs + i)) (A : IsWitnessPut P W rest s letter r) where
@@ -177,14 +183,22 @@ module _ {F E : Type 0} (P : Presented E) (H : IsPresentation P) (b : BasisState
           (λ o. ⊎_elim (λ z. ⊎_elim (λ y. absurd (n (A.others m o z y))) (c m) (F'.equal_or_not (coefficient K s.by m) K.zero)) (a m) (F'.equal_or_not (coefficient K rest.by m) K.zero))
           (equal_or_not (lead_monomial letter.by) m)
 
-      pub lowered_more : Tracks P S letter → IsGradedPair K O W d letter → IsLoweredTo P b t (i + 1) r
-      lowered_more u v = record {
+      never_kept : degree_of O t.value ≡ d → coefficient K rest.by (variable (length fs + i)) ≢ K.zero → UsesLower P S t → ⊥
+      never_kept w n h =
+          let one = variable_at (length fs + i) in
+          let less = h (variable (length fs + i)) (λ z. n (ap (λ (x : Tracked F E). coefficient K x.by (variable (length fs + i))) (R.kept h) ∙ z)) i (λ z. let y = z in absurd (omega arith)) in
+          let q = here in
+          omega arith
+
+      pub lowered_more : degree_of O t.value ≡ d → coefficient K rest.by (variable (length fs + i)) ≢ K.zero → Tracks P S letter → IsGradedPair K O W d letter → IsLoweredTo P b t (i + 1) r
+      lowered_more w n u v = record {
         value = λ m. A.value m ∙ R.value m;
         canonical = A.canonical;
         tracks = A.tracks S R.tracks element.tracked.tracks u;
         graded = A.graded d R.graded (subst (λ k. IsGradedPair K O W k s) last element.tracked.graded) v;
         gone = none_left;
         short = λ a h. short_left (R.short a h) (h s (subst (Contains b.elements) (sym e) (contains_at b.elements i s l)) last);
+        kept = λ h. absurd (never_kept w n h);
       }
 
   module _ (t : Tracked F E) (N : IsNewElement P b t) (rest : Tracked F E) (R : IsLoweredTo P b t (length b.elements) rest) where
@@ -286,6 +300,7 @@ module _ {F E : Type 0} (P : Presented E) (H : IsPresentation P) (b : BasisState
         lead = lead_stays;
         multiple = subst (λ p. (m : Exponents) → coefficient K p m ≡ K.times (first_coefficient K p) (coefficient K r.value m)) value_stays Q.multiple;
         short = λ a h m n. R.short a h m (λ z. n (Q.by m z));
+        kept = λ h l. Q.kept (ap (first_coefficient K) value_stays ∙ (sym (first_is K F' O M t.value N.canonical.value.decreasing N.nonzero) ∙ h.monic)) ∙ R.kept l;
       }
 
   -- the letter of an element

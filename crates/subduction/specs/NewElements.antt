@@ -4,8 +4,9 @@ use Rattle.monomial_order.specs.Monomial.{Exponents, variable}
 use Rattle.monomial_order.specs.MonomialOrder.{MonomialOrder}
 use Rattle.polynomials.specs.Polynomial.{Polynomial, coefficient, degree_of, first_coefficient, lead_monomial, Same}
 use Rattle.polynomials.specs.Subalgebra.{Presented}
+use Rattle.subalgebra_laws.specs.Bases.{IsMonicElement}
 use Rattle.witness.specs.declared.tracked.Tracked.{Tracked}
-use Rattle.witness.specs.Tracking.{by_order, values_of, IsCanonicalPair, IsGradedPair, IsShort, Tracks}
+use Rattle.witness.specs.Tracking.{by_order, values_of, IsCanonicalPair, IsGradedPair, IsShort, Tracks, UsesLower}
 use Rattle.subduction.specs.Basis.{BasisState, AreShortAt, IsBasisElement}
 
 module _ {F E : Type 0} (P : Presented E) where
@@ -32,6 +33,7 @@ module _ {F E : Type 0} (P : Presented E) where
     pub canonical : (W : MonomialOrder) → IsCanonicalPair P.field P.order W t → IsCanonicalPair P.field P.order W r
     pub tracks : (S : List (Polynomial E)) → Tracks P S t → Tracks P S r
     pub graded : (W : MonomialOrder) (d : ℕ) → IsGradedPair P.field P.order W d t → IsGradedPair P.field P.order W d r
+    pub kept : first_coefficient P.field t.value ≡ P.field.one → r ≡ t
 
   -- r is t, where the witness has no letter of the last degree among the first k
   pub record IsLoweredTo (b : BasisState F E) (t : Tracked F E) (k : ℕ) (r : Tracked F E) : Type 0 where
@@ -44,6 +46,7 @@ module _ {F E : Type 0} (P : Presented E) where
         coefficient P.field r.by (variable (length P.generators + j)) ≡ P.field.zero
     pub short : IsShort P.field (length P.generators) t.by → AreShortAt P b.words.degree b.elements →
         IsShort P.field (length P.generators) r.by
+    pub kept : UsesLower P (values_of b.elements) t → r ≡ t
 
   -- r can be the next element: it is t, divided by its first coefficient
   pub record IsNextElement (b : BasisState F E) (t r : Tracked F E) : Type 0 where
@@ -54,3 +57,4 @@ module _ {F E : Type 0} (P : Presented E) where
         P.field.times (first_coefficient P.field t.value) (coefficient P.field r.value m)
     pub short : IsShort P.field (length P.generators) t.by → AreShortAt P b.words.degree b.elements →
         IsShort P.field (length P.generators) r.by
+    pub kept : IsMonicElement P t.value → UsesLower P (values_of b.elements) t → r ≡ t

@@ -1,10 +1,11 @@
 //! Bases to a degree.
-ghost use Rattle.std.specs.Prelude.{◌≡◌, ◌≢◌, ℕ, ◌≤◌, ◌⊎◌, [], max, length, true, false, IfOk, OnOk, OnErr};
+ghost use Rattle.std.specs.Prelude.{◌≡◌, ◌≢◌, ℕ, ◌≤◌, ◌⊎◌, ◌++◌, ◌∷◌, [], max, length, true, false, IfOk, OnOk, OnErr};
 ghost use Rattle.monomial_order.specs.Limits.{degree_max};
 ghost use Rattle.poly_core.specs.Presentation.{presented, IsValid};
 ghost use Rattle.quotient_gb.specs.Quotient.{closing_max, HasGeneratorAbove, HasOtherLead, with_closed};
 ghost use Rattle.toric_ideal.specs.Listing.{IsListing, IsSettled};
-ghost use Rattle.witness.specs.Tracking.{IsShort};
+ghost use Rattle.subalgebra_laws.specs.Bases.{IsMonicElement};
+ghost use Rattle.witness.specs.Tracking.{values_of, IsShort, UsesLower};
 ghost use Rattle.subduction.specs.Basis.{AreSettled, AreShortAt, HasNext, HasOtherWord, IsBasisOf, IsKnownClosed, IsNewElement};
 
 use crate::ideal_leads::{monomials_to, variable_degrees};
@@ -93,7 +94,8 @@ impl<F: Field, O: Order> Basis<F, O> {
         Ok(())
     }
 
-    /// Adds an element of the last degree, divided by its first coefficient.
+    /// Adds an element of the last degree, divided by its first coefficient. A monic element without a letter of the
+    /// last degree in its witness is kept as it is.
     pub fn push(
         &mut self,
         alloc: Global,
@@ -108,6 +110,8 @@ impl<F: Field, O: Order> Basis<F, O> {
         ensures short { let P = presented F.ops O.order p.now in let d = self.old.words.degree in
             OnOk result (IsShort P.field (length P.generators) t.by → AreShortAt P d self.old.elements →
             AreShortAt P d self.new.elements) }
+        ensures kept { let P = presented F.ops O.order p.now in OnOk result (IsMonicElement P t.value →
+            UsesLower P (values_of self.old.elements) t → self.new.elements ≡ self.old.elements ++ t ∷ []) }
         ensures quotient { self.new.quotient ≡ self.old.quotient }
         ensures zeros { self.new.words.zeros ≡ self.old.words.zeros }
         ensures degree { self.new.words.degree ≡ self.old.words.degree }

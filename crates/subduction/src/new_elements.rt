@@ -74,24 +74,28 @@ fn lowered<F: Field, O: Order>(
     Ok(rest)
 }
 
-/// Divides by the first coefficient.
+/// Divides by the first coefficient, if that is not one.
 fn made_monic<F: Field, O: Order>(
     alloc: Global,
     p: &Presentation<F, O>,
-    t: &Tracked<F>,
+    t: Tracked<F>,
 ) -> Result<Tracked<F>, Memory>
-    requires canonical { (W : MonomialOrder) × IsCanonicalPair (F.ops p.now.field) (O.order p.now.order) W t.now }
-    requires nonzero { t.now.value ≢ [] }
-    ensures { IfOk result (IsMonicMultiple (presented F.ops O.order p.now) t.now) }
+    requires canonical { (W : MonomialOrder) × IsCanonicalPair (F.ops p.now.field) (O.order p.now.order) W t }
+    requires nonzero { t.value ≢ [] }
+    ensures { IfOk result (IsMonicMultiple (presented F.ops O.order p.now) t) }
 {
-    match t.value.lead() {
-        Some(first) => match p.field.inv(first.by) {
-            Some(inverse) => {
-                let monic = witness::scale(alloc, p, t, inverse)?;
-                Ok(monic)
-            }
-            None => unreachable!(),
-        },
+    let by = match t.value.lead() {
+        Some(first) => first.by,
+        None => unreachable!(),
+    };
+    if by == p.field.one() {
+        return Ok(t);
+    }
+    match p.field.inv(by) {
+        Some(inverse) => {
+            let monic = witness::scale(alloc, p, &t, inverse)?;
+            Ok(monic)
+        }
         None => unreachable!(),
     }
 }
@@ -109,7 +113,7 @@ pub(crate) fn next_element<F: Field, O: Order>(
     ensures { IfOk result (IsNextElement (presented F.ops O.order p.now) b.now t) }
 {
     let rest = lowered(alloc, p, b, t)?;
-    let monic = made_monic(alloc, p, &rest)?;
+    let monic = made_monic(alloc, p, rest)?;
     Ok(monic)
 }
 

@@ -1,4 +1,4 @@
-use Rattle.std.proofs.Common.{◌≡◌, ◌+◌, ◌-◌, length, sym, ◌∙◌, ap, subst, arith}
+use Rattle.std.proofs.Common.{◌≡◌, ◌+◌, ◌-◌, length, sym, ◌∙◌, ap, subst, arith, true≢false}
 use Rattle.poly_core.specs.Presentation.{presented}
 use Rattle.monomial_order.specs.Monomial.{variable}
 use Rattle.polynomials.specs.Polynomial.{coefficient, degree_of}
@@ -6,7 +6,7 @@ use Rattle.witness.specs.Tracking.{by_order, letter_poly, values_of, IsGradedPai
 use Rattle.subduction.specs.NewElements.{IsWitnessPut}
 use Rattle.witness.specs.laws.Letters.{by_laws}
 use Rattle.subduction.proofs.SettledBasis.{comparable, count_is}
-use Rattle.subduction.proofs.NextElement.{last_degree, lowered_from, element_at, has_place, in_list, lowered_more, lowered_past, value_at}
+use Rattle.subduction.proofs.NextElement.{last_degree, lowered_from, element_at, has_place, in_list, lowered_more, lowered_past, new_degree, value_at}
 use Rattle.subduction.proofs.new_elements.lowered.Goals as goal
 
 pub lower_count-count-requires : goal.lower_count-count-requires
@@ -82,9 +82,12 @@ elements-preserved g c =
     let count = count_is P H b B p.0 p.1 p.2 c.lower_count-count.result c.degree.result c.leads.result.now leads degree c.lower_count-count.ensures in
     let last : degree_of P.order s.value ≡ b.words.degree = last_degree P H b B p.0 p.1 p.2 c.lower_count-count.result count i s (let a = c.elements.auto.i in omega arith) l e in
     let n = length P.generators in
+    let long : c.len.result ≡ n = let a = c.len.ensures in let b = c.args.p.now.generators.ok in omega arith in
     let A = subst (λ x. IsWitnessPut P x c.elements.rest s c.in_ok-letter.letter c.in_ok-rest.rest) (ap by_order c.by_order.ensures) c.in_ok-rest.ensures in
     lowered_more P H b B c.args.t c.elements.rest i c.elements.invariant s c.in_ok-letter.letter c.in_ok-rest.rest l e last
     (c.in_ok-letter.ensures.by ∙ ap (λ k. letter_poly K (n + k)) (let z : i + 1 - 1 ≡ i = omega arith in z)) A
+    (new_degree P H b B c.args.t c.requires.element)
+    (λ z. true≢false (sym (c.in_ok-lacks_variable.ensures.1 (ap (λ k. coefficient K c.elements.rest.by (variable (k + i))) long ∙ z)) ∙ c.if-branch.false))
     (c.in_ok-letter.ensures.tracks S (in_list P H b B i s l e) (value_at P H b B i s l e))
     (subst (λ k. IsGradedPair K P.order (by_order b.by_order) k c.in_ok-letter.letter) last
     (c.in_ok-letter.ensures.graded S b.by_order B.by_order (in_list P H b B i s l e) (value_at P H b B i s l e) h.tracked.graded.value))

@@ -36,3 +36,8 @@ returns-clause-short g c =
     let X = c.in_ok-next.ensures in
     short_longer P c.requires.presentation.presentation c.args.self.now c.requires.basis c.args.t u X c.push_reserved.new.self.items
     (c.push_reserved.ensures.items ∙ (ap (λ xs. xs ++ u ∷ []) c.reserve.ensures.items ∙ ap (λ b. b.elements ++ u ∷ []) c.self.view_is))
+
+pub returns-clause-kept : goal.returns-clause-kept
+returns-clause-kept g c m l =
+    let u = c.in_ok-next.next in
+    c.push_reserved.ensures.items ∙ (ap (λ xs. xs ++ u ∷ []) c.reserve.ensures.items ∙ (ap (λ b. b.elements ++ u ∷ []) c.self.view_is ∙ ap (λ x. c.args.self.now.elements ++ x ∷ []) (c.in_ok-next.ensures.kept m l)))
