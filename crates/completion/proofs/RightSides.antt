@@ -68,7 +68,7 @@ module _ {F E : Type 0} (P : Presented E) (H : IsPresentation P) (b : BasisState
 
     -- how many elements have a smaller degree
     pub count_is : (n e : ℕ) (leads : List Exponents) → leads ≡ b.words.letters.leads → e ≡ b.words.degree →
-        ((lo la : List Exponents) → leads ≡ lo ++ la → All (λ m. O.degree m < e) lo → All (λ m. O.degree m ≡ e) la → n ≡ length lo) → n ≡ length lower
+        ((lo la : List Exponents) → leads ≡ lo ++ la → All (λ m. O.degree m < e) lo → All (λ m. e ≤ O.degree m) la → n ≡ length lo) → n ≡ length lower
     count_is n e leads same d h =
         let v = length-map lower (λ (u : Tracked F E). u.value) in
         let w = length-map (values_of lower) lead_monomial in
@@ -76,9 +76,9 @@ module _ {F E : Type 0} (P : Presented E) (H : IsPresentation P) (b : BasisState
         (subst (λ x. All (λ m. O.degree m < x) (leads_of lower)) (sym d)
         (All-map (λ m. O.degree m < b.words.degree) lead_monomial (values_of lower)
         (All-map (λ (x : Polynomial E). degree_of O x < b.words.degree) (λ (u : Tracked F E). u.value) lower p.lower_less)))
-        (subst (λ x. All (λ m. O.degree m ≡ x) (leads_of last)) (sym d)
-        (All-map (λ m. O.degree m ≡ b.words.degree) lead_monomial (values_of last)
-        (All-map (λ (x : Polynomial E). degree_of O x ≡ b.words.degree) (λ (u : Tracked F E). u.value) last p.last_equal))) in
+        (subst (λ x. All (λ m. x ≤ O.degree m) (leads_of last)) (sym d)
+        (All-map (λ m. b.words.degree ≤ O.degree m) lead_monomial (values_of last)
+        (All-map (λ (x : Polynomial E). b.words.degree ≤ degree_of O x) (λ (u : Tracked F E). u.value) last (λ i t l. let a = p.last_equal i t l in omega arith)))) in
         omega arith
 
     module _ (values : ValuesStay P S T) (sums : SumsWithoutNewLettersStay P S T) (u : Exponents) (word : IsWord (letters P S) u) (e : Polynomial E)

@@ -16,3 +16,4 @@ mod Settled
 mod SettledBasis
 mod SettledWhole
 mod LowerCounts
+mod CutBases

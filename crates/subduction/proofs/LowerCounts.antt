@@ -1,11 +1,11 @@
--- A list in two parts: smaller degrees, and then one degree.
+-- A list in two parts: smaller degrees, and then others.
 use Rattle.std.proofs.Common.{◌≡◌, ℕ, ◌+◌, ◌-◌, ◌≤◌, ◌<◌, ◌++◌, sym, ◌∙◌, ap, subst, List, length, length-append, get_or, arith, ⊎_elim}
 use Rattle.std.specs.Prelude.{All}
 use Rattle.std.proofs.lemmas.List.{get_or_append_left, get_or-append-add}
 use Rattle.monomial_order.specs.Monomial.{Exponents}
 use Rattle.monomial_order.specs.laws.Comparing.{le_or_not}
 
-module _ (f : Exponents → ℕ) (d : ℕ) (lower last : List Exponents) (less : All (λ m. f m < d) lower) (same : All (λ m. f m ≡ d) last) where
+module _ (f : Exponents → ℕ) (d : ℕ) (lower last : List Exponents) (less : All (λ m. f m < d) lower) (same : All (λ m. d ≤ f m) last) where
   -- a member of smaller degree is in the first part
   pub in_lower : (j : ℕ) (m : Exponents) → j < length (lower ++ last) → f (get_or (lower ++ last) j m) < d → j < length lower
   in_lower j m l h = ⊎_elim (λ a. omega arith)

@@ -55,9 +55,9 @@ module _ {F E : Type 0} (P : Presented E) (H : IsPresentation P) (W : MonomialOr
       not_less : (i n : ℕ) → (suc i ≤ n → ⊥) → n ≤ i
       not_less i n o = ⊎_elim (λ l. l) (λ q. absurd (o (omega arith))) (le_or_not n i)
 
-  pub front_of : (T : List (Polynomial E)) (d : ℕ) (t : Tracked F E) → W.places ≡ length fs + length (L ++ T) → IsCanonical K W t.by → UsesLower P (L ++ T) t → degree_of O t.value ≤ d →
-      ((j : ℕ) → j < length T → degree_of O (get_or T j []) ≡ d) → HasFront t
-  front_of T d t p c u l e m n = ⊎_elim (λ a. a) (λ o. absurd (beyond (not_up o))) (le_or_not (length m) (length fs + length L))
+  pub front_of : (T : List (Polynomial E)) (t : Tracked F E) → W.places ≡ length fs + length (L ++ T) → IsCanonical K W t.by → UsesLower P (L ++ T) t →
+      ((j : ℕ) → j < length T → degree_of O t.value ≤ degree_of O (get_or T j [])) → HasFront t
+  front_of T t p c u e m n = ⊎_elim (λ a. a) (λ o. absurd (beyond (not_up o))) (le_or_not (length m) (length fs + length L))
     where
       mono : IsMonomial W.places m
       mono = found_monomial K F' W N t.by (IsDecreasing_IsPoly K W t.by c.decreasing) m n
@@ -77,7 +77,8 @@ module _ {F E : Type 0} (P : Presented E) (H : IsPresentation P) (W : MonomialOr
           let inside : j < length T = omega arith in
           let g = get_or-append-add L T j [] in
           let less = u m n (length L + j) (subst (λ i. exponent m i ≢ 0) at r.3) in
-          let here : degree_of O (get_or (L ++ T) (length L + j) []) ≡ d = ap (degree_of O) g ∙ e j inside in
+          let here = ap (degree_of O) g in
+          let high = e j inside in
           omega arith
 
 module _ {F E : Type 0} (P : Presented E) (H : IsPresentation P) (b : BasisState F E) (B : IsBasisOf P b) (lower before : List (Tracked F E)) (p : AreInParts P b.words.degree b.elements lower before) where
@@ -129,7 +130,7 @@ module _ {F E : Type 0} (P : Presented E) (H : IsPresentation P) (b : BasisState
   old_tracks t k = subst (λ S. Tracks P S t) values_are (element t k).tracked.tracks
 
   has_front : (t : Tracked F E) → Contains b.elements t → degree_of O t.value ≤ d → HasFront P H W (by_laws b.by_order) L t
-  has_front t k l = front_of P H W (by_laws b.by_order) L T d t places (element t k).tracked.canonical.by (old_uses t k) l (at_last before equal)
+  has_front t k l = front_of P H W (by_laws b.by_order) L T t places (element t k).tracked.canonical.by (old_uses t k) (λ j i. let e = at_last before equal j i in omega arith)
 
   -- the old elements of the last degree
   pub are_old : AreOld P H W L before d
@@ -290,7 +291,7 @@ module _ {F E : Type 0} (P : Presented E) (H : IsPresentation P) (b : BasisState
 
   -- how many elements have smaller degrees
   pub count_is : (n e : ℕ) (leads : List Exponents) → leads ≡ b.words.letters.leads → e ≡ d →
-      ((lo la : List Exponents) → leads ≡ lo ++ la → All (λ m. O.degree m < e) lo → All (λ m. O.degree m ≡ e) la → n ≡ length lo) → n ≡ length lower
+      ((lo la : List Exponents) → leads ≡ lo ++ la → All (λ m. O.degree m < e) lo → All (λ m. e ≤ O.degree m) la → n ≡ length lo) → n ≡ length lower
   count_is n e leads same at h =
       let v = length-map lower (λ (u : Tracked F E). u.value) in
       let w = length-map (values_of lower) lead_monomial in
@@ -299,7 +300,7 @@ module _ {F E : Type 0} (P : Presented E) (H : IsPresentation P) (b : BasisState
       let t = map_contains (λ (t : Tracked F E). t.value) lower q.0 q.1 in
       let l = low t.0 t.1 in
       let i : degree_of O (let y : Tracked F E = t.0 in y.value) ≡ O.degree m = ap O.degree (ap lead_monomial t.2 ∙ q.2) in omega arith))
-      (contains-All (λ m. O.degree m ≡ e) (leads_of before) (λ m k. let q = map_contains lead_monomial (values_of before) m k in
+      (contains-All (λ m. e ≤ O.degree m) (leads_of before) (λ m k. let q = map_contains lead_monomial (values_of before) m k in
       let t = map_contains (λ (t : Tracked F E). t.value) before q.0 q.1 in
       let l = equal t.0 t.1 in
       let i : degree_of O (let y : Tracked F E = t.0 in y.value) ≡ O.degree m = ap O.degree (ap lead_monomial t.2 ∙ q.2) in omega arith)) in

@@ -3,4 +3,5 @@ pub mod Subduced
 pub mod Steps
 pub mod NewElements
 pub mod Settling
+pub mod Cutting
 pub mod laws

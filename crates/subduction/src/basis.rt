@@ -1,13 +1,17 @@
 //! Bases to a degree.
-ghost use Rattle.std.specs.Prelude.{◌≡◌, ◌≢◌, ℕ, ◌≤◌, ◌⊎◌, ◌++◌, ◌∷◌, [], max, length, true, false, IfOk, OnOk, OnErr};
+ghost use Rattle.std.specs.Prelude.{◌≡◌, ◌≢◌, ℕ, ◌≤◌, ◌⊎◌, ◌++◌, ◌∷◌, [], map, max, length, true, false, IfOk, OnOk, OnErr};
 ghost use Rattle.monomial_order.specs.Limits.{degree_max};
+ghost use Rattle.monomial_order.specs.MonomialOrder.{IsIncreasing};
+ghost use Rattle.polynomials.specs.Polynomial.{lead_monomial};
 ghost use Rattle.poly_core.specs.Presentation.{presented, IsValid};
 ghost use Rattle.quotient_gb.specs.Quotient.{closing_max, HasGeneratorAbove, HasOtherLead, with_closed};
 ghost use Rattle.toric_ideal.specs.Listing.{IsListing, IsSettled};
-ghost use Rattle.subalgebra_laws.specs.Bases.{IsMonicElement};
+ghost use Rattle.subalgebra_laws.specs.Bases.{HasMinimalLeads, IsMonicElement};
 ghost use Rattle.witness.specs.Tracking.{values_of, IsShort, UsesLower};
 ghost use Rattle.subduction.specs.Basis.{AreSettled, AreShortAt, HasNext, HasOtherWord, IsBasisOf, IsKnownClosed, IsNewElement};
+ghost use Rattle.subduction.specs.Cutting.{IsCutAt};
 
+use crate::cutting::words_over;
 use crate::ideal_leads::{monomials_to, variable_degrees};
 use crate::new_elements::{next_element, push_lead_of, with_place};
 use crate::settling::{lower_count, put_last, reduced_by_each_other};
@@ -43,7 +47,7 @@ impl<F: Field, O: Order> Model for Basis<F, O> {
 }
 
 /// The rules of the words are exact.
-fn words_are_listed(words: &Words)
+pub(crate) fn words_are_listed(words: &Words)
     ensures { IsListing words.now }
 {
     words.leads();
@@ -152,6 +156,33 @@ impl<F: Field, O: Order> Basis<F, O> {
         self.words.settle(alloc, &p.order)?;
         let _listed = self.words.leads();
         put_last(&mut self.elements, count, new);
+        Ok(())
+    }
+
+    /// Goes back to the degree d: elements of greater degree are taken away, and quotient and words are made anew to d.
+    /// Witnesses stay.
+    pub fn cut_to(&mut self, alloc: Global, p: &Presentation<F, O>, d: u32) -> Result<(), Memory>
+        requires presentation { IsValid F.ops O.order p.now }
+        requires basis { IsBasisOf (presented F.ops O.order p.now) self.old }
+        requires increasing { IsIncreasing (O.order p.now.order) (map lead_monomial (values_of self.old.elements)) }
+        requires minimal { HasMinimalLeads (presented F.ops O.order p.now) (values_of self.old.elements) }
+        requires below { d ≤ self.old.words.degree }
+        ensures basis { IsBasisOf (presented F.ops O.order p.now) self.new }
+        ensures elements { let P = presented F.ops O.order p.now in
+            OnOk result (IsCutAt P d self.old.elements self.new.elements) }
+        ensures quotient { OnOk result (self.new.quotient.degree ≡ d) }
+        ensures words { OnOk result (self.new.words.degree ≡ d) }
+        ensures memory { OnErr result (self.new ≡ self.old) }
+    {
+        let count = lower_count(&p.order, self.words.leads(), d + 1);
+        let (kept, _rest) = self.elements.as_slice().split_at(count);
+        let mut quotient = Quotient::new(alloc, p)?;
+        quotient.extend_to(alloc, p, d)?;
+        let (words, by_order) = words_over(alloc, p, &quotient, kept, d)?;
+        self.elements.truncate(count);
+        self.quotient = quotient;
+        self.words = words;
+        self.by_order = by_order;
         Ok(())
     }
 

@@ -3,6 +3,7 @@
 
 mod basis;
 mod coefficients;
+mod cutting;
 mod ideal_leads;
 pub mod laws;
 mod new_elements;

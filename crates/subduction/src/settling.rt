@@ -1,5 +1,5 @@
 //! Elements of one degree, reduced by each other.
-ghost use Rattle.std.specs.Prelude.{◌≡◌, ◌+◌, ◌++◌, ◌<◌, ◌↔◌, map, length, take, Contains, IfOk, IsTrue, All, List};
+ghost use Rattle.std.specs.Prelude.{◌≡◌, ◌+◌, ◌++◌, ◌<◌, ◌≤◌, ◌↔◌, map, length, take, Contains, IfOk, IsTrue, All, List};
 ghost use Rattle.monomial_order.specs.Monomial.{Exponents};
 ghost use Rattle.monomial_order.specs.MonomialOrder.{IsMonomialOrder, MonomialOrder};
 ghost use Rattle.poly_core.specs.Presentation.{presented, IsValid};
@@ -111,7 +111,7 @@ pub(crate) fn reduced_by_each_other<F: Field, O: Order>(
 pub fn lower_count<O: Order>(o: &O, leads: &[Monomial], d: u32) -> usize
     requires { AreComparable (O.order o.now) leads.now }
     ensures { (lower last : List Exponents) → leads.now ≡ lower ++ last →
-        All (λ m. (O.order o.now).degree m < d) lower → All (λ m. (O.order o.now).degree m ≡ d) last →
+        All (λ m. (O.order o.now).degree m < d) lower → All (λ m. d ≤ (O.order o.now).degree m) last →
         result ≡ length lower }
 {
     let mut low = 0;

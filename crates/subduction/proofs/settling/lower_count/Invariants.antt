@@ -8,7 +8,7 @@ abbrev pub invariant-seek : goal.invariant-seek
 invariant-seek g l = record {
   within : l.high ≤ length l.leads;
   between : (lower last : List Exponents) → l.leads ≡ lower ++ last →
-      All (λ m. (g.O.Order.order l.o).degree m < l.d) lower → All (λ m. (g.O.Order.order l.o).degree m ≡ l.d) last →
+      All (λ m. (g.O.Order.order l.o).degree m < l.d) lower → All (λ m. l.d ≤ (g.O.Order.order l.o).degree m) last →
       (l.low ≤ length lower) × (length lower ≤ l.high);
 }
 
