@@ -1,5 +1,5 @@
 -- The steps of a subduction.
-use Rattle.std.specs.Prelude.{◌≡◌, ◌≢◌, ℕ, Bool, true, List, [], ◌∷◌, ◌++◌, map}
+use Rattle.std.specs.Prelude.{◌≡◌, ◌≢◌, ◌⊎◌, ℕ, Bool, true, List, [], ◌∷◌, ◌++◌, map}
 use Rattle.monomial_order.specs.Monomial.{Exponents}
 use Rattle.monomial_order.specs.declared.terms.Term.{Term}
 use Rattle.word_laws.specs.Words.{word_order_of, IsSWord}
@@ -35,6 +35,12 @@ module _ {E : Type 0} (P : Presented E) where
       pub word_value : IsWordValue P S u value
       pub monic : IsMonicAt t.at value
       pub taken : IsLeadTaken t w value r
+
+    -- the value of a word was taken away, and the word put to the words, or the term was put to what is done
+    abbrev pub IsTermTaken : Term E → Polynomial E → Polynomial E → Polynomial E → Polynomial E → Polynomial E → Polynomial E → Type 0
+    IsTermTaken t w r old_words words old_done done =
+        ((u : Exponents) × HasValueTaken t w u r × (words ≡ old_words ++ term_of u t.by ∷ []) × (done ≡ old_done)) ⊎
+        ((¬ IsGenerated (map lead_monomial S) t.at) × (done ≡ old_done ++ t ∷ []) × (words ≡ old_words) × (r ≡ w))
 
     -- Modulo the ideal, a is the value of the words and what is done and to be done. Monomials to be done are standard,
     -- those that are done are no products of leads either. Q holds of all degrees if it holds of those of a.

@@ -13,7 +13,7 @@ ghost use Rattle.witness.specs.Tracking.{values_of};
 ghost use Rattle.word_values.specs.Values.{AreHomogeneousElements, AreValues, AreWordsTo, IsWordValue, word_degree};
 ghost use Rattle.subduction.specs.Basis.{IsBasisOf, IsKnownClosed};
 ghost use Rattle.subduction.specs.Subduced.{IsInReach};
-ghost use Rattle.subduction.specs.Steps.{IsLeadTaken, IsMonicAt, IsSubducing, HasValueTaken};
+ghost use Rattle.subduction.specs.Steps.{IsLeadTaken, IsMonicAt, IsSubducing, IsTermTaken, HasValueTaken};
 
 use crate::Basis;
 use linked_terms::TermChain;
@@ -157,6 +157,48 @@ fn word_with_image<F: Field, O: Order>(
     Ok(found)
 }
 
+/// Takes a term above the chain away, by the value of a word, or else to the rest.
+fn take_term<F: Field, O: Order>(
+    alloc: Global,
+    p: &Presentation<F, O>,
+    b: &Basis<F, O>,
+    values: &mut Values<F>,
+    work: &mut TermChain<F>,
+    parts: &mut Parts<F>,
+    term: Term<F::Elem>,
+) -> Result<(), Memory>
+    requires presentation { IsValid F.ops O.order p.now }
+    requires basis { IsBasisOf (presented F.ops O.order p.now) b.now }
+    requires values { AreValues (presented F.ops O.order p.now) (values_of b.now.elements) values.old }
+    requires work { IsCanonical (F.ops p.now.field) (O.order p.now.order) (term ∷ work.old.terms) }
+    requires standard { IsStandard (presented F.ops O.order p.now) term.at }
+    requires small { (O.order p.now.order).degree term.at ≤ degree_max }
+    requires reach { ((O.order p.now.order).degree term.at ≤ b.now.words.degree) ⊎ IsKnownClosed b.now }
+    ensures values { AreValues (presented F.ops O.order p.now) (values_of b.now.elements) values.new }
+    ensures words { let P = presented F.ops O.order p.now in let S = values_of b.now.elements in (d : ℕ) →
+        P.order.degree term.at ≤ d → AreWordsTo P S d values.old → AreWordsTo P S d values.new }
+    ensures taken { let P = presented F.ops O.order p.now in OnOk result (IsTermTaken P (values_of b.now.elements)
+        term work.old.terms work.new.terms parts.old.words.items parts.new.words.items
+        parts.old.rest.items parts.new.rest.items) }
+{
+    let Some(w) = word_with_image(alloc, p, b, &term.at)? else {
+        parts.rest.push(term)?;
+        return Ok(());
+    };
+    take_value(
+        work,
+        alloc,
+        p,
+        b.quotient(),
+        b.elements(),
+        values,
+        &term,
+        &w,
+    )?;
+    parts.words.push(Term { at: w, by: term.by })?;
+    Ok(())
+}
+
 /// Takes values of words away until no product of leads is left.
 pub(crate) fn take_words<F: Field, O: Order>(
     alloc: Global,
@@ -180,24 +222,12 @@ pub(crate) fn take_words<F: Field, O: Order>(
         IfOk result (λ r. IsSubducing P (values_of b.now.elements) a.now r.words.items r.rest.items []) }
 {
     let mut work = chain_of(alloc, p, a)?;
-    let mut words = Vec::new(alloc);
-    let mut rest = Vec::new(alloc);
+    let mut parts = Parts {
+        words: Vec::new(alloc),
+        rest: Vec::new(alloc),
+    };
     'subduce: while let Some(term) = work.pop_lead() {
-        let Some(w) = word_with_image(alloc, p, b, &term.at)? else {
-            rest.push(term)?;
-            continue;
-        };
-        take_value(
-            &mut work,
-            alloc,
-            p,
-            b.quotient(),
-            b.elements(),
-            values,
-            &term,
-            &w,
-        )?;
-        words.push(Term { at: w, by: term.by })?;
+        take_term(alloc, p, b, values, &mut work, &mut parts, term)?;
     }
-    Ok(Parts { words, rest })
+    Ok(parts)
 }

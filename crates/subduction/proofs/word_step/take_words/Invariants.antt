@@ -9,7 +9,7 @@ use Rattle.subduction.proofs.word_step.take_words.Given as goal
 
 abbrev pub invariant-subduce : goal.invariant-subduce
 invariant-subduce g l =
-    IsSubducing (presented g.F.Field.ops g.O.Order.order l.p) (values_of l.b.elements) l.a l.words.items l.rest.items l.work.terms ×
+    IsSubducing (presented g.F.Field.ops g.O.Order.order l.p) (values_of l.b.elements) l.a l.parts.words.items l.parts.rest.items l.work.terms ×
     (AreValues (presented g.F.Field.ops g.O.Order.order l.p) (values_of l.b.elements) l.values ×
     ((d : ℕ) → degree_of (g.O.Order.order l.p.order) l.a ≤ d → AreWordsTo (presented g.F.Field.ops g.O.Order.order l.p) (values_of l.b.elements) d l.initial.values → AreWordsTo (presented g.F.Field.ops g.O.Order.order l.p) (values_of l.b.elements) d l.values))
 
