@@ -25,3 +25,6 @@ mod LastMembers
 mod ReportLines
 mod Reported
 mod StandingAfter
+mod FrontRelations
+mod LowRelations
+mod CutCompletion

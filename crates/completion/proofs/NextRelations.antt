@@ -22,7 +22,7 @@ use Rattle.tete_lift.specs.Lifting.{IsRightSide}
 use Rattle.completion.proofs.LongerWords.{right_stays, same_compare, same_degree}
 use Rattle.subduction.specs.laws.Parts.{contains-All}
 
-increasing_over : (O N : MonomialOrder) (ms : List Exponents) → ((v w : Exponents) → Contains ms v → Contains ms w → N.compare v w ≡ O.compare v w) → IsIncreasing O ms → IsIncreasing N ms
+pub increasing_over : (O N : MonomialOrder) (ms : List Exponents) → ((v w : Exponents) → Contains ms v → Contains ms w → N.compare v w ≡ O.compare v w) → IsIncreasing O ms → IsIncreasing N ms
 increasing_over O N [] same h = tt
 increasing_over O N (m ∷ []) same h = tt
 increasing_over O N (m ∷ (n ∷ ms)) same h = (

@@ -14,7 +14,7 @@ use Rattle.monomial_order.specs.laws.Comparing.{le_or_not}
 use Rattle.monomial_order.specs.laws.Lists.{contains_at, contains_either, contains_left, contains_right}
 use Rattle.word_laws.specs.Words.{IsWord, Letters}
 use Rattle.polynomials.specs.Polynomial.{Polynomial, coefficient, degree_of, lead_monomial, IsPoly}
-use Rattle.polynomials.specs.Subalgebra.{Presented, IsPresentation, AllIn, HasDegreesTo, IsGenerated}
+use Rattle.polynomials.specs.Subalgebra.{Presented, IsPresentation, HasDegreesTo, IsGenerated}
 use Rattle.monomial_order.specs.laws.Lists.{map_contains}
 use Rattle.poly_core.specs.Presentation.{presented}
 use Rattle.quotient_gb.specs.Quotient.{closing_max, QuotientState}
@@ -33,19 +33,12 @@ use Rattle.completion.specs.declared.candidates.Candidate.TheVariants.{Generator
 use Rattle.completion.specs.declared.candidates.Found.{Found}
 use Rattle.completion.specs.Candidates.{AreWordsAt, IsCandidate, IsGeneratorAt}
 use Rattle.completion.specs.Completion.{elements_of, pending_of, AreKept, AreShortAbove, CompletionState, IsCompletion, IsGrown, IsInDegree, IsStanding}
+use Rattle.subduction.specs.laws.Parts.{generated_more}
 use Rattle.completion.specs.Insertion.{IsInserted}
 use Rattle.tete_lift.specs.Lifting.{IsRightSide}
 use Rattle.completion.specs.Taking.{IsTreated}
 use Rattle.completion.proofs.Inserting.{values_grown}
 use Rattle.completion.proofs.WordDegrees.{word_value_graded, word_value_poly}
-
--- products of leads are products of more leads
-all_in_more : (M N ms : List Exponents) → AllIn M ms → AllIn (M ++ N) ms
-all_in_more M N [] h = tt
-all_in_more M N (m ∷ ms) h = (contains_left M N m h.0, all_in_more M N ms h.1)
-
-generated_more : (M N : List Exponents) (m : Exponents) → IsGenerated M m → IsGenerated (M ++ N) m
-generated_more M N m h = record { factors = h.factors; members = all_in_more M N h.factors h.members; product = h.product }
 
 -- a member that is not at the index stays when that is taken out
 stays_or_at : {A : Type 0} (xs : List A) (k : ℕ) (x : A) → k < length xs → Contains xs x → Contains (remove xs k) x ⊎ (get_or xs k x ≡ x)

@@ -1,10 +1,12 @@
 //! Completions.
-ghost use Rattle.std.specs.Prelude.{◌≡◌, suc, ◌≤◌, ◌<◌, [], length, max, remove, true, false, All, if◌then◌else◌, OnOk, OnErr, IfOk};
+ghost use Rattle.std.specs.Prelude.{◌≡◌, suc, ◌≤◌, ◌<◌, [], ◌++◌, List, length, max, min, remove, true, false, All, if◌then◌else◌, OnOk, OnErr, IfOk};
 ghost use Rattle.poly_core.specs.Presentation.{presented, IsValid};
 ghost use Rattle.polynomials.specs.Subalgebra.{IsReducedBasis};
 ghost use Rattle.subalgebra_laws.specs.Bases.{IsClosedAt};
 ghost use Rattle.witness.specs.Tracking.{values_of};
 ghost use Rattle.subduction.specs.Basis.{IsBasisOf, IsKnownClosed};
+ghost use Rattle.subduction.specs.Cutting.{IsCutAt};
+ghost use Rattle.completion.specs.declared.relations.Relation.{Relation};
 ghost use Rattle.completion.specs.Candidates.{AreCandidates, IsCandidate};
 ghost use Rattle.completion.specs.Closed.{HasLater};
 ghost use Rattle.completion.specs.Completion.{elements_of, pending_of, AreKept, IsCompletion, IsUnchanged};
@@ -17,6 +19,7 @@ ghost use Rattle.subduction.specs.Subduced.{CanSubduce, IsSubduced};
 
 use crate::candidates::{queue_candidates, words_at};
 use crate::closing::{closing_laws, made_sides, push_relations, settle_last};
+use crate::cutting::low_count;
 use crate::insertion::{insert_found, insert_generator};
 use crate::later::has_nothing_later;
 use crate::report::report_on;
@@ -304,6 +307,36 @@ impl<F: Field, O: Order> Completion<F, O> {
         ensures { self.new ≡ self.old }
     {
         self.values.set_limit(limit);
+    }
+
+    /// Goes back to the closed degree d: elements and relations of greater degree are taken away. Witnesses stay.
+    pub fn cut_to(&mut self, alloc: Global, d: u32) -> Result<(), Memory>
+        requires completion { IsCompletion F.ops O.order self.old }
+        requires not_begun { self.old.begun ≡ false }
+        requires below { d ≤ self.old.degree }
+        ensures completion { IsCompletion F.ops O.order self.new }
+        ensures begun { self.new.begun ≡ false }
+        ensures presentation { self.new.presentation ≡ self.old.presentation }
+        ensures degree { OnOk result (self.new.degree ≡ d) }
+        ensures read { OnOk result (self.new.read ≡ min self.old.read d) }
+        ensures elements { let P = presented F.ops O.order self.old.presentation in
+            OnOk result (IsCutAt P d self.old.basis.elements self.new.basis.elements) }
+        ensures relations { OnOk result
+            ((rest : List (Relation F F.Elem)) × (self.old.relations ≡ self.new.relations ++ rest)) }
+        ensures memory { OnErr result (self.new ≡ self.old) }
+    {
+        subalgebra_laws::laws::growing::<F>();
+        subalgebra_laws::laws::lower_bases::<F>();
+        let count = low_count(self.basis.words().order(), self.relations.as_slice(), d);
+        self.basis.cut_to(alloc, &self.presentation, d)?;
+        self.relations.truncate(count);
+        self.values = Values::new(alloc, BOUND_MAX);
+        self.kept = 0;
+        self.degree = d;
+        self.read = self.read.min(d);
+        self.queue = DegreeQueue::new(alloc);
+        self.found = Vec::new(alloc);
+        Ok(())
     }
 
     /// The degree to which the basis is closed.

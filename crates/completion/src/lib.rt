@@ -7,6 +7,7 @@
 mod candidates;
 mod closing;
 mod completion;
+mod cutting;
 mod insertion;
 mod later;
 pub mod laws;

@@ -5,7 +5,7 @@ use Rattle.std.proofs.lemmas.List.{length-map, map-append, get_or_append_left, g
 use Rattle.monomial_order.specs.Monomial.{Exponents, exponent, weighted_degree, IsMonomial, IsTrimmed}
 use Rattle.monomial_order.specs.MonomialOrder.{MonomialOrder, IsIncreasing}
 use Rattle.monomial_order.specs.Orders.{word_order}
-use Rattle.monomial_order.specs.laws.Comparing.{degree_falls, degree_one, equal_or_not, increasing_below, increasing_tail, le_or_not, none_below_one, numbers_or_not, some_exponent}
+use Rattle.monomial_order.specs.laws.Comparing.{degree_falls, degree_one, equal_or_not, increasing_below, le_or_not, none_below_one, numbers_or_not, some_exponent}
 use Rattle.monomial_order.specs.laws.Lists.{contains_at, contains_map, contains_here, contains_right}
 use Rattle.monomial_order.specs.laws.Monomial.{exponent_past, last_place, weighted_nil}
 use Rattle.word_laws.specs.Words.{word_order_of, IsSmaller}
@@ -24,6 +24,7 @@ use Rattle.subalgebra_laws.specs.laws.Fronts.{canonical_over}
 use Rattle.witness.specs.declared.tracked.Tracked.{Tracked}
 use Rattle.witness.specs.Tracking.{by_order, values_of}
 use Rattle.witness.specs.laws.Letters.{by_laws, by_places}
+use Rattle.subduction.specs.laws.Parts.{increasing_end}
 use Rattle.subduction.specs.laws.Decisions.{words_have_zeros}
 use Rattle.subduction.specs.Basis.{BasisState, IsBasisElement, IsBasisOf}
 use Rattle.subduction.specs.laws.Degrees.{letters_laws}
@@ -40,11 +41,6 @@ within n (e ∷ m) t h =
     let a = r.1 in
     let b = r.2 in
     ⊎_elim (λ l. let z = h r.0 l in absurd (omega arith)) (λ no. omega (arith, no)) (le_or_not n r.0)
-
--- the end of an increasing list is increasing
-increasing_end : (O : MonomialOrder) (ks ms : List Exponents) → IsIncreasing O (ks ++ ms) → IsIncreasing O ms
-increasing_end O [] ms h = h
-increasing_end O (k ∷ ks) ms h = increasing_end O ks ms (increasing_tail O k (ks ++ ms) h)
 
 module _ {F E : Type 0} (P : Presented E) (H : IsPresentation P) (b : BasisState F E) (B : IsBasisOf P b) (c : ℕ) (R : IsReducedBasis P c (values_of b.elements)) where
   open P use {field as K, order as O, generators as fs}

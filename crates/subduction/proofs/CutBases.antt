@@ -11,7 +11,7 @@ use Rattle.monomial_order.specs.laws.Lists.{contains_at, contains_cases, contain
 use Rattle.monomial_order.specs.laws.Monomial.{exponent_past}
 use Rattle.poly_core.specs.Presentation.{generator_degree}
 use Rattle.polynomials.specs.Polynomial.{Polynomial, coefficient, degree_of, lead_monomial}
-use Rattle.polynomials.specs.Subalgebra.{Presented, AllIn, IsGenerated, IsPresentation}
+use Rattle.polynomials.specs.Subalgebra.{Presented, IsGenerated, IsPresentation}
 use Rattle.polynomials.specs.laws.Coefficients.{found_monomial}
 use Rattle.polynomials.specs.laws.Decreasing.{IsDecreasing_IsPoly}
 use Rattle.polynomials.specs.laws.Degrees.{decreasing_all}
@@ -26,18 +26,10 @@ use Rattle.witness.specs.laws.Longer.{canonical_front, same_degree}
 use Rattle.word_laws.specs.Words.{image_of, IsSWord, Letters}
 use Rattle.subduction.specs.Basis.{BasisState, IsBasisElement, IsBasisOf}
 use Rattle.subduction.specs.Cutting.{AreNextInTurn, IsCutAt, IsFront, IsNextAfter}
-use Rattle.subduction.specs.laws.Parts.{contains-All}
+use Rattle.subduction.specs.laws.Parts.{contains-All, generated_more}
 use Rattle.subduction.proofs.Elements.{degree_is, monic_elements, places_is, standard_not_zero}
 use Rattle.subduction.proofs.Pushing.{pushed_basis}
 use Rattle.subduction.proofs.SettledBasis.{front_of, tracks_front, HasFront}
-
--- products of members of a list are such of a longer list
-all_left : (M N ms : List Exponents) → AllIn M ms → AllIn (M ++ N) ms
-all_left M N [] h = tt
-all_left M N (m ∷ ms) h = (contains_left M N m h.0, all_left M N ms h.1)
-
-generated_left : (M N : List Exponents) (m : Exponents) → IsGenerated M m → IsGenerated (M ++ N) m
-generated_left M N m h = record { factors = h.factors; members = all_left M N h.factors h.members; product = h.product }
 
 -- a list before and behind one of its members
 pub split_here : {A : Type 0} (ts : List A) (i : ℕ) (t : A) → i < length ts → t ≡ get_or ts i t → ts ≡ take i ts ++ (t ∷ drop (i + 1) ts)
@@ -198,7 +190,7 @@ module _ {F E : Type 0} (P : Presented E) (H : IsPresentation P) where
         fresh = λ g.
             minimal (values_of before) (values_of after) t.value (ap values_of e ∙ map-append (λ (t : Tracked F E). t.value) before (t ∷ after))
             (subst (λ ms. IsGenerated ms (lead_monomial t.value)) (sym (map-append lead_monomial (values_of before) (values_of after)))
-            (generated_left (leads_of before) (leads_of after) (lead_monomial t.value) g));
+            (generated_more (leads_of before) (leads_of after) (lead_monomial t.value) g));
       }
 
     -- the elements to a degree can come one after the other

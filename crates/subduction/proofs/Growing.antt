@@ -1,20 +1,19 @@
 -- The first basis, and one that goes further.
-use Rattle.std.proofs.Common.{◌≡◌, ◌≢◌, ℕ, ◌<◌, ◌≤◌, refl, sym, ◌∙◌, ap, subst, List, [], ◌∷◌, ◌++◌, length, max, arith, append-nil, Bool, true, false, ⊎_elim, ◌⊎◌}
+use Rattle.std.proofs.Common.{◌≡◌, ℕ, ◌<◌, ◌≤◌, refl, sym, ◌∙◌, ap, subst, List, [], arith, append-nil, Bool, true, false, ⊎_elim, ◌⊎◌}
 use Rattle.std.specs.Prelude.{map, Contains, All, ◌↔◌}
 use Rattle.std.proofs.lemmas.List.Elements.{All-append}
-use Rattle.monomial_order.specs.Monomial.{Exponents, weighted_degree}
+use Rattle.monomial_order.specs.Monomial.{Exponents}
 use Rattle.monomial_order.specs.declared.word_order.WordOrder.{WordOrder}
 use Rattle.monomial_order.specs.laws.Lists.{contains_none}
-use Rattle.word_laws.specs.Words.{variables, Letters}
-use Rattle.polynomials.specs.Polynomial.{Polynomial, degree_of}
+use Rattle.word_laws.specs.Words.{Letters}
+use Rattle.polynomials.specs.Polynomial.{degree_of}
 use Rattle.polynomials.specs.Subalgebra.{Presented, IsPresentation}
 use Rattle.poly_core.specs.Presentation.{generator_degree}
 use Rattle.quotient_gb.specs.Quotient.{with_closed, QuotientState, HasGeneratorAbove, HasOtherLead, IsQuotientOf}
 use Rattle.toric_ideal.specs.Listing.{AgreeTo, AreZeros, IsListing, Listing}
 use Rattle.subalgebra_laws.specs.Words.{letters}
-use Rattle.witness.specs.Tracking.{values_of, IsWitnessOrder}
 use Rattle.witness.specs.declared.tracked.Tracked.{Tracked}
-use Rattle.subduction.specs.Basis.{BasisState, AreInParts, IsBasisElement, IsBasisOf}
+use Rattle.subduction.specs.Basis.{BasisState, AreInParts, IsBasisOf}
 use Rattle.subduction.proofs.Elements.{degree_is}
 use Rattle.subduction.proofs.IdealLeads.{are_zeros, lead_minimal, lead_monomials, leads_to, positive_lead, same_leads, to_has, to_part}
 

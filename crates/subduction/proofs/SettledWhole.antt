@@ -11,7 +11,6 @@ use Rattle.polynomials.specs.Subalgebra.{Presented, IsPresentation}
 use Rattle.poly_core.specs.Presentation.{generator_degree}
 use Rattle.quotient_gb.specs.Quotient.{QuotientState, IsQuotientOf}
 use Rattle.subalgebra_laws.specs.Statements.{IncreasingListsAreEqual}
-use Rattle.subalgebra_laws.specs.Words.{letters}
 use Rattle.toric_ideal.specs.Increasing.{IsSorted}
 use Rattle.toric_ideal.specs.Listing.{IsListing, IsSettled, OrdersByDegrees}
 use Rattle.witness.specs.declared.tracked.Tracked.{Tracked}

@@ -77,6 +77,18 @@ pub(crate) fn begin_and_run(
     Ok(closed)
 }
 
+/// Goes back to a degree. The answer is the closed degree.
+pub(crate) fn cut(alloc: Global, c: &mut RingCompletion, text: &str) -> Result<String, Fail>
+    requires { IsAtRest c.old }
+    ensures { IfOk result (λ _. IsAtRest c.new) }
+{
+    let d = number(text)?;
+    ensure(d <= c.closed_degree(), "no such degree")?;
+    c.cut_to(alloc, d)?;
+    let closed = closed_text(alloc, c.closed_degree())?;
+    Ok(closed)
+}
+
 /// Indexes, with blanks between them.
 fn indexes(alloc: Global, text: &str) -> Result<Vec<usize>, Fail> {
     let mut list = Vec::new(alloc);

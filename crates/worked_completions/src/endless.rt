@@ -47,6 +47,41 @@ const PICK_CALLS: [&str; 6] = [
     "basis | 4 / x + y / x*y / x*y^2 / x*y^3",
 ];
 
+/// Lines of states behind the elements x + y, x*y, x*y^2 and x*y^3.
+const LINE_CALLS: [&str; 15] = [
+    "run | 4 | 4",
+    "element | x*y^3 : s1*s3 + 100*s2^2 | 1 by 2",
+    "element | x + 100*y : g1 | 2 by 1",
+    "element | x*y^3 : s2^2*g1 + s4 | none",
+    "element | x*y^3 : s4 | none",
+    "element | x*y^3 : 0 | none",
+    "element | x*y^3 : g1 | none",
+    "element | x*y^3 :g1*g3 | none",
+    "element | x*y^4 : g1^2*g3 | none",
+    "element | x + x*y : g1 | none",
+    "relation | s1*s3 = s2^2 + s4 | 5 to 2",
+    "relation | s1*s3 = 0 | 5 to 0",
+    "relation | s1*s3 = s2 | none",
+    "relation | s1*s4 = 0 | none",
+    "relation | 2*s1*s3 = s2^2 | none",
+];
+
+/// Back to a smaller degree, and on again.
+const CUT_CALLS: [&str; 12] = [
+    "run | 4 | 4",
+    "relations | 1 / s1*s3 = s2^2 + s4",
+    "cut | 3 | 3",
+    "basis | 3 / x + y / x*y / x*y^2",
+    "relations | 0",
+    "complete | false",
+    "answer | x*y^3 | beyond 4",
+    "run | 4 | 4",
+    "report | bound 4 / basis 4 / 1 1 x : x + y / 2 2 x*y : x*y / 3 3 x*y^2 : x*y^2 / 4 4 x*y^3 : x*y^3 / mark open",
+    "relations | 1 / s1*s3 = s2^2 + s4",
+    "cut | 1 | 1",
+    "basis | 1 / x + y",
+];
+
 /// And x*y^3, which is a polynomial in the others.
 const ONE_TOO_MANY: &str =
     "subalgebra 1\nfield 101\nvars x y\nweights 1 1\norder lex\nideal 0\ngenerators 4\nx + y\nx*y\nx*y^2\nx*y^3\nend\n";
@@ -78,6 +113,16 @@ fn runs(rt: HostRuntime) -> Result<(), Fail> {
 fn degrees(rt: HostRuntime) -> Result<(), Fail> {
     check_both(rt.alloc(), ENDLESS, &DEGREE_CALLS)?;
     check_both(rt.alloc(), ENDLESS, &PICK_CALLS)
+}
+
+#[test]
+fn lines(rt: HostRuntime) -> Result<(), Fail> {
+    check_both(rt.alloc(), ENDLESS, &LINE_CALLS)
+}
+
+#[test]
+fn cuts(rt: HostRuntime) -> Result<(), Fail> {
+    check_both(rt.alloc(), ENDLESS, &CUT_CALLS)
 }
 
 #[test]

@@ -14,6 +14,8 @@ mod quotients;
 #[cfg(test)]
 mod scripts;
 #[cfg(test)]
+mod state_lines;
+#[cfg(test)]
 mod symmetric;
 #[cfg(test)]
 mod texts;

@@ -3,17 +3,22 @@ ghost use Rattle.std.specs.Prelude.{IfOk};
 ghost use Rattle.worked_completions.specs.Completions.{IsAtRest};
 
 use crate::answers::{answered, basis, is_complete, relations, report, state, subduced};
-use crate::completions::{RingCompletion, begin_and_run, close_by_hand, close_with, run, started};
+use crate::completions::{
+    RingCompletion, begin_and_run, close_by_hand, close_with, cut, run, started,
+};
+use crate::state_lines::{element_line, relation_line};
 use completion::Pick;
 use std::alloc::Global;
 use std::test::Fail;
 use worked_rows::rows::{judge, part};
 
 /// The answer of a call that shows what a completion has.
-fn shown(alloc: Global, c: &RingCompletion, call: &str) -> Result<String, Fail>
+fn shown(alloc: Global, c: &RingCompletion, call: &str, argument: &str) -> Result<String, Fail>
     requires { IsAtRest c.now }
 {
     match call {
+        "element" => element_line(alloc, c, argument),
+        "relation" => relation_line(alloc, c, argument),
         "basis" => basis(alloc, c),
         "relations" => relations(alloc, c),
         "state" => state(alloc, c),
@@ -32,7 +37,7 @@ fn asked(alloc: Global, c: &mut RingCompletion, call: &str, argument: &str) -> R
         "subduce" => subduced(alloc, c, argument),
         "answer" => answered(alloc, c, argument),
         _ => {
-            let answer = shown(alloc, c, call)?;
+            let answer = shown(alloc, c, call, argument)?;
             Ok(answer)
         }
     }
@@ -48,6 +53,7 @@ fn called(alloc: Global, c: &mut RingCompletion, pick: Pick, line: &str) -> Resu
         "run" => run(alloc, c, pick, argument),
         "begin and run" => begin_and_run(alloc, c, pick, argument),
         "close" => close_with(alloc, c, argument),
+        "cut" => cut(alloc, c, argument),
         "take" => close_by_hand(alloc, c, argument),
         call => asked(alloc, c, call, argument),
     }

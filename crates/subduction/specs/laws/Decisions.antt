@@ -1,5 +1,5 @@
 -- What a basis decides: its quotient decides the ideal, and the zeros of its words which words are reducible.
-use Rattle.std.proofs.Common.{ℕ, ◌≤◌, sym, subst, List, arith}
+use Rattle.std.proofs.Common.{ℕ, sym, subst, List, arith}
 use Rattle.monomial_order.specs.Monomial.{Exponents}
 use Rattle.monomial_order.specs.laws.Comparing.{divisor_degree}
 use Rattle.polynomials.specs.Polynomial.{Polynomial}

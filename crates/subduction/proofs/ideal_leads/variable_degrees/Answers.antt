@@ -1,4 +1,4 @@
-use Rattle.std.proofs.Common.{◌≡◌, sym, ◌∙◌, ap, ◌++◌, ◌∷◌, [], arith}
+use Rattle.std.proofs.Common.{sym, ◌∙◌, ap, ◌++◌, ◌∷◌, []}
 use Rattle.subduction.proofs.IdealLeads.{more_variables}
 use Rattle.subduction.proofs.ideal_leads.variable_degrees.Goals as goal
 

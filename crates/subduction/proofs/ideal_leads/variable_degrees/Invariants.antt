@@ -1,4 +1,4 @@
-use Rattle.std.proofs.Common.{◌≡◌, take, map}
+use Rattle.std.proofs.Common.{◌≡◌, map}
 use Rattle.word_laws.specs.Words.{variables}
 use Rattle.subduction.proofs.ideal_leads.variable_degrees.Given as goal
 

@@ -1,4 +1,4 @@
-use Rattle.std.proofs.Common.{◌≡◌, ◌⊎◌, inl, inr, sym, ◌∙◌, ap, subst, arith}
+use Rattle.std.proofs.Common.{◌⊎◌, inl, inr, sym, ◌∙◌, ap, subst, arith}
 use Rattle.poly_core.specs.Presentation.{presented}
 use Rattle.quotient_gb.specs.Quotient.{with_closed, QuotientState, HasGeneratorAbove, HasOtherLead}
 use Rattle.toric_ideal.specs.Listing.{Listing}

@@ -1,8 +1,5 @@
 use Rattle.std.proofs.Common.{◌≡◌, ◌<◌, ◌≤◌, max, sym, ◌∙◌, ap, subst, arith}
-use Rattle.std.specs.Prelude.{List, Contains, filter, nat_le}
-use Rattle.monomial_order.specs.Monomial.{Exponents, IsMonomial}
 use Rattle.poly_core.specs.Presentation.{presented}
-use Rattle.toric_ideal.specs.Listing.{AgreeTo, AreZeros}
 use Rattle.subduction.specs.Basis.{IsBasisOf}
 use Rattle.subduction.proofs.IdealLeads.{lead_monomials, lead_small}
 use Rattle.subduction.proofs.Growing.{with_quotient, with_words, zeros_agree, zeros_are}

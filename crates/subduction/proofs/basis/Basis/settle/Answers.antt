@@ -1,7 +1,6 @@
-use Rattle.std.proofs.Common.{◌≡◌, ◌≤◌, sym, subst, length, ℕ, refl}
+use Rattle.std.proofs.Common.{sym, refl}
 use Rattle.poly_core.specs.Presentation.{presented}
-use Rattle.subduction.specs.Basis.{BasisState, AreSettled, AreShortAt}
-use Rattle.subduction.proofs.SettledBasis.{comparable, count_is, count_within, last_canonical, last_comparable, last_leads}
+use Rattle.subduction.proofs.SettledBasis.{comparable, count_is, count_within, last_canonical, last_comparable}
 use Rattle.subduction.proofs.SettledWhole.{basis, number_last, orders, settled, short}
 use Rattle.subduction.proofs.basis.Basis.settle.Goals as goal
 
