@@ -100,8 +100,8 @@ impl<F: Field, O: Order> Completion<F, O> {
         })
     }
 
-    /// The completion at the closed degree c that has these elements and relations. Witnesses stay as they are, short or
-    /// not. It takes no memory.
+    /// The completion at the closed degree c that has these elements and relations. Witnesses stay as they are, short
+    /// or not. It takes no memory.
     pub fn restore(
         alloc: Global,
         p: Presentation<F, O>,

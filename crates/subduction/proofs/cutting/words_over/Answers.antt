@@ -28,9 +28,11 @@ elements-init g c =
 
 pub take_up-requires-clause-next : goal.take_up-requires-clause-next
 take_up-requires-clause-next g c =
-    let P = presented g.F.Field.ops g.O.Order.order c.args.p.now in
-    (take c.elements.t-index c.args.kept.now, c.elements.invariant.front,
-    next_here P c.requires.presentation.presentation c.args.d c.args.kept.now c.requires.next c.elements.t-index c.t-item.result c.elements-test.true c.t-item.is)
+    let P = presented g.F.Field.ops g.O.Order.order c.args.p.now in (
+      take c.elements.t-index c.args.kept.now,
+      c.elements.invariant.front,
+      next_here P c.requires.presentation.presentation c.args.d c.args.kept.now c.requires.next c.elements.t-index c.t-item.result c.elements-test.true c.t-item.is,
+    )
 
 pub take_up-requires-clause-from : goal.take_up-requires-clause-from
 take_up-requires-clause-from g c =
