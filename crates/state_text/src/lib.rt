@@ -10,10 +10,9 @@ mod writing;
 
 pub use count_line::read_count;
 pub use element_line::read_element;
-pub use line_parts::parts;
 pub use relation_line::read_relation;
 pub use version::Version;
 pub use writing::write;
 
 /// The first number with more than 18 digits. No list of a state is so long.
-pub const COUNT_MAX: u64 = 1_000_000_000_000_000_000;
+pub(crate) const COUNT_MAX: u64 = 1_000_000_000_000_000_000;

@@ -10,7 +10,7 @@ fn place_of(mark: u8, line: &[u8]) -> Option<usize>
 }
 
 /// The two parts of a line with a mark between them, which has a space on each side and is the first one of the line.
-pub fn parts(mark: u8, line: &[u8]) -> Option<(&[u8], &[u8])>
+pub(crate) fn parts(mark: u8, line: &[u8]) -> Option<(&[u8], &[u8])>
     ensures some { IfSome result (λ x. IsParted mark line.now x.0.now x.1.now) }
     ensures none { IsNone result → (a b : List ℕ) → ¬ IsParted mark line.now a b }
 {
