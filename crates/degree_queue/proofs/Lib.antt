@@ -9,5 +9,6 @@ pub mod Moving
 pub mod Partition
 pub mod Paths
 pub mod Rooms
+pub mod Stacked
 pub mod Unlinking
 pub mod Walking

@@ -1,3 +1,4 @@
 pub mod DegreeQueue
+pub mod DegreeStacks
 pub mod Links
 pub mod Lists
