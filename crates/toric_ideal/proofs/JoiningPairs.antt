@@ -1,10 +1,10 @@
 -- The pairs of a degree, joined one after the other.
-use Rattle.std.proofs.Common.{◌≡◌, ℕ, ◌+◌, ◌<◌, ◌≤◌, refl, sym, ◌∙◌, ap, subst, List, [], ◌∷◌, length, get_or, arith, inl, inr, ⊎_elim}
+use Rattle.std.proofs.Common.{◌≡◌, ℕ, ◌+◌, ◌<◌, ◌≤◌, refl, sym, ◌∙◌, ap, subst, List, [], ◌∷◌, ◌++◌, length, get_or, arith, inl, inr, ⊎_elim}
 use Rattle.std.specs.Prelude.{Contains}
 use Rattle.std.proofs.lemmas.List.{get_or-take}
 use Rattle.monomial_order.specs.Monomial.{least_common_multiple as lcm}
 use Rattle.monomial_order.specs.MonomialOrder.{MonomialOrder}
-use Rattle.monomial_order.specs.laws.Lists.{contains_cases, contains_there}
+use Rattle.monomial_order.specs.laws.Lists.{contains_either, contains_left, contains_one}
 use Rattle.word_rewriting.specs.Rewriting.{RewriteRule, HasJoinablePair, KeepsRules}
 use Rattle.word_rewriting.specs.laws.Rewriting.{more_joinable}
 use Rattle.word_rules.specs.Rules.{no_rule, rule_at}
@@ -52,16 +52,16 @@ module _ (O : MonomialOrder) (c first : ℕ) where
     pairs = λ i j l m e. ⊎_elim inl (λ h. inr (inl (subst (λ d. Contains (list_of queue d) (pair i j)) e h))) (q.all i j l m (omega arith) (omega arith));
   }
 
-  -- the first pair of the list is joined, and the rules may be more
+  -- the last pair of the list is joined, and the rules may be more
   pub joining_next : (S T : List RewriteRule) (old new : List (List IndexPair)) (p : IndexPair) → KeepsFirst first S T → KeepsRules S T →
-      list_of old (c + 1) ≡ p ∷ list_of new (c + 1) → SameElsewhere (c + 1) old new → HasJoinablePair T (rule_at S p.first) (rule_at S p.second) → IsJoining O c first S old → IsJoining O c first T new
-  joining_next S T old new p k more front others joined g = record {
+      list_of old (c + 1) ≡ list_of new (c + 1) ++ p ∷ [] → SameElsewhere (c + 1) old new → HasJoinablePair T (rule_at S p.first) (rule_at S p.second) → IsJoining O c first S old → IsJoining O c first T new
+  joining_next S T old new p k more last others joined g = record {
     later = same_queued O first S T k (c + 1) new (record {
       within = g.later.within;
       each = λ d q l h. g.later.each d q l (subst (λ xs. Contains xs q) (others d (λ e. absurd (omega arith))) h);
       all = λ i j l m a b. ⊎_elim inl (λ h. inr (subst (λ xs. Contains xs (pair i j)) (sym (others (pair_degree O S i j) (λ e. absurd (omega arith)))) h)) (g.later.all i j l m a b);
     });
-    here = λ q h. same_pair_at O first S T k (c + 1) q.first q.second (g.here q (subst (λ xs. Contains xs q) (sym front) (contains_there p (list_of new (c + 1)) q h)));
+    here = λ q h. same_pair_at O first S T k (c + 1) q.first q.second (g.here q (subst (λ xs. Contains xs q) (sym last) (contains_left (list_of new (c + 1)) (p ∷ []) q h)));
     pairs = λ i j l m e.
         let li : i < first = omega arith in
         let x = same_rule first S T k i li in
@@ -69,10 +69,10 @@ module _ (O : MonomialOrder) (c first : ℕ) where
         ⊎_elim (λ n. inl (same_needless O first S T k i j li m n))
         (λ r. ⊎_elim
         (λ h. ⊎_elim
-        (λ q. inr (inr (subst (λ r. HasJoinablePair T r (rule_at T j)) (sym x) (subst (λ r. HasJoinablePair T (rule_at S i) r) (sym y)
-        (subst (λ (z : IndexPair). HasJoinablePair T (rule_at S z.first) (rule_at S z.second)) q joined)))))
         (λ h2. inr (inl h2))
-        (contains_cases p (list_of new (c + 1)) (pair i j) (subst (λ xs. Contains xs (pair i j)) front h)))
+        (λ q. inr (inr (subst (λ r. HasJoinablePair T r (rule_at T j)) (sym x) (subst (λ r. HasJoinablePair T (rule_at S i) r) (sym y)
+        (subst (λ (z : IndexPair). HasJoinablePair T (rule_at S z.first) (rule_at S z.second)) (contains_one p (pair i j) q) joined)))))
+        (contains_either (list_of new (c + 1)) (p ∷ []) (pair i j) (subst (λ xs. Contains xs (pair i j)) last h)))
         (λ h. inr (inr (subst (λ r. HasJoinablePair T r (rule_at T j)) (sym x) (subst (λ r. HasJoinablePair T (rule_at S i) r) (sym y)
         (λ a b z. more_joinable S T more a b (h a b z))))))
         r)

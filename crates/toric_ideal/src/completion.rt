@@ -14,7 +14,7 @@ use crate::copies::copy_monomials;
 use crate::growing::grow_rules;
 use crate::index_pair::IndexPair;
 use crate::new_zeros::has_zero_above;
-use degree_queue::DegreeQueue;
+use degree_queue::DegreeStacks;
 use monomial_order::{Memory, Monomial};
 use std::alloc::Global;
 use word_rules::RuleTable;
@@ -31,7 +31,7 @@ pub(crate) struct Completion {
     pub(crate) rules: Vec<Rule>,
     pub(crate) closed: bool,
     pub(crate) table: RuleTable,
-    pub(crate) pairs: DegreeQueue<IndexPair>,
+    pub(crate) pairs: DegreeStacks<IndexPair>,
     pub(crate) queued_count: usize,
     pub(crate) settled_count: usize,
     pub(crate) lower_rules: usize,
@@ -53,7 +53,7 @@ impl Completion {
             rules: Vec::new(alloc),
             closed: false,
             table: RuleTable::new(alloc),
-            pairs: DegreeQueue::new(alloc),
+            pairs: DegreeStacks::new(alloc),
             queued_count: 0,
             settled_count: 0,
             lower_rules: 0,
@@ -114,7 +114,7 @@ impl Completion {
             }
             Err(memory) => {
                 self.table.truncate(first);
-                self.pairs = DegreeQueue::new(alloc);
+                self.pairs = DegreeStacks::new(alloc);
                 self.queued_count = 0;
                 Err(memory)
             }

@@ -15,7 +15,7 @@ use crate::Rule;
 use crate::alphabet::Alphabet;
 use crate::index_pair::IndexPair;
 use crate::right_sides::rewrite_right_sides;
-use degree_queue::DegreeQueue;
+use degree_queue::DegreeStacks;
 use monomial_order::{Memory, Monomial, Order};
 use std::alloc::Global;
 use std::cmp::Ordering;
@@ -153,7 +153,7 @@ fn join_pairs(
     c: u32,
     first: usize,
     table: &mut RuleTable,
-    pairs: &mut DegreeQueue<IndexPair>,
+    pairs: &mut DegreeStacks<IndexPair>,
 ) -> Result<(), Memory>
     requires alphabet { IsAlphabet alphabet.now }
     requires zeros { AreInX (letters_of alphabet.now) zeros.now }
@@ -168,7 +168,7 @@ fn join_pairs(
     ensures joined { OnOk result (JoinsOrLists (word_order_of (letters_of alphabet.now)) (c + 1) first table.new
         table.new []) }
 {
-    'pairs: while let Some(pair) = pairs.pop_front(c + 1) {
+    'pairs: while let Some(pair) = pairs.pop(c + 1) {
         join_pair(
             alloc,
             alphabet,
@@ -190,7 +190,7 @@ pub(crate) fn grow(
     zeros: &[Monomial],
     c: u32,
     table: &mut RuleTable,
-    pairs: &mut DegreeQueue<IndexPair>,
+    pairs: &mut DegreeStacks<IndexPair>,
 ) -> Result<(), Memory>
     requires alphabet { IsAlphabet alphabet.now }
     requires zeros { AreInX (letters_of alphabet.now) zeros.now }

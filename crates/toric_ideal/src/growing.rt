@@ -15,7 +15,7 @@ use crate::degree_step::grow;
 use crate::index_pair::IndexPair;
 use crate::queueing::queue_pairs;
 use crate::sorting::sorted_rules;
-use degree_queue::DegreeQueue;
+use degree_queue::DegreeStacks;
 use monomial_order::{Memory, Monomial};
 use std::alloc::Global;
 use word_rules::RuleTable;
@@ -29,7 +29,7 @@ pub(crate) fn grow_to(
     from: u32,
     to: u32,
     table: &mut RuleTable,
-    pairs: &mut DegreeQueue<IndexPair>,
+    pairs: &mut DegreeStacks<IndexPair>,
     count: usize,
 ) -> Result<usize, Memory>
     requires alphabet { IsAlphabet alphabet.now }
@@ -64,7 +64,7 @@ pub(crate) fn grow_rules(
     to: u32,
     rules: &mut Vec<Rule>,
     table: &mut RuleTable,
-    pairs: &mut DegreeQueue<IndexPair>,
+    pairs: &mut DegreeStacks<IndexPair>,
     count: usize,
 ) -> Result<usize, Memory>
     requires alphabet { IsAlphabet alphabet.now }

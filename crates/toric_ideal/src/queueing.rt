@@ -7,7 +7,7 @@ ghost use Rattle.toric_ideal.specs.Step.{AreSmallWords};
 
 use crate::alphabet::Alphabet;
 use crate::index_pair::IndexPair;
-use degree_queue::{DEGREE_MAX, DegreeQueue};
+use degree_queue::{DEGREE_MAX, DegreeStacks};
 use monomial_order::Memory;
 use std::alloc::Global;
 use word_rules::{Marks, RuleTable};
@@ -18,7 +18,7 @@ fn queue_pair(
     alphabet: &Alphabet,
     c: u32,
     table: &RuleTable,
-    pairs: &mut DegreeQueue<IndexPair>,
+    pairs: &mut DegreeStacks<IndexPair>,
     i: usize,
     j: usize,
 ) -> Result<(), Memory>
@@ -53,7 +53,7 @@ fn queue_pairs_of(
     c: u32,
     table: &RuleTable,
     marks: &mut Marks,
-    pairs: &mut DegreeQueue<IndexPair>,
+    pairs: &mut DegreeStacks<IndexPair>,
     j: usize,
 ) -> Result<(), Memory>
     requires alphabet { IsAlphabet alphabet.now }
@@ -75,7 +75,7 @@ pub(crate) fn queue_pairs(
     alphabet: &Alphabet,
     c: u32,
     table: &RuleTable,
-    pairs: &mut DegreeQueue<IndexPair>,
+    pairs: &mut DegreeStacks<IndexPair>,
     count: usize,
 ) -> Result<(), Memory>
     requires alphabet { IsAlphabet alphabet.now }

@@ -1,5 +1,5 @@
-//! Queues by degree.
-use degree_queue::{DEGREE_MAX, DegreeQueue};
+//! Queues and stacks by degree.
+use degree_queue::{DEGREE_MAX, DegreeQueue, DegreeStacks};
 use std::alloc::Global;
 use std::test::Fail;
 use worked_rows::rows::{ensure, judge, number, part};
@@ -90,6 +90,29 @@ fn queues_are_their_lists(rt: HostRuntime) -> Result<(), Fail> {
         "push 6 a, push 6 a, push 6 b, push 6 a, at 6 2, front 6, all 6 | b a [a a]",
     ] {
         judge(row, answers(rt.alloc(), row)?.as_str())?;
+    }
+    Ok(())
+}
+
+#[test]
+fn stacks_give_back_the_last(rt: HostRuntime) -> Result<(), Fail> {
+    let mut stacks = DegreeStacks::new(rt.alloc());
+    ensure(stacks.push(3, 'a').is_ok(), "out of memory")?;
+    ensure(stacks.push(0, 'p').is_ok(), "out of memory")?;
+    ensure(stacks.push(3, 'b').is_ok(), "out of memory")?;
+    ensure(stacks.pop(3) == Some('b'), "not the last of two")?;
+    ensure(stacks.push(3, 'c').is_ok(), "out of memory")?;
+    for (degree, item) in [
+        (3, Some('c')),
+        (3, Some('a')),
+        (3, None),
+        // degrees that were never used, also above the greatest
+        (1, None),
+        (4294967295, None),
+        (0, Some('p')),
+        (0, None),
+    ] {
+        ensure(stacks.pop(degree) == item, "another item")?;
     }
     Ok(())
 }
